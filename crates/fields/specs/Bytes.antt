@@ -1,0 +1,72 @@
+-- Bytes as lists of numbers: text in ASCII, RFC 4251's uint32 and string as they are written, fields joined, and whether two
+-- lists are the same.
+use Prim.Native.Nat.{ℕ, _+_, _*_, _/_, _%_, _<_, _^_}
+use Prim.Native.Char.{code}
+use Prim.Native.String.{String, [] as []ˢ, _∷_ as _∷ˢ_}
+use native.Mathlib.Nat.{div-div-eq-div-mul, div-add-mod', mod-eq-of-lt}
+use native.Mathlib.Omega.{arith}
+use mathlib.Core.Path.{_≡_, refl, sym}
+use mathlib.Core.Bool.{Bool, true, false, _&&_}
+use mathlib.Core.List.{List, [], _∷_, _++_}
+use borrow.Author.Tests.{eqb-true, eq-eqb}
+use lib.Dec.{eqb}
+use lib.ListN.{length, getD}
+
+-- the bytes of a text in ASCII
+abbrev pub ascii : String → List ℕ
+ascii []ˢ = []
+ascii (c ∷ˢ s) = code c ∷ ascii s
+
+-- a uint32 is big-endian
+unfoldable pub uint32 : ℕ → List ℕ
+uint32 n = n / 16777216 % 256 ∷ n / 65536 % 256 ∷ n / 256 % 256 ∷ n % 256 ∷ []
+
+-- a string is a uint32 length and that many bytes
+unfoldable pub string : List ℕ → List ℕ
+string b = uint32 (length b) ++ b
+
+-- fields, one after the other
+abbrev pub join : List (List ℕ) → List ℕ
+join [] = []
+join (field ∷ more) = field ++ join more
+
+-- each element is a byte
+abbrev pub AllBytes : List ℕ → Type 0
+AllBytes s = (i : ℕ) → getD s i 0 < 256
+
+abbrev pub sameBytes : List ℕ → List ℕ → Bool
+sameBytes [] [] = true
+sameBytes [] (y ∷ ys) = false
+sameBytes (x ∷ xs) [] = false
+sameBytes (x ∷ xs) (y ∷ ys) = eqb x y && sameBytes xs ys
+
+-- ---- sameBytes is equality
+
+pub both-true : (a b : Bool) → (a && b) ≡ true → (a ≡ true) × (b ≡ true)
+both-true true true e = (refl, refl)
+both-true true false e = (refl, e)
+both-true false true e = (e, refl)
+both-true false false e = (e, e)
+
+pub same-true : (a b : List ℕ) → sameBytes a b ≡ true → a ≡ b
+same-true [] [] e = refl
+same-true [] (y ∷ ys) e = cc
+same-true (x ∷ xs) [] e = cc
+same-true (x ∷ xs) (y ∷ ys) e =
+    let k = both-true (eqb x y) (sameBytes xs ys) e in
+    let h : x ≡ y = eqb-true x y (k .0) in
+    let t : xs ≡ ys = same-true xs ys (k .1) in
+    cc
+
+pub same-self : (a : List ℕ) → sameBytes a a ≡ true
+same-self [] = refl
+same-self (x ∷ xs) = simp (eq-eqb x x refl, same-self xs)
+
+-- a test that is true just where the lists are equal is sameBytes
+pub same-is : (r : Bool) (a b : List ℕ) → (r ≡ true → a ≡ b) × (a ≡ b → r ≡ true) → r ≡ sameBytes a b
+same-is true a b h = rw (h .0 refl) (sym (same-self b))
+same-is false a b h = go (sameBytes a b) (same-true a b)
+  where
+    go : (t : Bool) → (t ≡ true → a ≡ b) → false ≡ t
+    go true k = h .1 (k refl)
+    go false k = refl

@@ -1,0 +1,93 @@
+// Is a text UTF-8 (RFC 3629)?
+ghost use mathlib.Core.Path.{_≡_};
+ghost use Prim.Native.Nat.{_≤_};
+ghost use lib.ListN.{drop};
+ghost use Rattle.utf8.specs.Utf8.{_to_, UTF8-char, rest, utf8};
+ghost use Rattle.utf8.specs.Steps.{ranges, liesAt, Ends};
+
+// What follows the first byte of a character: a byte from .0 to .1, and then .2 bytes from 0x80 to 0xBF.
+struct Rest(u8, u8, u8);
+
+// Where a character ends, if it stands there whole.
+enum Found {
+    End(usize),
+    Nothing,
+}
+
+// What follows a byte that is not ASCII, where it begins a character; else a byte that there is none of.
+fn rest_of(lead: u8) -> Rest
+    requires { ⌜ 0x80 ≤ lead ⌝ }
+    ensures { λ r. ⌜ ranges r ≡ rest lead UTF8-char ⌝ }
+{
+    match lead {
+        0xC2..=0xDF => Rest(0x80, 0xBF, 0),
+        0xE0 => Rest(0xA0, 0xBF, 1),
+        0xE1..=0xEC => Rest(0x80, 0xBF, 1),
+        0xED => Rest(0x80, 0x9F, 1),
+        0xEE..=0xEF => Rest(0x80, 0xBF, 1),
+        0xF0 => Rest(0x90, 0xBF, 2),
+        0xF1..=0xF3 => Rest(0x80, 0xBF, 2),
+        0xF4 => Rest(0x80, 0x8F, 2),
+        _ => Rest(1, 0, 0),
+    }
+}
+
+// Is there a byte at a place, from low to high?
+fn lies_at(text: &[u8], at: usize, low: u8, high: u8) -> bool
+    ensures { λ r. ⌜ r ≡ liesAt (low to high) (drop at (now (text .entry))) ⌝ }
+{
+    if text.len() <= at {
+        return false;
+    }
+    let b = text[at];
+    if b < low {
+        return false;
+    }
+    if high < b {
+        return false;
+    }
+    true
+}
+
+// Where the character ends whose first byte stands before a place.
+fn end_of(text: &[u8], at: usize, r: Rest) -> Found
+    ensures { λ e. ⌜ Ends (now (text .entry)) at (ranges r) e ⌝ }
+{
+    let low = r.0;
+    let high = r.1;
+    let tails = r.2;
+    if !lies_at(text, at, low, high) {
+        return Found::Nothing;
+    }
+    if tails == 0 {
+        return Found::End(at + 1);
+    }
+    if !lies_at(text, at + 1, 0x80, 0xBF) {
+        return Found::Nothing;
+    }
+    if tails == 1 {
+        return Found::End(at + 2);
+    }
+    if !lies_at(text, at + 2, 0x80, 0xBF) {
+        return Found::Nothing;
+    }
+    Found::End(at + 3)
+}
+
+pub fn is_utf8(text: &[u8]) -> bool
+    ensures { λ r. ⌜ r ≡ utf8 (now (text .entry)) ⌝ }
+{
+    let mut i: usize = 0;
+    while i < text.len() {
+        let b = text[i];
+        if b < 0x80 {
+            i += 1;
+        } else {
+            match end_of(text, i + 1, rest_of(b)) {
+                Found::Nothing => return false,
+                Found::End(end) => i = end,
+            }
+        }
+    }
+    true
+}

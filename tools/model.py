@@ -1,0 +1,316 @@
+"""Document 01's reading rules once more, in plain Python: a second opinion.
+
+This file was written from document 01 and from the readings recorded in docs/DECISIONS.md, and from no other code of
+this project. Nothing is proved here. It says what the reader, the form and the inspection program should answer, so
+that the two can be held against each other (make_vectors.py stores its answers).
+
+    read(image)         the reply and, where it is accepted, the record: an Answer
+    write_plain(...)    a plain image by the writer's rules
+    form(image)         whether writing the record again, with its own checkint, gives the image back
+    report(image)       what the inspection program prints
+
+It holds nothing back, compares in no constant time, and is for test keys only.
+"""
+from dataclasses import dataclass
+
+from fields import ABSENT, ALGORITHMS, CIPHER_NAMES, CIPHERS, CURVES, ED25519, KDFS, LIMIT, MAGIC, NONE, SIZES
+from fields import Reader, Refused, content, hold_to_length
+
+PLAIN, ENCRYPTED = 1, 2
+
+
+@dataclass(frozen=True)
+class Answer:
+    """The reply (number, count, at) and the record. A part is its start in the image and its length."""
+
+    number: int = 0
+    count: int = 0
+    at: int = 0  # the byte of the image at which the failing field began
+    kind: int = 0
+    algorithm: int = 0
+    cipher: int = 0
+    kdf: int = 0
+    rounds: int = 0
+    checkint: int = 0
+    padding: int = 0
+    section: int = 0  # where the length of the section, or of the ciphertext, begins
+    blob: tuple = ABSENT
+    point: tuple = ABSENT
+    scalar: tuple = ABSENT
+    comment: tuple = ABSENT
+    salt: tuple = ABSENT
+    ciphertext: tuple = ABSENT
+    tag: tuple = ABSENT
+
+
+# ---- the container, steps 1 to 7
+
+
+def read(image):
+    """The reply to an image, with the record where it is accepted."""
+    try:
+        return read_image(image)
+    except Refused as refused:
+        return Answer(refused.number, refused.count, refused.at)
+
+
+def read_image(image):
+    if len(image) > LIMIT:
+        raise Refused(11, 0)
+    reader = Reader(image, 0, len(image))
+    read_magic(reader)  # step 1
+    cipher = read_name(reader, CIPHER_NAMES)  # step 2
+    kdf_name = reader.place
+    kdf = read_name(reader, KDFS)  # step 3
+    salt, rounds = read_options(reader, kdf)
+    read_key_count(reader)  # step 4
+    blob = reader.string()  # step 5
+    algorithm, point = read_blob(reader.inside(blob))
+    header = dict(algorithm=algorithm, cipher=cipher, kdf=kdf, rounds=rounds, blob=blob, point=point, salt=salt)
+    header["section"] = reader.place
+    if cipher != NONE:  # step 6
+        return Answer(kind=ENCRYPTED, **header, **read_ciphertext(reader, cipher))
+    if kdf != NONE:  # step 7
+        raise Refused(3, kdf_name)
+    section = reader.inside(reader.string())
+    rest = read_section(section, algorithm, content(image, point))
+    reader.finish()
+    return Answer(kind=PLAIN, **header, **rest)
+
+
+def read_magic(reader):
+    if reader.left() < len(MAGIC):
+        raise Refused(1, 0)
+    if reader.image[: len(MAGIC)] != MAGIC:
+        raise Refused(2, 0)
+    reader.place += len(MAGIC)
+
+
+def read_name(reader, names):
+    """A string that must be one of the names; answers its place among them."""
+    field = reader.place
+    name = content(reader.image, reader.string())
+    if name not in names:
+        raise Refused(4, field)
+    return names.index(name)
+
+
+def read_options(reader, kdf):
+    """The KDF's options; answers salt and rounds."""
+    field = reader.place
+    options = reader.string()
+    if kdf == NONE:
+        if options[1] != 0:
+            raise Refused(3, field)
+        return ABSENT, 0
+    inner = reader.inside(options)
+    salt = inner.string()
+    rounds = inner.uint32()
+    inner.finish()
+    return salt, rounds
+
+
+def read_key_count(reader):
+    field = reader.place
+    if reader.uint32() != 1:
+        raise Refused(1, field)
+
+
+def read_ciphertext(reader, cipher):
+    """Step 6: the ciphertext, then the tag outside the string if the cipher has one, then the end."""
+    _, block, tag_length = CIPHERS[cipher]
+    field = reader.place
+    ciphertext = reader.string()
+    if ciphertext[1] % block != 0:
+        raise Refused(3, field)
+    tag = ABSENT
+    if tag_length > 0:
+        if reader.left() < tag_length:
+            raise Refused(1, reader.place)
+        tag = (reader.place, tag_length)
+        reader.place += tag_length
+    reader.finish()
+    return dict(ciphertext=ciphertext, tag=tag)
+
+
+# ---- the plain section
+
+
+def read_section(reader, algorithm, point):
+    """The plain section; algorithm and point are the header's."""
+    if reader.left() % 8 != 0:
+        raise Refused(1, reader.place)
+    checkint = read_checkints(reader)
+    key_name = reader.place
+    own_algorithm, own_point, scalar = read_keypair(reader)
+    if own_algorithm != algorithm or own_point != point:
+        raise Refused(5, key_name)
+    comment = read_comment(reader)
+    padding = read_padding(reader)
+    return dict(checkint=checkint, scalar=scalar, comment=comment, padding=padding)
+
+
+def read_checkints(reader):
+    first = reader.uint32()
+    second_field = reader.place
+    if reader.uint32() != first:
+        raise Refused(3, second_field)
+    return first
+
+
+def read_comment(reader):
+    field = reader.place
+    comment = reader.string()
+    try:
+        content(reader.image, comment).decode("utf-8", "strict")
+    except UnicodeDecodeError:
+        raise Refused(7, field) from None
+    return comment
+
+
+def read_padding(reader):
+    padding = reader.image[reader.place : reader.end]
+    if len(padding) >= 8:
+        raise Refused(1, reader.place)
+    if padding != bytes(range(1, len(padding) + 1)):
+        raise Refused(2, reader.place)
+    return len(padding)
+
+
+# ---- keys
+
+
+def read_blob(reader):
+    """Step 5, within the blob: name, key fields, end. Answers the algorithm and the point's part."""
+    algorithm = read_name(reader, ALGORITHMS)
+    if algorithm == ED25519:
+        point = reader.fixed(32)
+    else:
+        curve, curve_field = read_curve(reader)
+        point = read_point(reader, curve)
+        hold_to_name(curve, algorithm, curve_field)
+    reader.finish()
+    return algorithm, point
+
+
+def read_keypair(reader):
+    """A section's keypair, by its own name. Answers the algorithm, the point's bytes and the scalar's part."""
+    algorithm = read_name(reader, ALGORITHMS)
+    if algorithm == ED25519:
+        return (algorithm, *read_ed25519_pair(reader))
+    curve, curve_field = read_curve(reader)
+    point = content(reader.image, read_point(reader, curve))
+    scalar = read_scalar(reader, SIZES[curve])
+    hold_to_name(curve, algorithm, curve_field)
+    return algorithm, point, scalar
+
+
+def read_ed25519_pair(reader):
+    public = content(reader.image, reader.fixed(32))
+    field = reader.place
+    start, _ = reader.fixed(64)
+    if reader.image[start + 32 : start + 64] != public:
+        raise Refused(3, field)
+    return public, (start, 32)
+
+
+def read_curve(reader):
+    """The curve string; answers the algorithm that it belongs to, and where the string began."""
+    field = reader.place
+    name = content(reader.image, reader.string())
+    if name not in CURVES:
+        raise Refused(4, field)
+    return CURVES[name], field
+
+
+def read_point(reader, curve):
+    field = reader.place
+    start, length = reader.fixed(1 + 2 * SIZES[curve])
+    if reader.image[start] != 4:
+        raise Refused(2, field)
+    return (start, length)
+
+
+def hold_to_name(curve, algorithm, curve_field):
+    if curve != algorithm:
+        raise Refused(4, curve_field)
+
+
+def read_scalar(reader, size):
+    """SIZE bytes, or SIZE + 1 with a zero first, which is left off."""
+    field = reader.place
+    start, length = reader.string()
+    if length == size + 1:
+        if reader.image[start] != 0:
+            raise Refused(2, field)
+        return (start + 1, size)
+    hold_to_length(size, length, field)
+    return (start, length)
+
+
+# ---- writing, the form
+
+
+def uint32(number):
+    return number.to_bytes(4, "big")
+
+
+def string(*parts):
+    joined = b"".join(parts)
+    return uint32(len(joined)) + joined
+
+
+def public_fields(algorithm, point):
+    """Name and public fields, as they stand in the blob and again in the section."""
+    name = ALGORITHMS[algorithm]
+    if algorithm == ED25519:
+        return string(name) + string(point)
+    return string(name) + string(name[len(b"ecdsa-sha2-") :]) + string(point)
+
+
+def private_field(algorithm, point, scalar):
+    if algorithm == ED25519:
+        return string(scalar, point)
+    if scalar[0] >= 0x80:
+        return string(b"\0", scalar)
+    return string(scalar)
+
+
+def write_plain(algorithm, point, scalar, checkint, comment):
+    """The plain image of these fields, of whatever size. Point and scalar have the lengths of the algorithm."""
+    public = public_fields(algorithm, point)
+    section = uint32(checkint) * 2 + public + private_field(algorithm, point, scalar) + string(comment)
+    padding = bytes(range(1, -len(section) % 8 + 1))
+    header = MAGIC + string(b"none") + string(b"none") + string(b"") + uint32(1) + string(public)
+    return header + string(section, padding)
+
+
+def form(image):
+    """Whether the image is accepted and in the writer's form. Every accepted encrypted one is."""
+    answer = read(image)
+    if answer.kind != PLAIN:
+        return answer.kind == ENCRYPTED
+    fields = [content(image, part) for part in (answer.point, answer.scalar, answer.comment)]
+    return write_plain(answer.algorithm, fields[0], fields[1], answer.checkint, fields[2]) == image
+
+
+# ---- the inspection program
+
+
+def report(image):
+    """The inspection program's whole output."""
+    answer = read(image)
+    if answer.number != 0:
+        return f"refused {answer.number} {answer.count}\n"
+    lines = [
+        "kind " + ("plain" if answer.kind == PLAIN else "encrypted"),
+        "algorithm " + ALGORITHMS[answer.algorithm].decode(),
+        "cipher " + CIPHER_NAMES[answer.cipher].decode(),
+        "kdf " + KDFS[answer.kdf].decode(),
+    ]
+    if answer.kind == PLAIN:
+        lines += [f"comment {answer.comment[1]}", f"padding {answer.padding}", f"image {len(image)}"]
+        lines += ["form " + ("yes" if form(image) else "no")]
+    else:
+        lines += [f"ciphertext {answer.ciphertext[1]}", f"tag {answer.tag[1]}", f"image {len(image)}"]
+    return "".join(line + "\n" for line in lines)
