@@ -5,9 +5,7 @@ from cases_header import FOREIGN_CURVES, FOREIGN_NAMES, near_misses, wrong_lengt
 from comments import comments
 from fields import ALGORITHMS, CURVES, ED25519, SIZES
 from images import Case, Field, accepted, changed, curve_name, inner, keypair_fields, longer, padded, plain
-from images import point_of, put, put_all, refused, scalar_of, spot, stream
-
-ECDSA = [1, 2, 3]
+from images import other_curves, other_kinds, point_of, put, put_all, refused, scalar_of, spot, stream
 
 
 def length_cases(algorithm):
@@ -41,7 +39,7 @@ def key_name_cases(algorithm):
     for name in FOREIGN_NAMES + list(near_misses(ALGORITHMS[algorithm])):
         if name not in ALGORITHMS:
             yield refused(f"section name {name}", changed(fields, {"section.name": name}), 4, "section.name")
-    for other in set(range(4)) - {algorithm}:
+    for other in other_kinds(algorithm):
         name = changed(fields, {"section.name": ALGORITHMS[other]})
         if other == ED25519:
             yield refused("name of Ed25519, fields of ECDSA", name, 1, "section.curve")
@@ -52,7 +50,7 @@ def key_name_cases(algorithm):
 
 
 def other_kind_cases(algorithm, other):
-    """The section's keypair is of another kind than the blob. It is read whole, by its own name, before that is said."""
+    """The section's keypair is of another kind than the blob: read whole, by its own name, before that is said."""
     fields = plain(algorithm, keypair=keypair_fields(other))
     yield refused("another kind", fields, 5, "section.name")
     yield refused("another kind, bad comment", changed(fields, {"section.comment": b"\xff"}), 5, "section.name")
@@ -73,6 +71,7 @@ def other_key_cases(algorithm):
     yield refused("another key", fields, 5, "section.name")
     yield refused("another key, bad comment", changed(fields, {"section.comment": b"\xff"}), 5, "section.name")
     yield refused("another key, bad padding", longer(fields, "section", bytes(8)), 5, "section.name")
+    yield refused("another key, short scalar", changed(fields, {"section.scalar": bytes(8)}), 1, "section.scalar")
     for at in (1, len(other) - 1):
         near = bytearray(point_of(algorithm))
         near[at] ^= 1
@@ -101,7 +100,8 @@ def scalar_cases(algorithm):
     size = SIZES[algorithm]
     fields = plain(algorithm)
     for scalar, form in scalars(algorithm):
-        yield accepted(f"scalar {scalar[:2].hex()}, {len(scalar)} bytes", changed(fields, {"section.scalar": scalar}), form)
+        title = f"scalar {scalar[:2].hex()}, {len(scalar)} bytes"
+        yield accepted(title, changed(fields, {"section.scalar": scalar}), form)
     for first in (1, 0x7F, 0x80, 0xFF):
         leading = changed(fields, {"section.scalar": bytes([first]) + scalar_of(algorithm)})
         yield refused(f"leading byte {first}", leading, 2, "section.scalar")
@@ -147,7 +147,7 @@ def curve_cases(algorithm):
             yield refused(f"section curve {curve}", changed(fields, {"section.curve": curve}), 4, "section.curve")
     unknown = changed(fields, {"section.curve": b"nistp224", "section.point": b"", "section.scalar": b""})
     yield refused("unknown curve before the point", unknown, 4, "section.curve")
-    for other in set(ECDSA) - {algorithm}:
+    for other in other_curves(algorithm):
         yield from unlike_curve_cases(algorithm, other)
 
 
@@ -234,7 +234,7 @@ def with_bytes_left(cases):
 def key_cases(algorithm):
     yield from key_name_cases(algorithm)
     yield from other_key_cases(algorithm)
-    for other in set(range(4)) - {algorithm}:
+    for other in other_kinds(algorithm):
         yield from other_kind_cases(algorithm, other)
     if algorithm == ED25519:
         yield from ed25519_cases()
@@ -248,7 +248,7 @@ def section_cases():
     for algorithm in range(4):
         yield from key_cases(algorithm)
         yield from left_over_cases(algorithm)
-        yield from padding_cases(algorithm, range(8) if algorithm == ED25519 else (2, 7))
+        yield from padding_cases(algorithm, range(8) if algorithm == ED25519 else (7,))
     for algorithm in (ED25519, 1):
         yield from length_cases(algorithm)
         yield from checkint_cases(algorithm)

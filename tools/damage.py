@@ -43,7 +43,7 @@ def all_truncations():
 # ---- lengths set wrong
 
 
-def wrong_lengths(title, fields):
+def length_edits(title, fields):
     """Every length of the image set to other numbers, all else as it was."""
     for path, field, start, end in spots(fields):
         if field.counted:
@@ -58,7 +58,7 @@ def wrong_lengths(title, fields):
 
 
 def resized(title, fields):
-    """A byte more at the end of each part and a byte less, with all lengths right, and for the section also padded again."""
+    """A byte more at the end of each part, and a byte less, all lengths right; in the section also padded again."""
     for path, field, _, _ in spots(fields):
         for changed in resized_part(fields, path, field):
             yield Case(f"{title}, {path} resized", join(changed))
@@ -124,7 +124,7 @@ def edited(image, dice):
 def damages():
     yield from all_truncations()
     for title, fields in GOOD.items():
-        yield from wrong_lengths(title, fields)
+        yield from length_edits(title, fields)
         yield from resized(title, fields)
-        yield from several_bytes(title, join(fields), 30)
-        yield from one_byte(title, join(fields), 30)
+        yield from several_bytes(title, join(fields), 25)
+        yield from one_byte(title, join(fields), 25)

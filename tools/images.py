@@ -20,7 +20,7 @@ class Field:
 
 
 class Case(NamedTuple):
-    """An image, and what it was made to get, if that is said: the reply (number, count, at), and whether it is in the form."""
+    """An image, and what it was made to get where that is said: the reply (number, count, at), and the form."""
 
     title: str
     image: bytes
@@ -136,6 +136,14 @@ def stream(label, count):
     """Bytes that look random and are the same each time."""
     blocks = (hashlib.sha256(f"{label} {turn}".encode()).digest() for turn in range(count // 32 + 1))
     return b"".join(blocks)[:count]
+
+
+def other_kinds(algorithm):
+    return [kind for kind in range(4) if kind != algorithm]
+
+
+def other_curves(algorithm):
+    return [kind for kind in other_kinds(algorithm) if kind != ED25519]
 
 
 def curve_name(algorithm):

@@ -6,8 +6,9 @@
 
 It comes out the same each time: the images are made here or stored in tools/corpus, and the answers are model.py's.
 In the file of images each is its length, 4 bytes big-endian, and its bytes. For each image there are in stdout
-  - `read` and 25 numbers: number, count, at, kind, algorithm, cipher, KDF, rounds, checkint, padding, section, then start
-    and length of blob, point, scalar, comment, salt, ciphertext and tag,
+  - `read` and 25 numbers: number, count, at, kind, algorithm, cipher, KDF, rounds, checkint, padding, section (where
+    its length, or the ciphertext's, begins), then start and length of blob, point, scalar, comment, salt, ciphertext
+    and tag; 0 for what is absent, and all 0 after `at` where the image is refused,
   - `views` and 7 numbers: the sum of the bytes of each of these parts,
   - the inspection program's lines.
 """

@@ -39,16 +39,17 @@ same-is (low to high ∷ rs) (low′ to high′ ∷ ss) e =
     let g = and-eq-true-iff (eqb high high′) (same rs ss) .0 (f .1) in
     cc (eqb-true low low′ (f .0), eqb-true high high′ (g .0), same-is rs ss (g .1))
 
--- the bytes from low on, n of them, leave these ranges
-abbrev pub leaves : Row → ℕ → ℕ → Bool
-leaves ranges low n = every (λ b. same ranges (rest b UTF8-char)) low n
+-- the bytes from low to high all leave these ranges
+abbrev pub leaves : ℕ → ℕ → Row → Bool
+leaves low high ranges = every (λ b. same ranges (rest b UTF8-char)) low (suc high - low)
 
-pub rest-between : (ranges : Row) (low n b : ℕ) → leaves ranges low n ≡ true → low ≤ b → b < low + n → ranges ≡ rest b UTF8-char
-rest-between ranges low n b e h k = same-is _ _ (each (λ (b : ℕ). same ranges (rest b UTF8-char)) low n b e h k)
+pub rest-between : (low high : ℕ) {ranges : Row} {b : ℕ} → leaves low high ranges ≡ true → low ≤ b → b ≤ high → ranges ≡ rest b UTF8-char
+rest-between low high {ranges} {b} e h k =
+    same-is _ _ (each (λ (b : ℕ). same ranges (rest b UTF8-char)) low (suc high - low) b e h (omega arith))
 
 abbrev begins : Row → Bool
 begins [] = true
-begins (low to high ∷ ranges) = leaves ranges low (suc high - low)
+begins (low to high ∷ ranges) = leaves low high ranges
 
 abbrev all : (Row → Bool) → List Row → Bool
 all p [] = true
@@ -63,9 +64,8 @@ all-begin : all begins UTF8-char ≡ true
 unfolding UTF8-char
 all-begin = refl
 
-rest-is : {low high : ℕ} {ranges : Row} (b : ℕ) → List·Memᴰ (low to high ∷ ranges) UTF8-char → low ≤ b → b ≤ high → ranges ≡ rest b UTF8-char
-rest-is {low} {high} {ranges} b m h k =
-    rest-between ranges low (suc high - low) b (all-mem begins (low to high ∷ ranges) UTF8-char all-begin m) h (omega arith)
+rest-is : {low high b : ℕ} {ranges : Row} → List·Memᴰ (low to high ∷ ranges) UTF8-char → low ≤ b → b ≤ high → ranges ≡ rest b UTF8-char
+rest-is {low} {high} m = rest-between low high (all-mem begins _ UTF8-char all-begin m)
 
 -- ---- what the test accepts, the grammar derives
 
@@ -96,6 +96,7 @@ found b t ((low to high ∷ ranges) ∷ rows) within s =
     by false e s later = later s
 
 read : (row : Row) (t : List ℕ) → utf8From row t ≡ true → Begun row t
+unfolding utf8From
 read [] [] e = begun done end
 read (range ∷ ranges) [] e = absurd (false≢true e)
 read [] (b ∷ t) e = begun done (found b t UTF8-char (λ row m. m) (read (rest b UTF8-char) t e))
@@ -108,7 +109,7 @@ at-start : {t : List ℕ} → Begun [] t → Octets t
 at-start (begun done o) = o
 
 pub utf8-sound : (t : List ℕ) → utf8 t ≡ true → Octets t
-unfolding utf8
+unfolding utf8 utf8From
 utf8-sound t e = at-start (read [] t e)
 
 -- ---- what the grammar derives, the test accepts
@@ -117,21 +118,24 @@ lies-in : (low high b : ℕ) → low ≤ b → b ≤ high → lies (low to high)
 lies-in low high b h k = rw (le-leb low b h, le-leb b high k)
 
 pass : {row : Row} {bytes : List ℕ} (t : List ℕ) → InRow row bytes → utf8From row (bytes ++ t) ≡ utf8From [] t
+unfolding utf8From
 pass t done = refl
 pass t (next {low} {high} {b} h k r) = rw (lies-in low high b h k) (pass t r)
 
 pass-char : {row : Row} {bytes : List ℕ} (t : List ℕ) → List·Memᴰ row UTF8-char → InRow row bytes → utf8From [] (bytes ++ t) ≡ utf8From [] t
+unfolding utf8From
 pass-char t m done = refl
-pass-char t m (next {b = b} {bytes = s} h k r) = ap (λ (row : Row). utf8From row (s ++ t)) (sym (rest-is b m h k)) ∙ pass t r
+pass-char t m (next {bytes = s} h k r) = ap (λ (row : Row). utf8From row (s ++ t)) (sym (rest-is m h k)) ∙ pass t r
 
 pub utf8-complete : {t : List ℕ} → Octets t → utf8 t ≡ true
-unfolding utf8
+unfolding utf8 utf8From
 utf8-complete end = refl
 utf8-complete (char {more = more} m r o) = pass-char more m r ∙ utf8-complete o
 
 -- ---- texts that are joined, and ASCII
 
 joined : (row : Row) (s t : List ℕ) → utf8From row s ≡ true → utf8From row (s ++ t) ≡ utf8From [] t
+unfolding utf8From
 joined [] [] t e = refl
 joined (range ∷ ranges) [] t e = absurd (false≢true e)
 joined [] (b ∷ s) t e = joined (rest b UTF8-char) s t e
@@ -140,14 +144,14 @@ joined (range ∷ ranges) (b ∷ s) t e =
     rw (f .0) (joined ranges s t (f .1))
 
 pub utf8-append : (s t : List ℕ) → utf8 s ≡ true → utf8 (s ++ t) ≡ utf8 t
-unfolding utf8
+unfolding utf8 utf8From
 utf8-append s t e = joined [] s t e
 
 pub ascii-next : (b : ℕ) (t : List ℕ) → b < 0x80 → utf8 (b ∷ t) ≡ utf8 t
-unfolding utf8 UTF8-char
+unfolding utf8 utf8From UTF8-char
 ascii-next b t h = rw (lies-in 0 0x7F b (omega arith) (omega arith))
 
 pub ascii-utf8 : (t : List ℕ) → ((k : ℕ) → k < length t → getD t k 0 < 0x80) → utf8 t ≡ true
-unfolding utf8
+unfolding utf8 utf8From
 ascii-utf8 [] h = refl
 ascii-utf8 (b ∷ t) h = ascii-next b t (h 0 (omega arith)) ∙ ascii-utf8 t (λ k l. h (suc k) (omega arith))

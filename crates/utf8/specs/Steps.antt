@@ -2,22 +2,25 @@
 use Prim.Native.Nat.{ℕ, _≤_}
 use mathlib.Core.Path.{_≡_}
 use mathlib.Core.List.{List, [], _∷_}
-use mathlib.Core.Bool.{Bool, false, cond}
-use lib.ListN.{length, drop}
-use lib.Dec.{eqb}
+use mathlib.Core.Bool.{Bool, false}
+use lib.ListN.{length, drop, replicate}
 use Rattle.utf8.specs.declared.Rest.{Rest}
 use Rattle.utf8.specs.declared.Found.{Found}
 use Rattle.utf8.specs.declared.Found.the-variants.{End, Nothing}
 use Rattle.utf8.specs.Utf8.{Range, _to_, Row, UTF8-tail, lies, utf8From, utf8}
 
--- the ranges that a `Rest` stands for: at most two tails
-abbrev pub ranges : Rest → Row
-ranges r = (r .0 to r .1) ∷ cond (eqb (r .2) 0) [] (UTF8-tail ∷ cond (eqb (r .2) 1) [] (UTF8-tail ∷ []))
+-- whether a text begins with a byte of a range
+abbrev pub begins : Range → List ℕ → Bool
+begins range [] = false
+begins range (b ∷ t) = lies range b
 
--- whether a list begins with a byte of a range
-abbrev pub liesAt : Range → List ℕ → Bool
-liesAt range [] = false
-liesAt range (b ∷ bytes) = lies range b
+-- the ranges that a `Rest` stands for
+abbrev pub ranges : Rest → Row
+ranges r = (r .0 to r .1) ∷ replicate (r .2) UTF8-tail
+
+-- whether a byte of a range stands at a place
+unfoldable pub liesAt : Range → List ℕ → ℕ → Bool
+liesAt range t at = begins range (drop at t)
 
 -- the bytes from a place on lie in the ranges that are left of a character, up to where the character ends; or they do not
 abbrev pub Ends : List ℕ → ℕ → Row → Found → Type 0

@@ -71,7 +71,7 @@ rest b ([] ∷ rows) = rest b rows
 rest b ((range ∷ ranges) ∷ rows) = cond (lies range b) ranges (rest b rows)
 
 -- a text that goes on in the midst of a character, of whose row these ranges are left
-abbrev pub utf8From : Row → List ℕ → Bool
+unfoldable pub utf8From : Row → List ℕ → Bool
 utf8From [] [] = true
 utf8From (range ∷ ranges) [] = false
 utf8From [] (b ∷ bytes) = utf8From (rest b UTF8-char) bytes

@@ -1,7 +1,6 @@
 // Is a text UTF-8 (RFC 3629)?
 ghost use mathlib.Core.Path.{_≡_};
 ghost use Prim.Native.Nat.{_≤_};
-ghost use lib.ListN.{drop};
 ghost use Rattle.utf8.specs.Utf8.{_to_, UTF8-char, rest, utf8};
 ghost use Rattle.utf8.specs.Steps.{ranges, liesAt, Ends};
 
@@ -34,7 +33,7 @@ fn rest_of(lead: u8) -> Rest
 
 // Is there a byte at a place, from low to high?
 fn lies_at(text: &[u8], at: usize, low: u8, high: u8) -> bool
-    ensures { λ r. ⌜ r ≡ liesAt (low to high) (drop at (now (text .entry))) ⌝ }
+    ensures { λ r. ⌜ r ≡ liesAt (low to high) (now (text .entry)) at ⌝ }
 {
     if text.len() <= at {
         return false;
@@ -49,29 +48,24 @@ fn lies_at(text: &[u8], at: usize, low: u8, high: u8) -> bool
     true
 }
 
-// Where the character ends whose first byte stands before a place.
-fn end_of(text: &[u8], at: usize, r: Rest) -> Found
-    ensures { λ e. ⌜ Ends (now (text .entry)) at (ranges r) e ⌝ }
+// Where the character ends of which this is left from a place on.
+fn end_of(text: &[u8], from: usize, left: Rest) -> Found
+    ensures { λ r. ⌜ Ends (now (text .entry)) from (ranges left) r ⌝ }
 {
-    let low = r.0;
-    let high = r.1;
-    let tails = r.2;
-    if !lies_at(text, at, low, high) {
-        return Found::Nothing;
+    let mut at = from;
+    let mut low = left.0;
+    let mut high = left.1;
+    let mut tails = left.2;
+    while lies_at(text, at, low, high) {
+        at += 1;
+        if tails == 0 {
+            return Found::End(at);
+        }
+        tails -= 1;
+        low = 0x80;
+        high = 0xBF;
     }
-    if tails == 0 {
-        return Found::End(at + 1);
-    }
-    if !lies_at(text, at + 1, 0x80, 0xBF) {
-        return Found::Nothing;
-    }
-    if tails == 1 {
-        return Found::End(at + 2);
-    }
-    if !lies_at(text, at + 2, 0x80, 0xBF) {
-        return Found::Nothing;
-    }
-    Found::End(at + 3)
+    Found::Nothing
 }
 
 pub fn is_utf8(text: &[u8]) -> bool

@@ -8,44 +8,34 @@ use Rattle.utf8.proofs.rest_of.Reads as reads
 use Rattle.utf8.proofs.rest_of.Lts as lts
 
 returns : tie.Need-returns
-unfolding UTF8-char
-returns c = ?
+returns c = rest-between 0xE0 0xE0 (unfold UTF8-char in refl) (omega arith) (omega arith)
 
 returns-2 : tie.Need-returns-2
-unfolding UTF8-char
-returns-2 c = ?
+returns-2 c = rest-between 0xED 0xED (unfold UTF8-char in refl) (omega arith) (omega arith)
 
 returns-3 : tie.Need-returns-3
-unfolding UTF8-char
-returns-3 c = ?
+returns-3 c = rest-between 0xF0 0xF0 (unfold UTF8-char in refl) (omega arith) (omega arith)
 
 returns-4 : tie.Need-returns-4
-unfolding UTF8-char
-returns-4 c = ?
+returns-4 c = rest-between 0xF4 0xF4 (unfold UTF8-char in refl) (omega arith) (omega arith)
 
 returns-5 : tie.Need-returns-5
-unfolding UTF8-char
-returns-5 c = ?
+returns-5 c = rest-between 0xC2 0xDF (unfold UTF8-char in refl) (omega arith) (omega arith)
 
 returns-6 : tie.Need-returns-6
-unfolding UTF8-char
-returns-6 c = ?
+returns-6 c = rest-between 0xE1 0xEC (unfold UTF8-char in refl) (omega arith) (omega arith)
 
 returns-7 : tie.Need-returns-7
-unfolding UTF8-char
-returns-7 c = ?
+returns-7 c = rest-between 0xEE 0xEF (unfold UTF8-char in refl) (omega arith) (omega arith)
 
 returns-8 : tie.Need-returns-8
-unfolding UTF8-char
-returns-8 c = ?
+returns-8 c = rest-between 0xF1 0xF3 (unfold UTF8-char in refl) (omega arith) (omega arith)
 
 returns-9 : tie.Need-returns-9
-unfolding UTF8-char
-returns-9 c = ?
+returns-9 c = rest-between 0x80 0xC1 (unfold UTF8-char in refl) (omega arith) (omega arith)
 
 returns-10 : tie.Need-returns-10
-unfolding UTF8-char
-returns-10 c = ?
+returns-10 c = rest-between 0xF5 0xFF (unfold UTF8-char in refl) (omega arith) (omega arith)
 
 pub rest-of-spec : {M : Type 1} → statement M
 rest-of-spec =

@@ -1,0 +1,83 @@
+-- The container as a list of fields joined: OpenSSH's PROTOCOL.key, and document 01's 'Bytes of the container', 'Plain section'
+-- and 'Keys'. The scalar is a parameter as it stands in the image, so that both of its readable forms are written here.
+use Prim.Native.Nat.{ℕ, _+_, _-_, _%_}
+use mathlib.Core.Bool.{Bool, true, false}
+use mathlib.Core.List.{List, [], _∷_, _++_}
+use lib.Dec.{leb}
+use lib.ListN.{length, take, getD}
+use Rattle.fields.specs.Bytes.{ascii, uint32, string, join}
+use Rattle.names.specs.declared.Cipher.{Cipher}
+use Rattle.names.specs.declared.Cipher.the-variants as cipher
+use Rattle.names.specs.declared.Kdf.{Kdf}
+use Rattle.names.specs.declared.Kdf.the-variants as kdf
+use Rattle.names.specs.declared.Algorithm.{Algorithm}
+use Rattle.names.specs.declared.Algorithm.the-variants.{Ed25519, Ecdsa}
+use Rattle.names.specs.Ciphers.{cipherName, kdfName}
+use Rattle.names.specs.Algorithms.{algorithmName, curveName}
+
+-- AUTH_MAGIC: 15 bytes, the last of them zero
+abbrev pub magic : List ℕ
+magic = ascii "openssh-key-v1" ++ 0 ∷ []
+
+-- the KDF's options: none has none, bcrypt a salt and the rounds
+abbrev pub options : Kdf → List ℕ → ℕ → List ℕ
+options kdf.None salt rounds = []
+options kdf.Bcrypt salt rounds = string salt ++ uint32 rounds
+
+-- only ECDSA keys name their curve
+abbrev pub curveField : Algorithm → List ℕ
+curveField Ed25519 = []
+curveField (Ecdsa curve) = string (curveName curve)
+
+-- a public key: the algorithm's name, then Ed25519's public string, or curve and point
+unfoldable pub blob : Algorithm → List ℕ → List ℕ
+blob a point = join (string (algorithmName a) ∷ curveField a ∷ string point ∷ [])
+
+-- the private bytes: Ed25519's seed and then its public string again, in one string; the scalar as it stands
+abbrev pub privateField : Algorithm → List ℕ → List ℕ → List ℕ
+privateField Ed25519 point stored = string (stored ++ point)
+privateField (Ecdsa curve) point stored = string stored
+
+-- a scalar as it may stand in an image: as it is, or after a zero
+abbrev pub standing : Bool → List ℕ → List ℕ
+standing false scalar = scalar
+standing true scalar = 0 ∷ scalar
+
+-- the writer's rule: a zero exactly if the scalar's first byte is 0x80 or more; a seed has none
+abbrev pub needsLeadingZero : Algorithm → List ℕ → Bool
+needsLeadingZero Ed25519 seed = false
+needsLeadingZero (Ecdsa curve) scalar = leb 0x80 (getD scalar 0 0)
+
+-- PADDING_BYTES: 1, 2, 3 and so on; a padding has fewer than 8 bytes
+abbrev pub paddingBytes : List ℕ
+paddingBytes = 1 ∷ 2 ∷ 3 ∷ 4 ∷ 5 ∷ 6 ∷ 7 ∷ []
+
+-- the fewest bytes that take n to a multiple of 8
+abbrev pub short : ℕ → ℕ
+short n = (8 - n % 8) % 8
+
+-- a plain section: the checkint twice, the keypair, the comment, the padding
+unfoldable pub content : ℕ → Algorithm → List ℕ → List ℕ → List ℕ → List ℕ
+content checkint a point stored comment =
+    join
+    (uint32 checkint ∷ uint32 checkint ∷ string (algorithmName a) ∷ curveField a ∷ string point ∷ privateField a point stored ∷ string comment ∷ [])
+
+unfoldable pub section : ℕ → Algorithm → List ℕ → List ℕ → List ℕ → List ℕ
+section checkint a point stored comment =
+    content checkint a point stored comment ++ take (short (length (content checkint a point stored comment))) paddingBytes
+
+-- the header, up to and with the public blob; one key
+unfoldable pub header : Cipher → Kdf → List ℕ → ℕ → Algorithm → List ℕ → List ℕ
+header cipher kdf salt rounds a point =
+    join
+    (magic ∷ string (cipherName cipher) ∷ string (kdfName kdf) ∷ string (options kdf salt rounds) ∷ uint32 1 ∷ string (blob a point) ∷ [])
+
+-- an image with a plain section
+unfoldable pub plainImage : ℕ → Algorithm → List ℕ → List ℕ → List ℕ → List ℕ
+plainImage checkint a point stored comment =
+    join (header cipher.None kdf.None [] 0 a point ∷ string (section checkint a point stored comment) ∷ [])
+
+-- an encrypted image: the tag stands outside the ciphertext's string
+unfoldable pub encryptedImage : Cipher → Kdf → List ℕ → ℕ → Algorithm → List ℕ → List ℕ → List ℕ → List ℕ
+encryptedImage cipher kdf salt rounds a point ciphertext tag =
+    join (header cipher kdf salt rounds a point ∷ string ciphertext ∷ tag ∷ [])

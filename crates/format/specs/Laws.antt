@@ -1,0 +1,2 @@
+-- Lengths of what the format writes.
+use Prim.Native.Nat.{ℕ}

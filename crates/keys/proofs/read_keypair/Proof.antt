@@ -1,0 +1,80 @@
+use Rattle.keys.specs.Keys.{keypairAt}
+use borrow.Author.Needs.{needs}
+use Rattle.keys.proofs.read_keypair.Statement.{statement}
+use Rattle.keys.proofs.read_keypair.Tie as tie
+use Rattle.keys.proofs.read_keypair.Reads as reads
+use Rattle.keys.proofs.read_keypair.Lts as lts
+use Rattle.fields.proofs.Cursor.string.Reads as string-reads
+use Rattle.fields.proofs.view.Reads as view-reads
+use Rattle.keys.proofs.read_ecdsa_pair.Reads as read-ecdsa-pair-reads
+use Rattle.keys.proofs.read_ed25519_pair.Reads as read-ed25519-pair-reads
+use Rattle.names.proofs.algorithm_named.Reads as algorithm-named-reads
+
+string-requires : tie.Need-string-requires
+string-requires c κs = search needs
+
+enum-known-f : tie.Need-enum-known-f
+enum-known-f c = search needs
+
+enum-known-name : tie.Need-enum-known-name
+enum-known-name c = search needs
+
+view-requires : tie.Need-view-requires
+view-requires c κs = search needs
+
+algorithm-named-requires : tie.Need-algorithm-named-requires
+algorithm-named-requires c κs = search needs
+
+enum-told : tie.Need-enum-told
+enum-told c = search needs
+
+enum-known-a : tie.Need-enum-known-a
+enum-known-a c = search needs
+
+enum-told-2 : tie.Need-enum-told-2
+enum-told-2 c = search needs
+
+read-ed25519-pair-requires : tie.Need-read-ed25519-pair-requires
+read-ed25519-pair-requires c κs = search needs
+
+enum-known-a-2 : tie.Need-enum-known-a-2
+enum-known-a-2 c = search needs
+
+read-ecdsa-pair-requires : tie.Need-read-ecdsa-pair-requires
+read-ecdsa-pair-requires c κs = search needs
+
+returns : tie.Need-returns
+unfolding keypairAt
+returns c = rw (← c .before .before .before .string .ensures, c .before .f .given .1)
+
+returns-2 : tie.Need-returns-2
+unfolding keypairAt
+returns-2 c = rw (← c .before .before .before .before .before .before .before .string .ensures, c .before .before .before .before .before .name .given .1, ← c .before .before .before .view .ensures .0, ← c .before .before .algorithm-named .ensures, c .enum-told .given .1)
+
+returns-3 : tie.Need-returns-3
+unfolding keypairAt
+returns-3 c = rw (← c .before .before .before .before .before .before .before .before .before .before .before .string .ensures, c .before .before .before .before .before .before .before .before .before .name .given .1, ← c .before .before .before .before .before .before .before .view .ensures .0, ← c .before .before .before .before .before .before .algorithm-named .ensures, c .before .before .before .before .a .given .1, c .before .enum-told2 .given .1) (c .read-ed25519-pair .ensures)
+
+returns-4 : tie.Need-returns-4
+unfolding keypairAt
+returns-4 c = rw (← c .before .before .before .before .before .before .before .before .before .before .before .before .string .ensures, c .before .before .before .before .before .before .before .before .before .before .name .given .1, ← c .before .before .before .before .before .before .before .before .view .ensures .0, ← c .before .before .before .before .before .before .before .algorithm-named .ensures, c .before .before .before .before .before .a .given .1, c .before .before .a2 .given .1) (c .read-ecdsa-pair .ensures)
+
+pub read-keypair-spec : {M : Type 1} → statement M
+read-keypair-spec =
+    tie.close
+    (tie.spec
+    string-requires
+    enum-known-f
+    enum-known-name
+    view-requires
+    algorithm-named-requires
+    enum-told
+    enum-known-a
+    enum-told-2
+    read-ed25519-pair-requires
+    enum-known-a-2
+    read-ecdsa-pair-requires
+    returns
+    returns-2
+    returns-3
+    returns-4)

@@ -1,0 +1,93 @@
+use Rattle.keys.specs.Keys.{publicKeyAt}
+use borrow.Author.Needs.{needs}
+use Rattle.keys.proofs.read_public_key.Statement.{statement}
+use Rattle.keys.proofs.read_public_key.Tie as tie
+use Rattle.keys.proofs.read_public_key.Reads as reads
+use Rattle.keys.proofs.read_public_key.Lts as lts
+use Rattle.fields.proofs.Cursor.fixed.Reads as fixed-reads
+use Rattle.fields.proofs.Cursor.string.Reads as string-reads
+use Rattle.fields.proofs.view.Reads as view-reads
+use Rattle.keys.proofs.read_ecdsa_key.Reads as read-ecdsa-key-reads
+use Rattle.names.proofs.algorithm_named.Reads as algorithm-named-reads
+
+string-requires : tie.Need-string-requires
+string-requires c κs = search needs
+
+enum-known-f : tie.Need-enum-known-f
+enum-known-f c = search needs
+
+enum-known-name : tie.Need-enum-known-name
+enum-known-name c = search needs
+
+view-requires : tie.Need-view-requires
+view-requires c κs = search needs
+
+algorithm-named-requires : tie.Need-algorithm-named-requires
+algorithm-named-requires c κs = search needs
+
+enum-told : tie.Need-enum-told
+enum-told c = search needs
+
+enum-known-a : tie.Need-enum-known-a
+enum-known-a c = search needs
+
+enum-known-a-2 : tie.Need-enum-known-a-2
+enum-known-a-2 c = search needs
+
+read-ecdsa-key-requires : tie.Need-read-ecdsa-key-requires
+read-ecdsa-key-requires c κs = search needs
+
+enum-told-2 : tie.Need-enum-told-2
+enum-told-2 c = search needs
+
+fixed-requires : tie.Need-fixed-requires
+fixed-requires c κs = search needs
+
+enum-known-f-2 : tie.Need-enum-known-f-2
+enum-known-f-2 c = search needs
+
+enum-known-point : tie.Need-enum-known-point
+enum-known-point c = search needs
+
+returns : tie.Need-returns
+unfolding publicKeyAt
+returns c = rw (← c .before .before .before .string .ensures, c .before .f .given .1)
+
+returns-2 : tie.Need-returns-2
+unfolding publicKeyAt
+returns-2 c = rw (← c .before .before .before .before .before .before .before .string .ensures, c .before .before .before .before .before .name .given .1, ← c .before .before .before .view .ensures .0, ← c .before .before .algorithm-named .ensures, c .enum-told .given .1)
+
+returns-3 : tie.Need-returns-3
+unfolding publicKeyAt
+returns-3 c = rw (← c .before .before .before .before .before .before .before .before .before .before .before .before .string .ensures, c .before .before .before .before .before .before .before .before .before .before .name .given .1, ← c .before .before .before .before .before .before .before .before .view .ensures .0, ← c .before .before .before .before .before .before .before .algorithm-named .ensures, c .before .before .before .before .before .a .given .1, c .before .before .a2 .given .1) (c .read-ecdsa-key .ensures)
+
+returns-4 : tie.Need-returns-4
+unfolding publicKeyAt
+returns-4 c = rw (← c .before .before .before .before .before .before .before .before .before .before .before .before .before .before .string .ensures, c .before .before .before .before .before .before .before .before .before .before .before .before .name .given .1, ← c .before .before .before .before .before .before .before .before .before .before .view .ensures .0, ← c .before .before .before .before .before .before .before .before .before .algorithm-named .ensures, c .before .before .before .before .before .before .before .a .given .1, c .before .before .before .before .enum-told2 .given .1, ← c .before .before .before .fixed .ensures, c .before .f2 .given .1)
+
+returns-5 : tie.Need-returns-5
+unfolding publicKeyAt
+returns-5 c = rw (← c .before .before .before .before .before .before .before .before .before .before .before .before .before .before .string .ensures, c .before .before .before .before .before .before .before .before .before .before .before .before .name .given .1, ← c .before .before .before .before .before .before .before .before .before .before .view .ensures .0, ← c .before .before .before .before .before .before .before .before .before .algorithm-named .ensures, c .before .before .before .before .before .before .before .a .given .1, c .before .before .before .before .enum-told2 .given .1, ← c .before .before .before .fixed .ensures, c .before .point .given .1)
+
+pub read-public-key-spec : {M : Type 1} → statement M
+read-public-key-spec =
+    tie.close
+    (tie.spec
+    string-requires
+    enum-known-f
+    enum-known-name
+    view-requires
+    algorithm-named-requires
+    enum-told
+    enum-known-a
+    enum-known-a-2
+    read-ecdsa-key-requires
+    enum-told-2
+    fixed-requires
+    enum-known-f-2
+    enum-known-point
+    returns
+    returns-2
+    returns-3
+    returns-4
+    returns-5)

@@ -1,0 +1,83 @@
+#!/usr/bin/env python3
+"""Holds model.py against ssh-keygen, where there is one: each must read what the other writes.
+
+    python3 tools/against_ssh_keygen.py
+
+Nothing is stored. Without ssh-keygen it says so and succeeds.
+"""
+import base64
+import pathlib
+import shutil
+import subprocess
+import sys
+import tempfile
+
+import model
+from fetch_corpus import BEGIN, COMMENTS, CORPUS, END, KINDS, PASSPHRASE, new_key
+from fields import content
+
+PASSPHRASES = {"keygen": PASSPHRASE, "openssh": "mekmitasdigoat", "cryptography": "password"}
+
+
+def armour(image):
+    text = base64.b64encode(image)
+    lines = [text[at : at + 70] for at in range(0, len(text), 70)]
+    return b"\n".join([BEGIN, *lines, END, b""])
+
+
+def blob_by_ssh_keygen(image, passphrase=""):
+    """The public blob that ssh-keygen finds in an image, which it decrypts with the passphrase."""
+    with tempfile.TemporaryDirectory() as folder:
+        path = pathlib.Path(folder) / "key"
+        path.touch(mode=0o600)
+        path.write_bytes(armour(image))
+        words = ["ssh-keygen", "-y", "-P", passphrase, "-f", path]
+        run = subprocess.run(words, stdin=subprocess.DEVNULL, capture_output=True)
+    return base64.b64decode(run.stdout.split()[1]) if run.returncode == 0 else None
+
+
+def hold(title, good):
+    if not good:
+        sys.exit(f"differs: {title}")
+
+
+def written_again(image, comment):
+    """The image's key, written by the model with another comment and checkint."""
+    answer = model.read(image)
+    point, scalar = content(image, answer.point), content(image, answer.scalar)
+    return model.write_plain(answer.algorithm, point, scalar, 0xFEDCBA98, comment.encode())
+
+
+def hold_corpus():
+    """Every stored file that the model accepts: ssh-keygen finds the same blob, and reads what the model writes."""
+    for path in sorted(CORPUS.glob("*.bin")):
+        image = path.read_bytes()
+        answer = model.read(image)
+        if answer.number == 0:
+            blob = content(image, answer.blob)
+            passphrase = PASSPHRASES[path.name.split("-")[0]] if answer.kind == model.ENCRYPTED else ""
+            hold(path.name, blob_by_ssh_keygen(image, passphrase) == blob)
+            if answer.kind == model.PLAIN:
+                for _, comment in COMMENTS:
+                    hold(f"{path.name} written", blob_by_ssh_keygen(written_again(image, comment)) == blob)
+
+
+def hold_new_keys(times):
+    """New keys of ssh-keygen: accepted and in the form, but for scalars that it shortened."""
+    for kind, words in KINDS * times:
+        image = new_key(words, "oven-7", ["-N", ""])
+        if kind == "ed25519" or model.read(image).number != 1:
+            hold(f"new {kind}", model.form(image))
+
+
+def main():
+    if shutil.which("ssh-keygen") is None:
+        print("skipped: no ssh-keygen here")
+        return
+    hold_corpus()
+    hold_new_keys(5)
+    print("the model and ssh-keygen agree")
+
+
+if __name__ == "__main__":
+    main()
