@@ -31,8 +31,7 @@ module _ (s : List ℕ) (all : AllBytes s) (c : Cursor) where
   unfolding uint32
   uint32-read n d e =
       let p = uint32-place s c n d e in
-      let m : d ≡ moved c 4 = cursor-is d (moved c 4) (p .after) (p .end) in
-      (
+      let m : d ≡ moved c 4 = cursor-is d (moved c 4) (p .after) (p .end) in (
         rw (← p .number, m) (rest-four s c (p .room) ∙ ap (λ (x : List ℕ). x ++ rest s (moved c 4)) (sym (number-at-digits s all (c .at)))),
         rw (← p .number) (number-at-fits s all (c .at)),
       )

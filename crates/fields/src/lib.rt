@@ -3,6 +3,7 @@
 // The place is a value: each step takes it and answers the place moved on, or the refusal with the
 // byte of the image at which the failing field began.
 ghost use mathlib.Core.Path.{_≡_};
+ghost use Prim.Native.Nat.{_-_};
 ghost use Rattle.fields.specs.Bytes.{sameBytes};
 ghost use Rattle.fields.specs.Fields.{hasRoom, number4, uint32At, bytesAt, stringAt, fixedAt, endAt, isView};
 ghost use Rattle.fields.specs.Refusals.{numberOf, countOf};
@@ -121,6 +122,18 @@ impl Cursor {
         true
     }
 
+    // How many bytes remain before the end of the enclosing part.
+    pub fn remaining(self) -> usize
+        ensures { λ r. ⌜ r ≡ self .end - self .at ⌝ }
+    {
+        let at = self.at;
+        let end = self.end;
+        if end < at {
+            return 0;
+        }
+        end - at
+    }
+
     // A big-endian number of four bytes.
     pub fn uint32(self, image: &[u8]) -> Uint32
         ensures { λ r. ⌜ r ≡ uint32At (now (image .entry)) self ⌝ }
@@ -129,9 +142,18 @@ impl Cursor {
         let end = self.end;
         if self.has(image, 4) {
             let n = joined(image[at], image[at + 1], image[at + 2], image[at + 3]);
-            return Uint32::Value(n, Cursor { at: at + 4, end: end });
+            return Uint32::Value(
+                n,
+                Cursor {
+                    at: at + 4,
+                    end: end,
+                },
+            );
         }
-        Uint32::Refused(Fault { why: Refusal::Length, at: at })
+        Uint32::Refused(Fault {
+            why: Refusal::Length,
+            at: at,
+        })
     }
 
     // k bytes that have no length bytes before them.
@@ -141,9 +163,21 @@ impl Cursor {
         let at = self.at;
         let end = self.end;
         if self.has(image, k) {
-            return Field::Part(Part { start: at, length: k }, Cursor { at: at + k, end: end });
+            return Field::Part(
+                Part {
+                    start: at,
+                    length: k,
+                },
+                Cursor {
+                    at: at + k,
+                    end: end,
+                },
+            );
         }
-        Field::Refused(Fault { why: Refusal::Length, at: at })
+        Field::Refused(Fault {
+            why: Refusal::Length,
+            at: at,
+        })
     }
 
     // A uint32 length and that many bytes. A refusal is the whole string's, length bytes included.
@@ -155,7 +189,10 @@ impl Cursor {
             Uint32::Refused(f) => Field::Refused(f),
             Uint32::Value(n, c) => match c.bytes(image, n as usize) {
                 Field::Part(p, d) => Field::Part(p, d),
-                Field::Refused(_) => Field::Refused(Fault { why: Refusal::Length, at: at }),
+                Field::Refused(_) => Field::Refused(Fault {
+                    why: Refusal::Length,
+                    at: at,
+                }),
             },
         }
     }
@@ -170,10 +207,16 @@ impl Cursor {
             Field::Part(p, c) => {
                 let length = p.length;
                 if length < k {
-                    return Field::Refused(Fault { why: Refusal::Length, at: at });
+                    return Field::Refused(Fault {
+                        why: Refusal::Length,
+                        at: at,
+                    });
                 }
                 if k < length {
-                    return Field::Refused(Fault { why: Refusal::TrailingData(length - k), at: at + 4 + k });
+                    return Field::Refused(Fault {
+                        why: Refusal::TrailingData(length - k),
+                        at: at + 4 + k,
+                    });
                 }
                 Field::Part(p, c)
             }
@@ -187,7 +230,10 @@ impl Cursor {
         let at = self.at;
         let end = self.end;
         if at < end {
-            return Ending::Refused(Fault { why: Refusal::TrailingData(end - at), at: at });
+            return Ending::Refused(Fault {
+                why: Refusal::TrailingData(end - at),
+                at: at,
+            });
         }
         Ending::Clean
     }

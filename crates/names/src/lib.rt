@@ -80,6 +80,7 @@ fn gcm_named(name: &[u8]) -> CipherName
 
 impl Cipher {
     pub const SMALL_BLOCK: usize = 8;
+
     pub const LARGE_BLOCK: usize = 16;
 
     pub fn is_none(self) -> bool

@@ -1,3 +1,3 @@
--- What belongs to no one function: the laws that the proofs share, and that the contract of each public function determines its answer.
-pub mod Laws
+-- What belongs to no one function: what one byte of a text does, and that a contract leaves one answer.
+pub mod Bytes
 pub mod Determined

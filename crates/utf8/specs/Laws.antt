@@ -1,4 +1,5 @@
--- The test `utf8` accepts exactly what the grammar derives, and what follows for texts that are joined and for ASCII.
+-- The test `utf8` accepts what the grammar derives and nothing else (`utf8-sound`, `utf8-complete`), and what that means for
+-- texts that are joined (`utf8-append`) and for ASCII (`ascii-next`, `ascii-utf8`). Assumes nothing.
 use Prim.Native.Nat.{ℕ, zero, suc, _+_, _-_, _≤_, _<_}
 use native.Mathlib.Nat.{eq-or-lt-of-le}
 use native.Mathlib.Omega.{arith}
@@ -9,11 +10,17 @@ use mathlib.Core.Bool.{Bool, true, false, cond, _&&_, false≢true, and-eq-true-
 use borrow.Author.Tests.{le-leb, leb-true, eqb-true}
 use lib.ListN.{length, getD}
 use lib.Dec.{leb, eqb}
-use Rattle.utf8.specs.Utf8.{Range, _to_, Row, UTF8-char, InRow, done, next, Octets, end, char, lies, never, rest, utf8From, utf8}
+use Rattle.utf8.specs.Utf8.{_to_, Row, UTF8-char, InRow, done, next, Octets, end, char, lies, rest, utf8From, utf8}
 
--- ---- the first byte tells the row, which is computed at each byte
+lies-is : (low high b : ℕ) → lies (low to high) b ≡ true → (low ≤ b) × (b ≤ high)
+lies-is low high b e = let f = and-eq-true-iff (leb low b) (leb b high) .0 e in (leb-true low b (f .0), leb-true b high (f .1))
 
--- a test of each of n numbers from low on
+lies-in : (low high b : ℕ) → low ≤ b → b ≤ high → lies (low to high) b ≡ true
+lies-in low high b h k = rw (le-leb low b h, le-leb b high k)
+
+-- ---- a character's first byte tells its row, as is computed at each byte
+
+-- the test holds at n numbers from low on
 abbrev pub every : (ℕ → Bool) → ℕ → ℕ → Bool
 every p low zero = true
 every p low (suc n) = p low && every p (suc low) n
@@ -39,7 +46,7 @@ same-is (low to high ∷ rs) (low′ to high′ ∷ ss) e =
     let g = and-eq-true-iff (eqb high high′) (same rs ss) .0 (f .1) in
     cc (eqb-true low low′ (f .0), eqb-true high high′ (g .0), same-is rs ss (g .1))
 
--- the bytes from low to high all leave these ranges
+-- these ranges are left after each byte from low to high
 abbrev pub leaves : ℕ → ℕ → Row → Bool
 leaves low high ranges = every (λ b. same ranges (rest b UTF8-char)) low (suc high - low)
 
@@ -51,71 +58,60 @@ abbrev begins : Row → Bool
 begins [] = true
 begins (low to high ∷ ranges) = leaves low high ranges
 
-abbrev all : (Row → Bool) → List Row → Bool
-all p [] = true
-all p (row ∷ rows) = p row && all p rows
+abbrev all-begin : List Row → Bool
+all-begin [] = true
+all-begin (row ∷ rows) = begins row && all-begin rows
 
-all-mem : (p : Row → Bool) (row : Row) (rows : List Row) → all p rows ≡ true → List·Memᴰ row rows → p row ≡ true
-all-mem p row [] e m = elim m [ ]
-all-mem p row (x ∷ rows) e (List·Memᴰ·head q) = rw q (and-eq-true-iff (p x) (all p rows) .0 e .0)
-all-mem p row (x ∷ rows) e (List·Memᴰ·tail m) = all-mem p row rows (and-eq-true-iff (p x) (all p rows) .0 e .1) m
-
-all-begin : all begins UTF8-char ≡ true
-unfolding UTF8-char
-all-begin = refl
+begins-each : (row : Row) (rows : List Row) → all-begin rows ≡ true → List·Memᴰ row rows → begins row ≡ true
+begins-each row [] e m = elim m [ ]
+begins-each row (x ∷ rows) e (List·Memᴰ·head q) = rw q (and-eq-true-iff (begins x) (all-begin rows) .0 e .0)
+begins-each row (x ∷ rows) e (List·Memᴰ·tail m) = begins-each row rows (and-eq-true-iff (begins x) (all-begin rows) .0 e .1) m
 
 rest-is : {low high b : ℕ} {ranges : Row} → List·Memᴰ (low to high ∷ ranges) UTF8-char → low ≤ b → b ≤ high → ranges ≡ rest b UTF8-char
-rest-is {low} {high} m = rest-between low high (all-mem begins _ UTF8-char all-begin m)
+rest-is {low} {high} m = rest-between low high (begins-each _ UTF8-char (unfold UTF8-char in refl) m)
 
 -- ---- what the test accepts, the grammar derives
 
--- a text that begins with bytes of a row, and goes on as UTF-8
+-- the text begins with the bytes of a row, and goes on as UTF-8
 data Begun : Row → List ℕ → Type 0 where
   begun : {row : Row} {bytes more : List ℕ} → InRow row bytes → Octets more → Begun row (bytes ++ more)
 
-lies-is : (low high b : ℕ) → lies (low to high) b ≡ true → (low ≤ b) × (b ≤ high)
-lies-is low high b e = let f = and-eq-true-iff (leb low b) (leb b high) .0 e in (leb-true low b (f .0), leb-true b high (f .1))
-
-longer : {low high b : ℕ} {ranges : Row} {t : List ℕ} → low ≤ b → b ≤ high → Begun ranges t → Begun (low to high ∷ ranges) (b ∷ t)
-longer h k (begun r o) = begun (next h k r) o
+longer : {low high b : ℕ} {ranges : Row} {t : List ℕ} → (low ≤ b) × (b ≤ high) → Begun ranges t → Begun (low to high ∷ ranges) (b ∷ t)
+longer h (begun r o) = begun (next (h .0) (h .1) r) o
 
 whole : {row : Row} {t : List ℕ} → List·Memᴰ row UTF8-char → Begun row t → Octets t
 whole m (begun r o) = char m r o
 
-none : {t : List ℕ} → Begun never t → ⊥
-none (begun (next h k r) o) = omega arith
+no-row : {t : List ℕ} → Begun (1 to 0 ∷ []) t → ⊥
+no-row (begun (next h k r) o) = omega arith
 
-found : (b : ℕ) (t : List ℕ) (rows : List Row) → ((row : Row) → List·Memᴰ row rows → List·Memᴰ row UTF8-char) → Begun (rest b rows) t → Octets (b ∷ t)
-found b t [] within s = absurd (none s)
-found b t ([] ∷ rows) within s = found b t rows (λ row m. within row (List·Memᴰ·tail m)) s
-found b t ((low to high ∷ ranges) ∷ rows) within s =
-    by (lies (low to high) b) refl s (found b t rows (λ row m. within row (List·Memᴰ·tail m)))
+first : (b : ℕ) (t : List ℕ) (rows : List Row) → ((row : Row) → List·Memᴰ row rows → List·Memᴰ row UTF8-char) → Begun (rest b rows) t → Octets (b ∷ t)
+first b t [] among s = absurd (no-row s)
+first b t ([] ∷ rows) among s = first b t rows (λ row m. among row (List·Memᴰ·tail m)) s
+first b t ((low to high ∷ ranges) ∷ rows) among s =
+    or-later (lies (low to high) b) refl s (first b t rows (λ row m. among row (List·Memᴰ·tail m)))
   where
-    by : (x : Bool) → lies (low to high) b ≡ x → Begun (cond x ranges (rest b rows)) t → (Begun (rest b rows) t → Octets (b ∷ t)) → Octets (b ∷ t)
-    by true e s later = let f = lies-is low high b e in whole (within _ (List·Memᴰ·head refl)) (longer (f .0) (f .1) s)
-    by false e s later = later s
+    or-later : (x : Bool) → lies (low to high) b ≡ x → Begun (cond x ranges (rest b rows)) t → (Begun (rest b rows) t → Octets (b ∷ t)) → Octets (b ∷ t)
+    or-later true e s later = whole (among _ (List·Memᴰ·head refl)) (longer (lies-is low high b e) s)
+    or-later false e s later = later s
 
-read : (row : Row) (t : List ℕ) → utf8From row t ≡ true → Begun row t
+derived : (row : Row) (t : List ℕ) → utf8From row t ≡ true → Begun row t
 unfolding utf8From
-read [] [] e = begun done end
-read (range ∷ ranges) [] e = absurd (false≢true e)
-read [] (b ∷ t) e = begun done (found b t UTF8-char (λ row m. m) (read (rest b UTF8-char) t e))
-read (low to high ∷ ranges) (b ∷ t) e =
+derived [] [] e = begun done end
+derived (range ∷ ranges) [] e = absurd (false≢true e)
+derived [] (b ∷ t) e = begun done (first b t UTF8-char (λ row m. m) (derived (rest b UTF8-char) t e))
+derived (low to high ∷ ranges) (b ∷ t) e =
     let f = and-eq-true-iff (lies (low to high) b) (utf8From ranges t) .0 e in
-    let g = lies-is low high b (f .0) in
-    longer (g .0) (g .1) (read ranges t (f .1))
+    longer (lies-is low high b (f .0)) (derived ranges t (f .1))
 
 at-start : {t : List ℕ} → Begun [] t → Octets t
 at-start (begun done o) = o
 
 pub utf8-sound : (t : List ℕ) → utf8 t ≡ true → Octets t
-unfolding utf8 utf8From
-utf8-sound t e = at-start (read [] t e)
+unfolding utf8
+utf8-sound t e = at-start (derived [] t e)
 
 -- ---- what the grammar derives, the test accepts
-
-lies-in : (low high b : ℕ) → low ≤ b → b ≤ high → lies (low to high) b ≡ true
-lies-in low high b h k = rw (le-leb low b h, le-leb b high k)
 
 pass : {row : Row} {bytes : List ℕ} (t : List ℕ) → InRow row bytes → utf8From row (bytes ++ t) ≡ utf8From [] t
 unfolding utf8From
@@ -130,7 +126,7 @@ pass-char t m (next {bytes = s} h k r) = ap (λ (row : Row). utf8From row (s ++ 
 pub utf8-complete : {t : List ℕ} → Octets t → utf8 t ≡ true
 unfolding utf8 utf8From
 utf8-complete end = refl
-utf8-complete (char {more = more} m r o) = pass-char more m r ∙ utf8-complete o
+utf8-complete (char {more = t} m r o) = pass-char t m r ∙ utf8-complete o
 
 -- ---- texts that are joined, and ASCII
 
@@ -144,12 +140,12 @@ joined (range ∷ ranges) (b ∷ s) t e =
     rw (f .0) (joined ranges s t (f .1))
 
 pub utf8-append : (s t : List ℕ) → utf8 s ≡ true → utf8 (s ++ t) ≡ utf8 t
-unfolding utf8 utf8From
+unfolding utf8
 utf8-append s t e = joined [] s t e
 
 pub ascii-next : (b : ℕ) (t : List ℕ) → b < 0x80 → utf8 (b ∷ t) ≡ utf8 t
 unfolding utf8 utf8From UTF8-char
-ascii-next b t h = rw (lies-in 0 0x7F b (omega arith) (omega arith))
+ascii-next b t h = rw (lies-in 0x00 0x7F b (omega arith) (omega arith))
 
 pub ascii-utf8 : (t : List ℕ) → ((k : ℕ) → k < length t → getD t k 0 < 0x80) → utf8 t ≡ true
 unfolding utf8 utf8From

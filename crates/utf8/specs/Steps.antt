@@ -1,4 +1,4 @@
--- What the functions of the check answer on the way.
+-- What the functions of the check answer on the way: a byte at a place, what is left of a character, and where it ends.
 use Prim.Native.Nat.{ℕ, _≤_}
 use mathlib.Core.Path.{_≡_}
 use mathlib.Core.List.{List, [], _∷_}
@@ -9,20 +9,20 @@ use Rattle.utf8.specs.declared.Found.{Found}
 use Rattle.utf8.specs.declared.Found.the-variants.{End, Nothing}
 use Rattle.utf8.specs.Utf8.{Range, _to_, Row, UTF8-tail, lies, utf8From, utf8}
 
--- whether a text begins with a byte of a range
+-- the text begins with a byte of the range
 abbrev pub begins : Range → List ℕ → Bool
 begins range [] = false
 begins range (b ∷ t) = lies range b
 
--- the ranges that a `Rest` stands for
-abbrev pub ranges : Rest → Row
-ranges r = (r .0 to r .1) ∷ replicate (r .2) UTF8-tail
-
--- whether a byte of a range stands at a place
+-- a byte of the range stands at the place
 unfoldable pub liesAt : Range → List ℕ → ℕ → Bool
 liesAt range t at = begins range (drop at t)
 
--- the bytes from a place on lie in the ranges that are left of a character, up to where the character ends; or they do not
+-- the ranges that a `Rest` stands for
+abbrev pub ranges : Rest → Row
+ranges r = r .0 to r .1 ∷ replicate (r .2) UTF8-tail
+
+-- from the place on the ranges of the row are met up to an end, after which the answer is that of the whole; or the text is not UTF-8
 abbrev pub Ends : List ℕ → ℕ → Row → Found → Type 0
-Ends t at row (End e) = (at ≤ e) × (e ≤ length t) × (utf8From row (drop at t) ≡ utf8 (drop e t))
-Ends t at row Nothing = utf8From row (drop at t) ≡ false
+Ends t from row (End at) = (from ≤ at) × (at ≤ length t) × (utf8From row (drop from t) ≡ utf8 (drop at t))
+Ends t from row Nothing = utf8From row (drop from t) ≡ false

@@ -2,9 +2,9 @@
 ghost use mathlib.Core.Path.{_≡_};
 ghost use Prim.Native.Nat.{_≤_};
 ghost use Rattle.utf8.specs.Utf8.{_to_, UTF8-char, rest, utf8};
-ghost use Rattle.utf8.specs.Steps.{ranges, liesAt, Ends};
+ghost use Rattle.utf8.specs.Steps.{liesAt, ranges, Ends};
 
-// What follows the first byte of a character: a byte from .0 to .1, and then .2 bytes from 0x80 to 0xBF.
+// What is left of a character after its first byte: a byte from .0 to .1, and then .2 bytes from 0x80 to 0xBF.
 struct Rest(u8, u8, u8);
 
 // Where a character ends, if it stands there whole.
@@ -13,7 +13,7 @@ enum Found {
     Nothing,
 }
 
-// What follows a byte that is not ASCII, where it begins a character; else a byte that there is none of.
+// What is left of the character that a byte other than ASCII begins. Where it begins none, no byte lies from 1 to 0.
 fn rest_of(lead: u8) -> Rest
     requires { ⌜ 0x80 ≤ lead ⌝ }
     ensures { λ r. ⌜ ranges r ≡ rest lead UTF8-char ⌝ }
@@ -31,7 +31,7 @@ fn rest_of(lead: u8) -> Rest
     }
 }
 
-// Is there a byte at a place, from low to high?
+// Does a byte from low to high stand at the place?
 fn lies_at(text: &[u8], at: usize, low: u8, high: u8) -> bool
     ensures { λ r. ⌜ r ≡ liesAt (low to high) (now (text .entry)) at ⌝ }
 {
@@ -48,7 +48,7 @@ fn lies_at(text: &[u8], at: usize, low: u8, high: u8) -> bool
     true
 }
 
-// Where the character ends of which this is left from a place on.
+// Where the character ends of which this is left, from the place on.
 fn end_of(text: &[u8], from: usize, left: Rest) -> Found
     ensures { λ r. ⌜ Ends (now (text .entry)) from (ranges left) r ⌝ }
 {
@@ -68,6 +68,7 @@ fn end_of(text: &[u8], from: usize, left: Rest) -> Found
     Found::Nothing
 }
 
+// Is the text UTF-8? ASCII passes a byte at a time, anything else a character at a time.
 pub fn is_utf8(text: &[u8]) -> bool
     ensures { λ r. ⌜ r ≡ utf8 (now (text .entry)) ⌝ }
 {
@@ -79,7 +80,7 @@ pub fn is_utf8(text: &[u8]) -> bool
         } else {
             match end_of(text, i + 1, rest_of(b)) {
                 Found::Nothing => return false,
-                Found::End(end) => i = end,
+                Found::End(at) => i = at,
             }
         }
     }

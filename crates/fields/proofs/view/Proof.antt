@@ -47,8 +47,7 @@ part-result-end c = search needs
 returns-3 : tie.Need-returns-3
 returns-3 c =
     let a = c .before .before .before .args in
-    let inside : a .part .start + a .part .length ≤ length (now (a .image)) = omega arith in
-    (
+    let inside : a .part .start + a .part .length ≤ length (now (a .image)) = omega arith in (
       rw (add-sub-cancel-left, take-drop) (sym (view-in (now (a .image)) (a .part) inside)),
       refl,
       rw (start-in (now (a .image)) (a .part) inside) (add-comm _ _),

@@ -1,5 +1,5 @@
--- `utf8::end_of` meets its contract. The loop's invariant: what the bytes from `at` on are, after the ranges that are left there, the whole is.
--- The measure is the number of tails. Rests on `passes` and `stops`, what one byte does.
+-- `utf8::end_of` meets its contract. The loop's invariant: with what is left at `at`, the text from there on answers for the text from
+-- `from` on. The measure is the number of tails. Rests on `there`, `passes` and `stops`, what one byte does.
 use Prim.Native.Nat.{ℕ, zero, suc, _-_, _≤_}
 use native.Mathlib.Omega.{arith}
 use mathlib.Core.Path.{_≡_, refl, sym, _∙_, ap}
@@ -7,14 +7,12 @@ use mathlib.Core.List.{_∷_}
 use mathlib.Core.Bool.{true}
 use borrow.Author.Needs.{needs}
 use lib.ListN.{drop, replicate}
+use denote.Ref.{now}
 use Rattle.utf8.specs.Utf8.{_to_, UTF8-tail, utf8From, utf8}
 use Rattle.utf8.specs.Steps.{liesAt}
-use Rattle.utf8.proofs.Laws.{there, passes, stops}
+use Rattle.utf8.proofs.Bytes.{there, passes, stops}
 use Rattle.utf8.proofs.end_of.Statement.{statement}
 use Rattle.utf8.proofs.end_of.Tie as tie
-use Rattle.utf8.proofs.end_of.Reads as reads
-use Rattle.utf8.proofs.end_of.Lts as lts
-use Rattle.utf8.proofs.lies_at.Reads as lies-at-reads
 
 abbrev Inv-loop : tie.InvT-loop
 Inv-loop text from at₀ low₀ high₀ tails₀ at low high tails =
@@ -34,13 +32,16 @@ loop-holds c = (omega arith, refl)
 lies-at-requires : tie.Need-lies-at-requires Inv-loop μ-loop
 lies-at-requires c κs = search needs
 
+lies : (c : tie.Then1 Inv-loop μ-loop) → liesAt (c .before .before .loop .low to c .before .before .loop .high) (now (c .before .before .before .before .args .text)) (c .before .before .loop .at) ≡ true
+lies c = sym (c .before .lies-at .ensures) ∙ c .if1 .taken
+
 add-at : tie.Need-add-at Inv-loop μ-loop
-add-at c = omega (arith, there _ _ _ (sym (c .before .lies-at .ensures) ∙ c .if1 .taken))
+add-at c = omega (arith, there _ _ _ (lies c))
 
 returns : tie.Need-returns Inv-loop μ-loop
 unfolding utf8
 returns c =
-    let l = sym (c .before .before .lies-at .ensures) ∙ c .before .if1 .taken in
+    let l = lies (c .before) in
     (omega arith, omega (arith, there _ _ _ l), rw (← c .before .before .before .loop .inv .1, passes _ _ _ _ l, c .if2 .taken))
 
 sub-tails : tie.Need-sub-tails Inv-loop μ-loop
@@ -51,8 +52,7 @@ loop-less c = omega arith
 
 loop-again : tie.Need-loop-again Inv-loop μ-loop
 loop-again c =
-    let l = sym (c .before .before .lies-at .ensures) ∙ c .before .if1 .taken in
-    (omega arith, rw (← one-tail _ (c .if2 .left)) (sym (passes _ _ _ _ l) ∙ c .before .before .before .loop .inv .1))
+    (omega arith, rw (← one-tail _ (c .if2 .left)) (sym (passes _ _ _ _ (lies (c .before))) ∙ c .before .before .before .loop .inv .1))
 
 returns-2 : tie.Need-returns-2 Inv-loop μ-loop
 returns-2 c = sym (c .before .before .loop .inv .1) ∙ stops _ _ _ _ (sym (c .before .lies-at .ensures) ∙ c .if1 .left)

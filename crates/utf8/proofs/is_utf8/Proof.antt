@@ -1,57 +1,70 @@
+-- `utf8::is_utf8` meets its contract. The loop's invariant: a character may begin at `i`, and the text from there on answers for the whole.
+-- The measure is what is left of the length. Rests on `ascii` and `begun`, what a character's first byte does.
+use Prim.Native.Nat.{_-_, _≤_}
+use native.Mathlib.Omega.{arith}
+use mathlib.Core.Path.{_≡_, refl, sym, _∙_}
+use borrow.Author.Needs.{needs}
+use lib.ListN.{length, drop, drop-of-length-le}
+use Rattle.utf8.specs.Utf8.{utf8From, utf8}
+use Rattle.utf8.proofs.Bytes.{begun, ascii}
 use Rattle.utf8.proofs.is_utf8.Statement.{statement}
 use Rattle.utf8.proofs.is_utf8.Tie as tie
-use Rattle.utf8.proofs.is_utf8.Reads as reads
-use Rattle.utf8.proofs.is_utf8.Lts as lts
-use Rattle.utf8.proofs.end_of.Reads as end-of-reads
-use Rattle.utf8.proofs.rest_of.Reads as rest-of-reads
 
 abbrev Inv-loop : tie.InvT-loop
-Inv-loop text i₀ i = ?
+Inv-loop text i₀ i = (i ≤ length text) × (utf8 (drop i text) ≡ utf8 text)
 
 abbrev μ-loop : tie.MeasureT-loop
-μ-loop text i₀ i = ?
+μ-loop text i₀ i = length text - i
 
 loop-holds : tie.Need-loop-holds Inv-loop μ-loop
-loop-holds c = ?
+loop-holds c = (omega arith, refl)
 
 shared-slice-read-b : tie.Need-shared-slice-read-b Inv-loop μ-loop
-shared-slice-read-b c = ?
+shared-slice-read-b c = omega arith
 
 add-i : tie.Need-add-i Inv-loop μ-loop
-add-i c = ?
+add-i c = omega arith
 
 loop-less : tie.Need-loop-less Inv-loop μ-loop
-loop-less c = ?
+loop-less c = omega arith
 
 loop-again : tie.Need-loop-again Inv-loop μ-loop
-loop-again c = ?
+loop-again c = (omega arith, ascii _ _ (c .before .before .loop-test .taken) (omega arith) ∙ c .before .before .before .loop .inv .1)
 
 add-end-of : tie.Need-add-end-of Inv-loop μ-loop
-add-end-of c = ?
+add-end-of c = omega arith
 
 rest-of-requires : tie.Need-rest-of-requires Inv-loop μ-loop
-rest-of-requires c κs = ?
+rest-of-requires c κs = search needs
 
 end-of-requires : tie.Need-end-of-requires Inv-loop μ-loop
-end-of-requires c κs = ?
+end-of-requires c κs = search needs
 
 enum-told : tie.Need-enum-told Inv-loop μ-loop
-enum-told c = ?
+enum-told c = search needs
 
 returns : tie.Need-returns Inv-loop μ-loop
-returns c = ?
+returns c =
+    let r = c .before .before .before in
+    let l = r .before .before .before in
+    sym (rw (c .enum-told .given .1) at (c .before .before .end-of .ensures)) ∙ begun _ _ (l .loop-test .taken) _ (r .rest-of .ensures) ∙ l .before .loop .inv .1
 
-enum-known-end : tie.Need-enum-known-end Inv-loop μ-loop
-enum-known-end c = ?
+enum-known-at : tie.Need-enum-known-at Inv-loop μ-loop
+enum-known-at c = search needs
 
 loop-less-2 : tie.Need-loop-less-2 Inv-loop μ-loop
-loop-less-2 c = ?
+loop-less-2 c = omega (arith, rw (c .before .at .given .1) at (c .before .before .before .end-of .ensures))
 
 loop-again-2 : tie.Need-loop-again-2 Inv-loop μ-loop
-loop-again-2 c = ?
+loop-again-2 c =
+    let r = c .before .before .before .before in
+    let l = r .before .before .before in
+    let e = rw (c .before .at .given .1) at (c .before .before .before .end-of .ensures) in
+    (e .1, sym (e .2) ∙ begun _ _ (l .loop-test .taken) _ (r .rest-of .ensures) ∙ l .before .loop .inv .1)
 
 returns-2 : tie.Need-returns-2 Inv-loop μ-loop
-returns-2 c = ?
+unfolding utf8 utf8From
+returns-2 c = rw (← c .before .loop .inv .1, drop-of-length-le _ (c .loop-test .left))
 
 pub is-utf8-spec : {M : Type 1} → statement M
 is-utf8-spec =
@@ -69,7 +82,7 @@ is-utf8-spec =
     end-of-requires
     enum-told
     returns
-    enum-known-end
+    enum-known-at
     loop-less-2
     loop-again-2
     returns-2)

@@ -1,3 +1,4 @@
+-- `utf8::lies_at` meets its contract. Rests on the definition of `liesAt`, the tests on the way deciding it.
 use Prim.Native.Nat.{ℕ}
 use borrow.Author.Needs.{needs}
 use borrow.Author.Tests.{le-leb, lt-leb}
@@ -6,8 +7,6 @@ use lib.Seq.{drop-cons}
 use Rattle.utf8.specs.Steps.{liesAt}
 use Rattle.utf8.proofs.lies_at.Statement.{statement}
 use Rattle.utf8.proofs.lies_at.Tie as tie
-use Rattle.utf8.proofs.lies_at.Reads as reads
-use Rattle.utf8.proofs.lies_at.Lts as lts
 
 returns : tie.Need-returns
 unfolding liesAt

@@ -1,11 +1,11 @@
+-- `utf8::rest_of` meets its contract. Each arm's bytes are all of a range of bytes that leave the same ranges.
+-- Rests on `rest-between`, which has that computed at each byte of the range.
 use native.Mathlib.Omega.{arith}
 use mathlib.Core.Path.{refl}
 use Rattle.utf8.specs.Utf8.{UTF8-char}
 use Rattle.utf8.specs.Laws.{rest-between}
 use Rattle.utf8.proofs.rest_of.Statement.{statement}
 use Rattle.utf8.proofs.rest_of.Tie as tie
-use Rattle.utf8.proofs.rest_of.Reads as reads
-use Rattle.utf8.proofs.rest_of.Lts as lts
 
 returns : tie.Need-returns
 returns c = rest-between 0xE0 0xE0 (unfold UTF8-char in refl) (omega arith) (omega arith)

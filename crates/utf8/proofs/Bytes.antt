@@ -1,13 +1,15 @@
--- One byte of a text, in the midst of a character: it lies in its range and the rest of the character is left, or it does not and the text is not UTF-8.
--- Rests on the definition of `utf8From` alone.
+-- What one byte of a text does. Within a character it lies in its range and leaves the ranges after it, or the text is not UTF-8;
+-- at a character's first byte the row is left. Rests on the definitions of `utf8From` and `liesAt`, and on `ascii-next`.
 use Prim.Native.Nat.{ℕ, zero, suc, _+_, _<_}
+use native.Mathlib.Numerals.{add-one}
 use native.Mathlib.Omega.{arith}
-use mathlib.Core.Path.{_≡_, refl, _∙_}
+use mathlib.Core.Path.{_≡_, refl}
 use mathlib.Core.List.{List, [], _∷_}
-use mathlib.Core.Bool.{Bool, true, false, _&&_, false≢true}
-use lib.ListN.{length, drop}
-use lib.Seq.{drop-drop}
-use Rattle.utf8.specs.Utf8.{Range, Row, utf8From}
+use mathlib.Core.Bool.{true, false, _&&_, false≢true}
+use lib.ListN.{length, getD, drop}
+use lib.Seq.{drop-cons, drop-drop}
+use Rattle.utf8.specs.Utf8.{Range, Row, UTF8-char, rest, utf8From, utf8}
+use Rattle.utf8.specs.Laws.{ascii-next}
 use Rattle.utf8.specs.Steps.{begins, liesAt}
 
 one-more : (range : Range) (more : Row) (t : List ℕ) → utf8From (range ∷ more) t ≡ begins range t && utf8From more (drop 1 t)
@@ -30,3 +32,11 @@ module _ (range : Range) (more : Row) (t : List ℕ) (at : ℕ) where
   pub stops : liesAt range t at ≡ false → utf8From (range ∷ more) (drop at t) ≡ false
   unfolding liesAt
   stops e = rw (one-more range more (drop at t), e)
+
+module _ (t : List ℕ) (at : ℕ) (h : at < length t) where
+  pub begun : (left : Row) → left ≡ rest (getD t at 0) UTF8-char → utf8From left (drop (at + 1) t) ≡ utf8 (drop at t)
+  unfolding utf8 utf8From
+  begun left e = rw (e, add-one at, drop-cons t at 0 h)
+
+  pub ascii : getD t at 0 < 0x80 → utf8 (drop (at + 1) t) ≡ utf8 (drop at t)
+  ascii k = rw (add-one at, drop-cons t at 0 h, ascii-next (getD t at 0) (drop (suc at) t) k)
