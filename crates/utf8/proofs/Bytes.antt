@@ -1,5 +1,6 @@
--- What one byte of a text does. Within a character it lies in its range and leaves the ranges after it, or the text is not UTF-8;
--- at a character's first byte the row is left. Rests on the definitions of `utf8From` and `liesAt`, and on `ascii-next`.
+-- What one byte of a text does. Within a character it lies in its range and leaves the ranges after it (`passes`), or the text is not
+-- UTF-8 (`stops`). The first byte of a character leaves the rest of its row, and an ASCII byte leaves nothing.
+-- Rests on the definitions of `utf8From` and `liesAt`, and on `ascii-next`.
 use Prim.Native.Nat.{ℕ, zero, suc, _+_, _<_}
 use native.Mathlib.Numerals.{add-one}
 use native.Mathlib.Omega.{arith}
@@ -34,9 +35,9 @@ module _ (range : Range) (more : Row) (t : List ℕ) (at : ℕ) where
   stops e = rw (one-more range more (drop at t), e)
 
 module _ (t : List ℕ) (at : ℕ) (h : at < length t) where
-  pub begun : (left : Row) → left ≡ rest (getD t at 0) UTF8-char → utf8From left (drop (at + 1) t) ≡ utf8 (drop at t)
+  pub first-byte : (left : Row) → left ≡ rest (getD t at 0) UTF8-char → utf8From left (drop (at + 1) t) ≡ utf8 (drop at t)
   unfolding utf8 utf8From
-  begun left e = rw (e, add-one at, drop-cons t at 0 h)
+  first-byte left e = rw (e, add-one at, drop-cons t at 0 h)
 
-  pub ascii : getD t at 0 < 0x80 → utf8 (drop (at + 1) t) ≡ utf8 (drop at t)
-  ascii k = rw (add-one at, drop-cons t at 0 h, ascii-next (getD t at 0) (drop (suc at) t) k)
+  pub ascii-byte : getD t at 0 < 0x80 → utf8 (drop (at + 1) t) ≡ utf8 (drop at t)
+  ascii-byte k = rw (add-one at, drop-cons t at 0 h, ascii-next (getD t at 0) (drop (suc at) t) k)

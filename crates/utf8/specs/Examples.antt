@@ -1,4 +1,4 @@
--- The examples of RFC 3629, section 7, the ends of the forms, and sequences that the grammar leaves out (sections 3 and 10).
+-- The examples of RFC 3629, section 7, the ends of the forms, and sequences that the grammar leaves out.
 use mathlib.Core.Path.{_≡_, refl}
 use mathlib.Core.List.{[], _∷_}
 use mathlib.Core.Bool.{true, false}
@@ -24,7 +24,9 @@ byte-order-mark = unfold utf8 utf8From UTF8-char in refl
 
 -- ---- the first and the last character of each length, and those beside the surrogates
 
-ends : utf8 (0x00 ∷ 0x7F ∷ 0xC2 ∷ 0x80 ∷ 0xDF ∷ 0xBF ∷ 0xE0 ∷ 0xA0 ∷ 0x80 ∷ 0xEF ∷ 0xBF ∷ 0xBF ∷ 0xF0 ∷ 0x90 ∷ 0x80 ∷ 0x80 ∷ 0xF4 ∷ 0x8F ∷ 0xBF ∷ 0xBF ∷ []) ≡ true
+ends : utf8
+    (0x00 ∷ 0x7F ∷ 0xC2 ∷ 0x80 ∷ 0xDF ∷ 0xBF ∷ 0xE0 ∷ 0xA0 ∷ 0x80 ∷ 0xEF ∷ 0xBF ∷ 0xBF ∷
+    0xF0 ∷ 0x90 ∷ 0x80 ∷ 0x80 ∷ 0xF4 ∷ 0x8F ∷ 0xBF ∷ 0xBF ∷ []) ≡ true
 ends = unfold utf8 utf8From UTF8-char in refl
 
 beside-surrogates : utf8 (0xED ∷ 0x9F ∷ 0xBF ∷ 0xEE ∷ 0x80 ∷ 0x80 ∷ []) ≡ true
@@ -42,9 +44,12 @@ overlong-3 = unfold utf8 utf8From UTF8-char in refl
 overlong-4 : utf8 (0xF0 ∷ 0x80 ∷ 0x80 ∷ 0x80 ∷ []) ≡ false
 overlong-4 = unfold utf8 utf8From UTF8-char in refl
 
--- U+D800
+-- U+D800, and the surrogate pair of section 3
 surrogate : utf8 (0xED ∷ 0xA0 ∷ 0x80 ∷ []) ≡ false
 surrogate = unfold utf8 utf8From UTF8-char in refl
+
+surrogate-pair : utf8 (0xED ∷ 0xA1 ∷ 0x8C ∷ 0xED ∷ 0xBE ∷ 0xB4 ∷ []) ≡ false
+surrogate-pair = unfold utf8 utf8From UTF8-char in refl
 
 -- U+110000
 above-10FFFF : utf8 (0xF4 ∷ 0x90 ∷ 0x80 ∷ 0x80 ∷ []) ≡ false

@@ -13,7 +13,9 @@ use lib.Dec.{leb, eqb}
 use Rattle.utf8.specs.Utf8.{_to_, Row, UTF8-char, InRow, done, next, Octets, end, char, lies, rest, utf8From, utf8}
 
 lies-is : (low high b : ℕ) → lies (low to high) b ≡ true → (low ≤ b) × (b ≤ high)
-lies-is low high b e = let f = and-eq-true-iff (leb low b) (leb b high) .0 e in (leb-true low b (f .0), leb-true b high (f .1))
+lies-is low high b e =
+    let f = and-eq-true-iff (leb low b) (leb b high) .0 e in
+    (leb-true low b (f .0), leb-true b high (f .1))
 
 lies-in : (low high b : ℕ) → low ≤ b → b ≤ high → lies (low to high) b ≡ true
 lies-in low high b h k = rw (le-leb low b h, le-leb b high k)
@@ -50,62 +52,69 @@ same-is (low to high ∷ rs) (low′ to high′ ∷ ss) e =
 abbrev pub leaves : ℕ → ℕ → Row → Bool
 leaves low high ranges = every (λ b. same ranges (rest b UTF8-char)) low (suc high - low)
 
-pub rest-between : (low high : ℕ) {ranges : Row} {b : ℕ} → leaves low high ranges ≡ true → low ≤ b → b ≤ high → ranges ≡ rest b UTF8-char
+pub rest-between : (low high : ℕ) {ranges : Row} {b : ℕ} → leaves low high ranges ≡ true → low ≤ b → b ≤ high →
+    ranges ≡ rest b UTF8-char
 rest-between low high {ranges} {b} e h k =
     same-is _ _ (each (λ (b : ℕ). same ranges (rest b UTF8-char)) low (suc high - low) b e h (omega arith))
 
-abbrev begins : Row → Bool
-begins [] = true
-begins (low to high ∷ ranges) = leaves low high ranges
+-- each byte of the row's first range leaves the row's other ranges
+abbrev tells : Row → Bool
+tells [] = true
+tells (low to high ∷ ranges) = leaves low high ranges
 
-abbrev all-begin : List Row → Bool
-all-begin [] = true
-all-begin (row ∷ rows) = begins row && all-begin rows
+abbrev all-tell : List Row → Bool
+all-tell [] = true
+all-tell (row ∷ rows) = tells row && all-tell rows
 
-begins-each : (row : Row) (rows : List Row) → all-begin rows ≡ true → List·Memᴰ row rows → begins row ≡ true
-begins-each row [] e m = elim m [ ]
-begins-each row (x ∷ rows) e (List·Memᴰ·head q) = rw q (and-eq-true-iff (begins x) (all-begin rows) .0 e .0)
-begins-each row (x ∷ rows) e (List·Memᴰ·tail m) = begins-each row rows (and-eq-true-iff (begins x) (all-begin rows) .0 e .1) m
+each-tells : (row : Row) (rows : List Row) → all-tell rows ≡ true → List·Memᴰ row rows → tells row ≡ true
+each-tells row [] e m = elim m [ ]
+each-tells row (x ∷ rows) e (List·Memᴰ·head q) = rw q (and-eq-true-iff (tells x) (all-tell rows) .0 e .0)
+each-tells row (x ∷ rows) e (List·Memᴰ·tail m) = each-tells row rows (and-eq-true-iff (tells x) (all-tell rows) .0 e .1) m
 
-rest-is : {low high b : ℕ} {ranges : Row} → List·Memᴰ (low to high ∷ ranges) UTF8-char → low ≤ b → b ≤ high → ranges ≡ rest b UTF8-char
-rest-is {low} {high} m = rest-between low high (begins-each _ UTF8-char (unfold UTF8-char in refl) m)
+rest-is : {low high b : ℕ} {ranges : Row} → List·Memᴰ (low to high ∷ ranges) UTF8-char → low ≤ b → b ≤ high →
+    ranges ≡ rest b UTF8-char
+rest-is {low} {high} m = rest-between low high (each-tells _ UTF8-char (unfold UTF8-char in refl) m)
 
 -- ---- what the test accepts, the grammar derives
 
--- the text begins with the bytes of a row, and goes on as UTF-8
-data Begun : Row → List ℕ → Type 0 where
-  begun : {row : Row} {bytes more : List ℕ} → InRow row bytes → Octets more → Begun row (bytes ++ more)
+-- the text begins with bytes that lie in the row, and goes on as UTF-8
+data OctetsFrom : Row → List ℕ → Type 0 where
+  go-on : {row : Row} {bytes more : List ℕ} → InRow row bytes → Octets more → OctetsFrom row (bytes ++ more)
 
-longer : {low high b : ℕ} {ranges : Row} {t : List ℕ} → (low ≤ b) × (b ≤ high) → Begun ranges t → Begun (low to high ∷ ranges) (b ∷ t)
-longer h (begun r o) = begun (next (h .0) (h .1) r) o
+one-before : {low high b : ℕ} {ranges : Row} {t : List ℕ} → (low ≤ b) × (b ≤ high) → OctetsFrom ranges t →
+    OctetsFrom (low to high ∷ ranges) (b ∷ t)
+one-before h (go-on r o) = go-on (next (h .0) (h .1) r) o
 
-whole : {row : Row} {t : List ℕ} → List·Memᴰ row UTF8-char → Begun row t → Octets t
-whole m (begun r o) = char m r o
+whole : {row : Row} {t : List ℕ} → List·Memᴰ row UTF8-char → OctetsFrom row t → Octets t
+whole m (go-on r o) = char m r o
 
-no-row : {t : List ℕ} → Begun (1 to 0 ∷ []) t → ⊥
-no-row (begun (next h k r) o) = omega arith
+no-row : {t : List ℕ} → OctetsFrom (1 to 0 ∷ []) t → ⊥
+no-row (go-on (next h k r) o) = omega arith
 
-first : (b : ℕ) (t : List ℕ) (rows : List Row) → ((row : Row) → List·Memᴰ row rows → List·Memᴰ row UTF8-char) → Begun (rest b rows) t → Octets (b ∷ t)
-first b t [] among s = absurd (no-row s)
-first b t ([] ∷ rows) among s = first b t rows (λ row m. among row (List·Memᴰ·tail m)) s
-first b t ((low to high ∷ ranges) ∷ rows) among s =
-    or-later (lies (low to high) b) refl s (first b t rows (λ row m. among row (List·Memᴰ·tail m)))
+-- the byte begins one of the rows
+begins : (b : ℕ) (t : List ℕ) (rows : List Row) → ((row : Row) → List·Memᴰ row rows → List·Memᴰ row UTF8-char) →
+    OctetsFrom (rest b rows) t → Octets (b ∷ t)
+begins b t [] among s = absurd (no-row s)
+begins b t ([] ∷ rows) among s = begins b t rows (λ row m. among row (List·Memᴰ·tail m)) s
+begins b t ((low to high ∷ ranges) ∷ rows) among s =
+    this-or-later (lies (low to high) b) refl s (begins b t rows (λ row m. among row (List·Memᴰ·tail m)))
   where
-    or-later : (x : Bool) → lies (low to high) b ≡ x → Begun (cond x ranges (rest b rows)) t → (Begun (rest b rows) t → Octets (b ∷ t)) → Octets (b ∷ t)
-    or-later true e s later = whole (among _ (List·Memᴰ·head refl)) (longer (lies-is low high b e) s)
-    or-later false e s later = later s
+    this-or-later : (x : Bool) → lies (low to high) b ≡ x → OctetsFrom (cond x ranges (rest b rows)) t →
+        (OctetsFrom (rest b rows) t → Octets (b ∷ t)) → Octets (b ∷ t)
+    this-or-later true e s later = whole (among _ (List·Memᴰ·head refl)) (one-before (lies-is low high b e) s)
+    this-or-later false e s later = later s
 
-derived : (row : Row) (t : List ℕ) → utf8From row t ≡ true → Begun row t
+derived : (row : Row) (t : List ℕ) → utf8From row t ≡ true → OctetsFrom row t
 unfolding utf8From
-derived [] [] e = begun done end
+derived [] [] e = go-on done end
 derived (range ∷ ranges) [] e = absurd (false≢true e)
-derived [] (b ∷ t) e = begun done (first b t UTF8-char (λ row m. m) (derived (rest b UTF8-char) t e))
+derived [] (b ∷ t) e = go-on done (begins b t UTF8-char (λ row m. m) (derived (rest b UTF8-char) t e))
 derived (low to high ∷ ranges) (b ∷ t) e =
     let f = and-eq-true-iff (lies (low to high) b) (utf8From ranges t) .0 e in
-    longer (lies-is low high b (f .0)) (derived ranges t (f .1))
+    one-before (lies-is low high b (f .0)) (derived ranges t (f .1))
 
-at-start : {t : List ℕ} → Begun [] t → Octets t
-at-start (begun done o) = o
+at-start : {t : List ℕ} → OctetsFrom [] t → Octets t
+at-start (go-on done o) = o
 
 pub utf8-sound : (t : List ℕ) → utf8 t ≡ true → Octets t
 unfolding utf8
@@ -118,7 +127,8 @@ unfolding utf8From
 pass t done = refl
 pass t (next {low} {high} {b} h k r) = rw (lies-in low high b h k) (pass t r)
 
-pass-char : {row : Row} {bytes : List ℕ} (t : List ℕ) → List·Memᴰ row UTF8-char → InRow row bytes → utf8From [] (bytes ++ t) ≡ utf8From [] t
+pass-char : {row : Row} {bytes : List ℕ} (t : List ℕ) → List·Memᴰ row UTF8-char → InRow row bytes →
+    utf8From [] (bytes ++ t) ≡ utf8From [] t
 unfolding utf8From
 pass-char t m done = refl
 pass-char t m (next {bytes = s} h k r) = ap (λ (row : Row). utf8From row (s ++ t)) (sym (rest-is m h k)) ∙ pass t r

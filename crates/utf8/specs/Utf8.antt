@@ -16,8 +16,8 @@ use lib.Dec.{leb}
 
 -- ---- the grammar
 
-infix 70 _to_
 -- the bytes from the lowest to the highest: `0x80 to 0xBF` is %x80-BF
+infix 70 _to_
 pub data Range : Type 0 where
   _to_ : ℕ → ℕ → Range
 
@@ -59,12 +59,14 @@ UTF8-char = UTF8-1 ++ UTF8-2 ++ UTF8-3 ++ UTF8-4
 -- the bytes lie in the ranges of the row, one in each
 pub data InRow : Row → List ℕ → Type 0 where
   done : InRow [] []
-  next : {low high b : ℕ} {ranges : Row} {bytes : List ℕ} → low ≤ b → b ≤ high → InRow ranges bytes → InRow (low to high ∷ ranges) (b ∷ bytes)
+  next : {low high b : ℕ} {ranges : Row} {bytes : List ℕ} → low ≤ b → b ≤ high → InRow ranges bytes →
+      InRow (low to high ∷ ranges) (b ∷ bytes)
 
--- UTF8-octets
+-- UTF8-octets: one character after another, up to the end
 pub data Octets : List ℕ → Type 0 where
   end : Octets []
-  char : {row : Row} {bytes more : List ℕ} → List·Memᴰ row UTF8-char → InRow row bytes → Octets more → Octets (bytes ++ more)
+  char : {row : Row} {bytes more : List ℕ} → List·Memᴰ row UTF8-char → InRow row bytes → Octets more →
+      Octets (bytes ++ more)
 
 -- ---- the same as a test that computes. `utf8-sound` and `utf8-complete` say that it accepts what `Octets` derives, and nothing else
 

@@ -4,12 +4,9 @@ use Prim.Native.Nat.{ℕ, zero, suc, _-_, _≤_}
 use native.Mathlib.Omega.{arith}
 use mathlib.Core.Path.{_≡_, refl, sym, _∙_, ap}
 use mathlib.Core.List.{_∷_}
-use mathlib.Core.Bool.{true}
 use borrow.Author.Needs.{needs}
 use lib.ListN.{drop, replicate}
-use denote.Ref.{now}
 use Rattle.utf8.specs.Utf8.{_to_, UTF8-tail, utf8From, utf8}
-use Rattle.utf8.specs.Steps.{liesAt}
 use Rattle.utf8.proofs.Bytes.{there, passes, stops}
 use Rattle.utf8.proofs.end_of.Statement.{statement}
 use Rattle.utf8.proofs.end_of.Tie as tie
@@ -17,7 +14,8 @@ use Rattle.utf8.proofs.end_of.Tie as tie
 abbrev Inv-loop : tie.InvT-loop
 Inv-loop text from at₀ low₀ high₀ tails₀ at low high tails =
     (from ≤ at) ×
-    (utf8From (low to high ∷ replicate tails UTF8-tail) (drop at text) ≡ utf8From (low₀ to high₀ ∷ replicate tails₀ UTF8-tail) (drop from text))
+    (utf8From (low to high ∷ replicate tails UTF8-tail) (drop at text) ≡
+    utf8From (low₀ to high₀ ∷ replicate tails₀ UTF8-tail) (drop from text))
 
 abbrev μ-loop : tie.MeasureT-loop
 μ-loop text from at₀ low₀ high₀ tails₀ at low high tails = tails
@@ -32,16 +30,13 @@ loop-holds c = (omega arith, refl)
 lies-at-requires : tie.Need-lies-at-requires Inv-loop μ-loop
 lies-at-requires c κs = search needs
 
-lies : (c : tie.Then1 Inv-loop μ-loop) → liesAt (c .before .before .loop .low to c .before .before .loop .high) (now (c .before .before .before .before .args .text)) (c .before .before .loop .at) ≡ true
-lies c = sym (c .before .lies-at .ensures) ∙ c .if1 .taken
-
 add-at : tie.Need-add-at Inv-loop μ-loop
-add-at c = omega (arith, there _ _ _ (lies c))
+add-at c = omega (arith, there _ _ _ (sym (c .before .lies-at .ensures) ∙ c .if1 .taken))
 
 returns : tie.Need-returns Inv-loop μ-loop
 unfolding utf8
 returns c =
-    let l = lies (c .before) in
+    let l = sym (c .before .before .lies-at .ensures) ∙ c .before .if1 .taken in
     (omega arith, omega (arith, there _ _ _ l), rw (← c .before .before .before .loop .inv .1, passes _ _ _ _ l, c .if2 .taken))
 
 sub-tails : tie.Need-sub-tails Inv-loop μ-loop
@@ -52,7 +47,8 @@ loop-less c = omega arith
 
 loop-again : tie.Need-loop-again Inv-loop μ-loop
 loop-again c =
-    (omega arith, rw (← one-tail _ (c .if2 .left)) (sym (passes _ _ _ _ (lies (c .before))) ∙ c .before .before .before .loop .inv .1))
+    let l = sym (c .before .before .lies-at .ensures) ∙ c .before .if1 .taken in
+    (omega arith, rw (← one-tail _ (c .if2 .left)) (sym (passes _ _ _ _ l) ∙ c .before .before .before .loop .inv .1))
 
 returns-2 : tie.Need-returns-2 Inv-loop μ-loop
 returns-2 c = sym (c .before .before .loop .inv .1) ∙ stops _ _ _ _ (sym (c .before .lies-at .ensures) ∙ c .if1 .left)

@@ -1,12 +1,12 @@
 -- `utf8::is_utf8` meets its contract. The loop's invariant: a character may begin at `i`, and the text from there on answers for the whole.
--- The measure is what is left of the length. Rests on `ascii` and `begun`, what a character's first byte does.
+-- The measure is what is left of the length. Rests on `ascii-byte` and `first-byte`, what a character's first byte does.
 use Prim.Native.Nat.{_-_, _≤_}
 use native.Mathlib.Omega.{arith}
 use mathlib.Core.Path.{_≡_, refl, sym, _∙_}
 use borrow.Author.Needs.{needs}
 use lib.ListN.{length, drop, drop-of-length-le}
 use Rattle.utf8.specs.Utf8.{utf8From, utf8}
-use Rattle.utf8.proofs.Bytes.{begun, ascii}
+use Rattle.utf8.proofs.Bytes.{first-byte, ascii-byte}
 use Rattle.utf8.proofs.is_utf8.Statement.{statement}
 use Rattle.utf8.proofs.is_utf8.Tie as tie
 
@@ -29,7 +29,7 @@ loop-less : tie.Need-loop-less Inv-loop μ-loop
 loop-less c = omega arith
 
 loop-again : tie.Need-loop-again Inv-loop μ-loop
-loop-again c = (omega arith, ascii _ _ (c .before .before .loop-test .taken) (omega arith) ∙ c .before .before .before .loop .inv .1)
+loop-again c = (omega arith, ascii-byte _ _ (c .before .before .loop-test .taken) (omega arith) ∙ c .before .before .before .loop .inv .1)
 
 add-end-of : tie.Need-add-end-of Inv-loop μ-loop
 add-end-of c = omega arith
@@ -47,7 +47,8 @@ returns : tie.Need-returns Inv-loop μ-loop
 returns c =
     let r = c .before .before .before in
     let l = r .before .before .before in
-    sym (rw (c .enum-told .given .1) at (c .before .before .end-of .ensures)) ∙ begun _ _ (l .loop-test .taken) _ (r .rest-of .ensures) ∙ l .before .loop .inv .1
+    let e = rw (c .enum-told .given .1) at (c .before .before .end-of .ensures) in
+    sym e ∙ first-byte _ _ (l .loop-test .taken) _ (r .rest-of .ensures) ∙ l .before .loop .inv .1
 
 enum-known-at : tie.Need-enum-known-at Inv-loop μ-loop
 enum-known-at c = search needs
@@ -60,7 +61,7 @@ loop-again-2 c =
     let r = c .before .before .before .before in
     let l = r .before .before .before in
     let e = rw (c .before .at .given .1) at (c .before .before .before .end-of .ensures) in
-    (e .1, sym (e .2) ∙ begun _ _ (l .loop-test .taken) _ (r .rest-of .ensures) ∙ l .before .loop .inv .1)
+    (e .1, sym (e .2) ∙ first-byte _ _ (l .loop-test .taken) _ (r .rest-of .ensures) ∙ l .before .loop .inv .1)
 
 returns-2 : tie.Need-returns-2 Inv-loop μ-loop
 unfolding utf8 utf8From

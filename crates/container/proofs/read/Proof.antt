@@ -1,0 +1,52 @@
+use Rattle.container.specs.Container.{readAt}
+use borrow.Author.Needs.{needs}
+use Rattle.container.proofs.read.Statement.{statement}
+use Rattle.container.proofs.read.Tie as tie
+use Rattle.container.proofs.read.Reads as reads
+use Rattle.container.proofs.read.Lts as lts
+use Rattle.header.proofs.read_header.Reads as read-header-reads
+use Rattle.section.proofs.read_section.Reads as read-section-reads
+
+read-header-requires : tie.Need-read-header-requires
+read-header-requires c κs = search needs
+
+enum-known-f : tie.Need-enum-known-f
+enum-known-f c = search needs
+
+enum-known-h : tie.Need-enum-known-h
+enum-known-h c = search needs
+
+read-section-requires : tie.Need-read-section-requires
+read-section-requires c κs = search needs
+
+enum-known-f-2 : tie.Need-enum-known-f-2
+enum-known-f-2 c = search needs
+
+enum-known-x : tie.Need-enum-known-x
+enum-known-x c = search needs
+
+returns : tie.Need-returns
+unfolding readAt
+returns c = rw (← c .before .before .before .read-header .ensures, c .before .f .given .1)
+
+returns-2 : tie.Need-returns-2
+unfolding readAt
+returns-2 c = rw (← c .before .before .before .before .before .before .before .read-header .ensures, c .before .before .before .before .before .h .given .1, ← c .before .before .before .read-section .ensures, c .before .f2 .given .1)
+
+returns-3 : tie.Need-returns-3
+unfolding readAt
+returns-3 c = rw (← c .before .before .before .before .before .before .before .read-header .ensures, c .before .before .before .before .before .h .given .1, ← c .before .before .before .read-section .ensures, c .before .x .given .1)
+
+pub read-spec : {M : Type 1} → statement M
+read-spec =
+    tie.close
+    (tie.spec
+    read-header-requires
+    enum-known-f
+    enum-known-h
+    read-section-requires
+    enum-known-f-2
+    enum-known-x
+    returns
+    returns-2
+    returns-3)

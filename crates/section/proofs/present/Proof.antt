@@ -1,0 +1,17 @@
+use borrow.Author.Tests.{eq-eqb, ne-eqb}
+use Rattle.section.specs.Section.{presentOf}
+use Rattle.section.proofs.present.Statement.{statement}
+use Rattle.section.proofs.present.Tie as tie
+use Rattle.section.proofs.present.Reads as reads
+use Rattle.section.proofs.present.Lts as lts
+
+returns : tie.Need-returns
+unfolding presentOf
+returns c = rw (eq-eqb _ _ (c .if1 .taken))
+
+returns-2 : tie.Need-returns-2
+unfolding presentOf
+returns-2 c = rw (ne-eqb _ _ (c .if1 .left))
+
+pub present-spec : {M : Type 1} → statement M
+present-spec = tie.close (tie.spec returns returns-2)

@@ -1,0 +1,49 @@
+use Rattle.section.specs.Section.{sectionAt}
+use borrow.Author.Needs.{needs}
+use Rattle.section.proofs.read_section.Statement.{statement}
+use Rattle.section.proofs.read_section.Tie as tie
+use Rattle.section.proofs.read_section.Reads as reads
+use Rattle.section.proofs.read_section.Lts as lts
+use Rattle.names.proofs.Cipher.is_none.Reads as is-none-reads
+use Rattle.section.proofs.read_encrypted.Reads as read-encrypted-reads
+use Rattle.section.proofs.read_plain.Reads as read-plain-reads
+
+is-none-requires : tie.Need-is-none-requires
+is-none-requires c κs = search needs
+
+enum-told : tie.Need-enum-told
+enum-told c = search needs
+
+read-plain-requires : tie.Need-read-plain-requires
+read-plain-requires c κs = search needs
+
+returns : tie.Need-returns
+unfolding sectionAt
+returns c = rw (← c .before .before .before .before .is-none .ensures, c .before .before .before .if1 .taken, c .before .enum-told .given .1) (c .read-plain .ensures)
+
+enum-told-2 : tie.Need-enum-told-2
+enum-told-2 c = search needs
+
+returns-2 : tie.Need-returns-2
+unfolding sectionAt
+returns-2 c = rw (← c .before .before .before .is-none .ensures, c .before .before .if1 .taken, c .enum-told2 .given .1)
+
+read-encrypted-requires : tie.Need-read-encrypted-requires
+read-encrypted-requires c κs = search needs
+
+returns-3 : tie.Need-returns-3
+unfolding sectionAt
+returns-3 c = rw (← c .before .before .is-none .ensures, c .before .if1 .left) (c .read-encrypted .ensures)
+
+pub read-section-spec : {M : Type 1} → statement M
+read-section-spec =
+    tie.close
+    (tie.spec
+    is-none-requires
+    enum-told
+    read-plain-requires
+    returns
+    enum-told-2
+    returns-2
+    read-encrypted-requires
+    returns-3)
