@@ -38,10 +38,7 @@ fn read_magic(image: &[u8]) -> Field
     ensures { λ r. ⌜ r ≡ magicAt (now (image .entry)) ⌝ }
 {
     let end = image.len();
-    let whole = Cursor {
-        at: 0,
-        end: end,
-    };
+    let whole = Cursor { at: 0, end: end };
     match whole.bytes(image, 15) {
         Field::Refused(f) => Field::Refused(f),
         Field::Part(p, d) => {

@@ -1,0 +1,15 @@
+use borrow.Author.Needs.{needs}
+use Rattle.container.proofs.needs_leading_zero.Statement.{statement}
+use Rattle.container.proofs.needs_leading_zero.Tie as tie
+use Rattle.container.proofs.needs_leading_zero.Reads as reads
+use Rattle.container.proofs.needs_leading_zero.Lts as lts
+use Rattle.container.proofs.byte.Reads as byte-reads
+
+byte-requires : tie.Need-byte-requires
+byte-requires c κs = search needs
+
+returns : tie.Need-returns
+returns c = rw (c .byte .ensures)
+
+pub needs-leading-zero-spec : {M : Type 1} → statement M
+needs-leading-zero-spec = tie.close (tie.spec byte-requires returns)

@@ -1,0 +1,43 @@
+-- Document 01, 'Writing': an image is in the writer's form if writing its record with its own checkint gives it back.
+use Prim.Native.Nat.{ℕ, _-_}
+use mathlib.Core.Bool.{Bool, true, cond, not}
+use mathlib.Core.List.{List}
+use lib.ListN.{getD}
+use lib.Dec.{eqb, leb}
+use Rattle.fields.specs.Bytes.{sameBytes}
+use Rattle.fields.specs.Fields.{viewOf}
+use Rattle.fields.specs.declared.Part.{Part}
+use Rattle.format.specs.Format.{standing, needsLeadingZero, plainImage}
+use Rattle.keys.specs.Keys.{onAlgorithm}
+use Rattle.section.specs.declared.Kind.{Kind}
+use Rattle.section.specs.declared.Kind.the-variants.{Plain, Encrypted}
+use Rattle.container.specs.declared.Fields.{Fields}
+
+abbrev pub onKind : {R : Type 0} → Kind → R → R → R
+onKind Plain plain encrypted = plain
+onKind Encrypted plain encrypted = encrypted
+
+-- the image that the writer makes of a plain record, with the record's own checkint
+unfoldable pub writtenAgain : List ℕ → Fields → List ℕ
+writtenAgain s f =
+    plainImage (f .section .checkint) (f .header .algorithm) (viewOf s (f .header .point))
+    (standing (needsLeadingZero (f .header .algorithm) (viewOf s (f .section .scalar))) (viewOf s (f .section .scalar)))
+    (viewOf s (f .section .comment))
+
+-- every encrypted image is in the form
+unfoldable pub formOf : List ℕ → Fields → Bool
+formOf s f = onKind (f .section .kind) (sameBytes (writtenAgain s f) s) true
+
+-- ---- the form by the scalar alone, which is what the code looks at; `form-scalar` says that it is the same
+
+-- the byte before a part is zero
+unfoldable pub afterZero : List ℕ → Part → Bool
+afterZero s p = eqb (getD s (p .start - 1) 0) 0
+
+-- a zero stands before the scalar exactly if its first byte is 0x80 or more; a seed always stands right
+unfoldable pub scalarInForm : List ℕ → Fields → Bool
+scalarInForm s f =
+    onKind (f .section .kind)
+    (onAlgorithm (f .header .algorithm) true (λ k.
+    cond (leb 0x80 (getD (viewOf s (f .section .scalar)) 0 0)) (afterZero s (f .section .scalar)) (not (afterZero s (f .section .scalar)))))
+    true
