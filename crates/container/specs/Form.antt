@@ -1,14 +1,13 @@
 -- Document 01, 'Writing': an image is in the writer's form if writing its record with its own checkint gives it back.
-use Prim.Native.Nat.{ℕ, _-_}
+use Prim.Native.Nat.{ℕ}
 use mathlib.Core.Bool.{Bool, true, cond, not}
 use mathlib.Core.List.{List}
 use lib.ListN.{getD}
-use lib.Dec.{eqb, leb}
+use lib.Dec.{leb}
 use Rattle.fields.specs.Bytes.{sameBytes}
 use Rattle.fields.specs.Fields.{viewOf}
-use Rattle.fields.specs.declared.Part.{Part}
 use Rattle.format.specs.Format.{standing, needsLeadingZero, plainImage}
-use Rattle.keys.specs.Keys.{onAlgorithm}
+use Rattle.keys.specs.Keys.{onAlgorithm, afterZero}
 use Rattle.section.specs.declared.Kind.{Kind}
 use Rattle.section.specs.declared.Kind.the-variants.{Plain, Encrypted}
 use Rattle.container.specs.declared.Fields.{Fields}
@@ -29,10 +28,6 @@ unfoldable pub formOf : List ℕ → Fields → Bool
 formOf s f = onKind (f .section .kind) (sameBytes (writtenAgain s f) s) true
 
 -- ---- the form by the scalar alone, which is what the code looks at; `form-scalar` says that it is the same
-
--- the byte before a part is zero
-unfoldable pub afterZero : List ℕ → Part → Bool
-afterZero s p = eqb (getD s (p .start - 1) 0) 0
 
 -- a zero stands before the scalar exactly if its first byte is 0x80 or more; a seed always stands right
 unfoldable pub scalarInForm : List ℕ → Fields → Bool

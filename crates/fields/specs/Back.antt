@@ -26,6 +26,7 @@ pub record FieldBack (s : List ℕ) (w : Field) (b t : List ℕ) : Type 0 where
   pub read : w ≡ field.Part place next
   pub seen : viewOf s place ≡ b
   pub size : place .length ≡ length b
+  pub inside : place .start + place .length ≤ length s
   pub good : Good s next
   pub more : rest s next ≡ t
 
@@ -60,6 +61,7 @@ module _ (s : List ℕ) (c : Cursor) (good : Good s c) where
         read = rw (room-is s c (length b) room);
         seen = k .0;
         size = refl;
+        inside = omega arith;
         good = omega arith;
         more = k .1;
       }
@@ -76,6 +78,7 @@ module _ (s : List ℕ) (c : Cursor) (good : Good s c) (b t : List ℕ) (short :
         read = rw (u .read, k .read);
         seen = k .seen;
         size = k .size;
+        inside = k .inside;
         good = k .good;
         more = k .more;
       }
@@ -90,6 +93,7 @@ module _ (s : List ℕ) (c : Cursor) (good : Good s c) (b t : List ℕ) (short :
         read = rw (a .read, le-ltb (a .place .length) k (omega arith), le-ltb k (a .place .length) (omega arith));
         seen = a .seen;
         size = a .size;
+        inside = a .inside;
         good = a .good;
         more = a .more;
       }

@@ -1,12 +1,12 @@
 -- Inversion: a field that was read stands at its place as the bytes that it is written as, and then comes what is left.
-use Prim.Native.Nat.{ℕ, _+_, _≤_, _<_, _^_}
+use Prim.Native.Nat.{ℕ, _+_, _-_, _≤_, _<_, _^_}
 use native.Mathlib.Omega.{arith}
 use mathlib.Core.Path.{_≡_, refl, sym, _∙_, ap}
 use mathlib.Core.Bool.{true, false, cond}
 use mathlib.Core.List.{List, [], _++_, append-assoc}
 use borrow.Author.Tests.{ltb-false}
 use lib.Dec.{ltb}
-use lib.ListN.{length}
+use lib.ListN.{length, getD}
 use Rattle.fields.specs.declared.Cursor.{Cursor}
 use Rattle.fields.specs.declared.Part.{Part}
 use Rattle.fields.specs.declared.Uint32.the-variants as answer
@@ -14,7 +14,7 @@ use Rattle.fields.specs.declared.Field.the-variants as field
 use Rattle.fields.specs.declared.Ending.the-variants as ending
 use Rattle.fields.specs.declared.Refusal.the-variants.{TrailingData}
 use Rattle.fields.specs.Bytes.{uint32, string, AllBytes}
-use Rattle.fields.specs.Fields.{fault, numberAt, part, moved, uint32At, bytesAt, stringAt, endAt, viewOf}
+use Rattle.fields.specs.Fields.{number4, part, moved, uint32At, bytesAt, stringAt, endAt, viewOf}
 use Rattle.fields.specs.Room.{Room}
 use Rattle.fields.specs.Place.{clash, by-bool, uint32-place, bytes-place, string-place, StringPlace}
 use Rattle.fields.specs.Rest.{rest, Good, rest-split, rest-four, rest-end, length-part, view-length, number-at-fits, number-at-digits}
@@ -64,6 +64,17 @@ string-read s all c p d e =
       fits = omega (arith, u .1);
       place = k;
     }
+
+-- the byte before a short string is its length
+number-low : (a b c d n : ℕ) → number4 a b c d ≡ n → n < 256 → d ≡ n
+number-low a b c d n e h = omega arith
+
+pub length-byte : (s : List ℕ) (c : Cursor) (p : Part) (d : Cursor) → stringAt s c ≡ field.Part p d → p .length < 256 → getD s (p .start - 1) 0 ≡ p .length
+length-byte s c p d e h =
+    let k = string-place s c p d e in
+    let u = uint32-place s c (p .length) (k .body) (k .length) in
+    let i : p .start - 1 ≡ c .at + 3 = omega (arith, k .placed .start) in
+    ap (λ (j : ℕ). getD s j 0) i ∙ number-low (getD s (c .at) 0) (getD s (c .at + 1) 0) (getD s (c .at + 2) 0) (getD s (c .at + 3) 0) (p .length) (u .number) h
 
 -- nothing is left at a clean end
 pub end-read : (s : List ℕ) (c : Cursor) → endAt c ≡ ending.Clean → (rest s c ≡ []) × (c .end ≤ c .at)

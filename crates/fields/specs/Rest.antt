@@ -1,6 +1,6 @@
 -- The bytes from a place to the end of its part, taken apart; a uint32's digits.
 use Prim.Native.Nat.{ℕ, _+_, _-_, _*_, _/_, _%_, _≤_, _<_, _^_}
-use native.Mathlib.Nat.{add-zero, div-div-eq-div-mul, div-add-mod', mod-eq-of-lt}
+use native.Mathlib.Nat.{add-assoc, div-div-eq-div-mul, div-add-mod', mod-eq-of-lt}
 use native.Mathlib.Numerals.{add-one}
 use native.Mathlib.Omega.{arith}
 use mathlib.Core.Path.{_≡_, refl, sym, _∙_, ap}
@@ -47,6 +47,13 @@ module _ (s : List ℕ) (c : Cursor) (k : ℕ) (room : Room s c k) where
 rest-one : (s : List ℕ) (i j e : ℕ) → j ≡ i + 1 → i < e → e ≤ length s → slice i e s ≡ getD s i 0 ∷ slice j e s
 rest-one s i j e q h k = rw (q, add-one, slice-cons i e s 0 h k)
 
+-- a part's first byte, and the others
+pub view-cons : (s : List ℕ) (a n : ℕ) → a + (n + 1) ≤ length s → viewOf s (part a (n + 1)) ≡ getD s a 0 ∷ viewOf s (part (a + 1) n)
+view-cons s a n h =
+    let ends : a + (n + 1) ≡ a + 1 + n = omega arith in
+    view-in s (part a (n + 1)) h ∙ rest-one s a (a + 1) (a + (n + 1)) refl (omega arith) h
+    ∙ ap (λ (x : List ℕ). getD s a 0 ∷ x) (ap (λ (e : ℕ). slice (a + 1) e s) ends ∙ sym (view-in s (part (a + 1) n) (omega arith)))
+
 -- four bytes of what is left
 module _ (s : List ℕ) (c : Cursor) (room : Room s c 4) where
   pub rest-four : rest s c ≡ getD s (c .at) 0 ∷ getD s (c .at + 1) 0 ∷ getD s (c .at + 2) 0 ∷ getD s (c .at + 3) 0 ∷ rest s (moved c 4)
@@ -76,6 +83,19 @@ module _ (s : List ℕ) (c : Cursor) (good : Good s c) where
       let y = rest s (moved c (length b)) in
       (sym (take-at x y _ l) ∙ ap (take (length b)) q ∙ take-at b t _ refl, sym (drop-at x y _ l) ∙ ap (drop (length b)) q ∙ drop-at b t _ refl)
 
+-- a part whose bytes are two lists is two parts
+pub view-two :
+    (s : List ℕ) (p : Part) (m n : ℕ) (x y : List ℕ) → p .start + p .length ≤ length s → p .length ≡ m + n → length x ≡ m → viewOf s p ≡ x ++ y
+    → (viewOf s (part (p .start) m) ≡ x) × (viewOf s (part (p .start + m) n) ≡ y)
+view-two s p m n x y h l lx e =
+    let k = rest-back s (within p) (omega arith) x y (rest-within s p h ∙ e) in
+    let ends : p .start + m + n ≡ p .start + p .length = omega arith in
+    (
+      ap (λ (i : ℕ). viewOf s (part (p .start) i)) (sym lx) ∙ k .0,
+      view-in s (part (p .start + m) n) (omega arith) ∙ ap (λ (i : ℕ). slice (p .start + m) i s) ends
+      ∙ ap (λ (i : ℕ). slice (p .start + i) (p .start + p .length) s) (sym lx) ∙ k .1,
+    )
+
 -- a byte of a part
 pub view-byte : (s : List ℕ) (p : Part) (i : ℕ) → p .start + p .length ≤ length s → i < p .length → getD (viewOf s p) i 0 ≡ getD s (p .start + i) 0
 view-byte s p i h k =
@@ -84,6 +104,15 @@ view-byte s p i h k =
 
 pub view-length : (s : List ℕ) (p : Part) → p .start + p .length ≤ length s → length (viewOf s p) ≡ p .length
 view-length s p h = ap length (view-in s p h) ∙ length-slice (p .start) (p .start + p .length) s h ∙ omega arith
+
+-- a part in two
+pub view-split :
+    (s : List ℕ) (a m n : ℕ) → a + (m + n) ≤ length s → viewOf s (part a (m + n)) ≡ viewOf s (part a m) ++ viewOf s (part (a + m) n)
+view-split s a m n h =
+    let c : Cursor = record { at = a; end = a + (m + n) } in
+    view-in s (part a (m + n)) h ∙ rest-split s c m (omega arith)
+    ∙ ap (λ (x : List ℕ). viewOf s (part a m) ++ x)
+    (ap (λ (e : ℕ). slice (a + m) e s) (sym (add-assoc a m n)) ∙ sym (view-in s (part (a + m) n) (omega arith)))
 
 -- ---- digits
 

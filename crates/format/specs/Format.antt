@@ -1,9 +1,9 @@
 -- The container as a list of fields joined: OpenSSH's PROTOCOL.key, and document 01's 'Bytes of the container', 'Plain section'
 -- and 'Keys'. The scalar is a parameter as it stands in the image, so that both of its readable forms are written here.
-use Prim.Native.Nat.{ℕ, _+_, _-_, _%_}
-use mathlib.Core.Bool.{Bool, true, false}
+use Prim.Native.Nat.{ℕ, _+_, _-_, _*_, _%_}
+use mathlib.Core.Bool.{Bool, true, false, not}
 use mathlib.Core.List.{List, [], _∷_, _++_}
-use lib.Dec.{leb}
+use lib.Dec.{leb, eqb}
 use lib.ListN.{length, take, getD}
 use Rattle.fields.specs.Bytes.{ascii, uint32, string, join}
 use Rattle.names.specs.declared.Cipher.{Cipher}
@@ -13,7 +13,7 @@ use Rattle.names.specs.declared.Kdf.the-variants as kdf
 use Rattle.names.specs.declared.Algorithm.{Algorithm}
 use Rattle.names.specs.declared.Algorithm.the-variants.{Ed25519, Ecdsa}
 use Rattle.names.specs.Ciphers.{cipherName, kdfName}
-use Rattle.names.specs.Algorithms.{algorithmName, curveName}
+use Rattle.names.specs.Algorithms.{algorithmName, curveName, sizeOf}
 
 -- AUTH_MAGIC: 15 bytes, the last of them zero
 abbrev pub magic : List ℕ
@@ -29,6 +29,20 @@ abbrev pub curveField : Algorithm → List ℕ
 curveField Ed25519 = []
 curveField (Ecdsa curve) = string (curveName curve)
 
+-- the lengths of a public string or point, and of a seed or scalar
+abbrev pub publicLength : Algorithm → ℕ
+publicLength Ed25519 = 32
+publicLength (Ecdsa curve) = 1 + 2 * sizeOf curve
+
+abbrev pub privateLength : Algorithm → ℕ
+privateLength Ed25519 = 32
+privateLength (Ecdsa curve) = sizeOf curve
+
+-- an uncompressed point begins with 4
+abbrev pub pointTag : Algorithm → List ℕ → Bool
+pointTag Ed25519 point = true
+pointTag (Ecdsa curve) point = eqb (getD point 0 0) 4
+
 -- a public key: the algorithm's name, then Ed25519's public string, or curve and point
 unfoldable pub blob : Algorithm → List ℕ → List ℕ
 blob a point = join (string (algorithmName a) ∷ curveField a ∷ string point ∷ [])
@@ -42,6 +56,11 @@ privateField (Ecdsa curve) point stored = string stored
 abbrev pub standing : Bool → List ℕ → List ℕ
 standing false scalar = scalar
 standing true scalar = 0 ∷ scalar
+
+-- only a scalar may stand after a zero
+abbrev pub mayStand : Algorithm → Bool → Bool
+mayStand Ed25519 zero = not zero
+mayStand (Ecdsa curve) zero = true
 
 -- the writer's rule: a zero exactly if the scalar's first byte is 0x80 or more; a seed has none
 abbrev pub needsLeadingZero : Algorithm → List ℕ → Bool

@@ -1,7 +1,7 @@
 -- Document 01, 'Keys': what reading a public key, a public blob and a keypair finds, in its order.
-use Prim.Native.Nat.{ℕ, _+_, _*_}
+use Prim.Native.Nat.{ℕ, _+_, _-_, _*_}
 use mathlib.Core.List.{List}
-use mathlib.Core.Bool.{cond}
+use mathlib.Core.Bool.{Bool, cond}
 use lib.ListN.{getD}
 use lib.Dec.{eqb}
 use Rattle.fields.specs.Bytes.{sameBytes}
@@ -127,3 +127,7 @@ keypairAt s c =
     onField (stringAt s c) keypair.Refused (λ name d.
     onAlgorithmName (algorithmNamed (viewOf s name)) (keypair.Refused (fault AlgorithmUnknown (c .at))) (λ a.
     onAlgorithm a (ed25519PairAt s d) (ecdsaPairAt s d)))
+
+-- the byte before a part is zero
+unfoldable pub afterZero : List ℕ → Part → Bool
+afterZero s p = eqb (getD s (p .start - 1) 0) 0

@@ -2,7 +2,7 @@
 use Prim.Native.Nat.{ℕ, zero, suc, _<_, _^_}
 use native.Mathlib.Omega.{arith}
 use mathlib.Core.Path.{_≡_, refl, sym, _∙_, ap}
-use mathlib.Core.Bool.{Bool}
+use mathlib.Core.Bool.{Bool, true}
 use mathlib.Core.List.{List, [], _∷_, _++_}
 use borrow.Author.Tests.{eq-eqb, eqb-true}
 use lib.Dec.{eqb}
@@ -101,5 +101,13 @@ code-back (Ecdsa Nistp256) = refl
 code-back (Ecdsa Nistp384) = refl
 code-back (Ecdsa Nistp521) = refl
 
-pub code-same : (a b : Algorithm) → algorithmCode a ≡ algorithmCode b → a ≡ b
+code-same : (a b : Algorithm) → algorithmCode a ≡ algorithmCode b → a ≡ b
 code-same a b e = sym (code-back a) ∙ ap algorithmOf e ∙ code-back b
+
+pub algorithm-self : (a : Algorithm) → sameAlgorithm a a ≡ true
+unfolding sameAlgorithm
+algorithm-self a = eq-eqb (algorithmCode a) (algorithmCode a) refl
+
+pub algorithm-same : (a b : Algorithm) → sameAlgorithm a b ≡ true → a ≡ b
+unfolding sameAlgorithm
+algorithm-same a b e = code-same a b (eqb-true _ _ e)

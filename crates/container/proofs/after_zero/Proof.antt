@@ -1,4 +1,4 @@
-use Rattle.container.specs.Form.{afterZero}
+use Rattle.keys.specs.Keys.{afterZero}
 use borrow.Author.Needs.{needs}
 use Rattle.container.proofs.after_zero.Statement.{statement}
 use Rattle.container.proofs.after_zero.Tie as tie
