@@ -37,6 +37,10 @@ absent = part 0 0
 abbrev pub moved : Cursor → ℕ → Cursor
 moved c k = record { at = c .at + k; end = c .end }
 
+-- the image's beginning, up to its end
+abbrev pub whole : List ℕ → Cursor
+whole s = record { at = 0; end = length s }
+
 -- the place at which a part begins, up to the part's end
 abbrev pub within : Part → Cursor
 within p = record { at = p .start; end = p .start + p .length }

@@ -6,11 +6,11 @@ use native.Mathlib.Omega.{arith}
 use mathlib.Core.Path.{_≡_, refl, sym, _∙_, ap}
 use mathlib.Core.List.{List, [], _∷_, _++_}
 use lib.ListN.{length, getD, take, drop, length-append, length-take, take-append-drop, drop-of-length-le}
-use lib.Seq.{slice, slice-cons, length-slice, drop-append-le, length-take-le, take-take, take-at, drop-at, getD-take, getD-drop}
+use lib.Seq.{slice, slice-cons, length-slice, drop-append-le, length-take-le, take-take, take-at, drop-at, take-length, getD-take, getD-drop}
 use Rattle.fields.specs.declared.Cursor.{Cursor}
 use Rattle.fields.specs.declared.Part.{Part}
 use Rattle.fields.specs.Bytes.{uint32, string, AllBytes}
-use Rattle.fields.specs.Fields.{number4, numberAt, part, moved, within, viewOf}
+use Rattle.fields.specs.Fields.{number4, numberAt, part, absent, moved, whole, within, viewOf}
 use Rattle.fields.specs.Room.{Room, view-in}
 
 -- the bytes from the place to its end
@@ -23,6 +23,13 @@ Good s c = (c .at ≤ c .end) × (c .end ≤ length s)
 
 pub rest-within : (s : List ℕ) (p : Part) → p .start + p .length ≤ length s → rest s (within p) ≡ viewOf s p
 rest-within s p h = sym (view-in s p h)
+
+pub rest-whole : (s : List ℕ) → rest s (whole s) ≡ s
+rest-whole s = take-length s
+
+-- a field that is absent has no bytes
+pub view-absent : (s : List ℕ) → viewOf s absent ≡ []
+view-absent s = view-in s absent (omega arith)
 
 pub rest-end : (s : List ℕ) (c : Cursor) → c .end ≤ c .at → rest s c ≡ []
 rest-end s c h =

@@ -1,6 +1,7 @@
 -- The container as a list of fields joined: OpenSSH's PROTOCOL.key, and document 01's 'Bytes of the container', 'Plain section'
 -- and 'Keys'. The scalar is a parameter as it stands in the image, so that both of its readable forms are written here.
-use Prim.Native.Nat.{ℕ, _+_, _-_, _*_, _%_}
+use Prim.Native.Nat.{ℕ, _+_, _-_, _*_, _%_, _<_, _^_}
+use mathlib.Core.Path.{_≡_}
 use mathlib.Core.Bool.{Bool, true, false, not}
 use mathlib.Core.List.{List, [], _∷_, _++_}
 use lib.Dec.{leb, eqb}
@@ -16,13 +17,18 @@ use Rattle.names.specs.Ciphers.{cipherName, kdfName}
 use Rattle.names.specs.Algorithms.{algorithmName, curveName, sizeOf}
 
 -- AUTH_MAGIC: 15 bytes, the last of them zero
-abbrev pub magic : List ℕ
+unfoldable pub magic : List ℕ
 magic = ascii "openssh-key-v1" ++ 0 ∷ []
 
 -- the KDF's options: none has none, bcrypt a salt and the rounds
 abbrev pub options : Kdf → List ℕ → ℕ → List ℕ
 options kdf.None salt rounds = []
 options kdf.Bcrypt salt rounds = string salt ++ uint32 rounds
+
+-- `none` has no salt and no rounds; bcrypt's rounds are a uint32
+abbrev pub OptionsFit : Kdf → List ℕ → ℕ → Type 0
+OptionsFit kdf.None salt rounds = (salt ≡ []) × (rounds ≡ 0)
+OptionsFit kdf.Bcrypt salt rounds = rounds < 2 ^ 32
 
 -- only ECDSA keys name their curve
 abbrev pub curveField : Algorithm → List ℕ

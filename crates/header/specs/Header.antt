@@ -5,7 +5,7 @@ use mathlib.Core.Bool.{cond}
 use lib.ListN.{length}
 use lib.Dec.{eqb, ltb}
 use Rattle.fields.specs.Bytes.{sameBytes}
-use Rattle.fields.specs.Fields.{fault, absent, within, onField, onUint32, onEnding, uint32At, bytesAt, stringAt, endAt, viewOf}
+use Rattle.fields.specs.Fields.{fault, absent, whole, within, onField, onUint32, onEnding, uint32At, bytesAt, stringAt, endAt, viewOf}
 use Rattle.fields.specs.declared.Cursor.{Cursor}
 use Rattle.fields.specs.declared.Fault.{Fault}
 use Rattle.fields.specs.declared.Part.{Part}
@@ -67,7 +67,7 @@ onHeaderRead (header-read.Header h) refused read = read h
 -- 1. magic, 15 bytes. Fewer than 15 bytes: 1. Other bytes: 2. Both belong to the whole image.
 unfoldable pub magicAt : List ℕ → Field
 magicAt s =
-    onField (bytesAt s (record { at = 0; end = length s }) 15) field.Refused (λ p c.
+    onField (bytesAt s (whole s) 15) field.Refused (λ p c.
     cond (sameBytes (viewOf s p) magic) (field.Part p c) (field.Refused (fault FormatEncoding 0)))
 
 -- First, above 65,535 bytes: 11. 1. Magic. 2. Cipher name; unknown: 4.

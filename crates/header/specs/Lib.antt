@@ -1,1 +1,4 @@
 pub mod Header
+pub mod Place
+pub mod Back
+pub mod Read

@@ -1,3 +1,4 @@
+use Rattle.format.specs.Format.{magic}
 use Rattle.header.specs.Header.{magicAt}
 use borrow.Author.Needs.{needs}
 use Rattle.header.proofs.read_magic.Statement.{statement}
@@ -27,15 +28,15 @@ same-requires : tie.Need-same-requires
 same-requires c κs = search needs
 
 returns : tie.Need-returns
-unfolding magicAt
+unfolding magicAt magic
 returns c = rw (← c .before .before .before .before .before .before .before .bytes .ensures, c .before .before .before .before .before .p .given .1, ← c .before .before .before .view .ensures .0, ← c .before .same .ensures, c .if1 .taken)
 
 returns-2 : tie.Need-returns-2
-unfolding magicAt
+unfolding magicAt magic
 returns-2 c = rw (← c .before .before .before .bytes .ensures, c .before .f .given .1)
 
 returns-3 : tie.Need-returns-3
-unfolding magicAt
+unfolding magicAt magic
 returns-3 c = rw (← c .before .before .before .before .before .before .before .bytes .ensures, c .before .before .before .before .before .p .given .1, ← c .before .before .before .view .ensures .0, ← c .before .same .ensures, c .if1 .left)
 
 pub read-magic-spec : {M : Type 1} → statement M

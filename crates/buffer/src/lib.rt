@@ -1,0 +1,56 @@
+// Writing into a lent buffer. A put writes all of its bytes at a place and answers the place past them;
+// where they don't fit it changes nothing and answers the place that it was given.
+ghost use mathlib.Core.Path.{_≡_};
+ghost use Prim.Native.Nat.{_≤_};
+ghost use lib.ListN.{length, drop};
+ghost use Rattle.buffer.specs.Decimal.{lastDigit, decimal};
+ghost use Rattle.buffer.specs.Puts.{isPut};
+
+pub fn put(out: &mut [u8], at: usize, bytes: &[u8]) -> usize
+    ensures { λ r. ⌜ isPut (now (out .entry)) at (now (bytes .entry)) r (now (out .exit)) ⌝ }
+{
+    if out.len() < at {
+        return at;
+    }
+    if out.len() - at < bytes.len() {
+        return at;
+    }
+    let mut i: usize = 0;
+    while i < bytes.len() {
+        out[at + i] = bytes[i];
+        i += 1;
+    }
+    at + i
+}
+
+// The last digit of a number.
+fn last_digit(n: usize) -> u8
+    ensures { λ r. ⌜ r ≡ lastDigit n ⌝ }
+{
+    48 + (n % 10) as u8
+}
+
+// Writes the digits of a number at the end of a text that has room for any, and answers where they begin.
+fn spell(n: usize, text: &mut [u8]) -> usize
+    requires { ⌜ length (now text) ≡ 20 ⌝ }
+    ensures { λ r. ⌜ (r ≤ 20) × (length (now (text .exit)) ≡ 20) × (drop r (now (text .exit)) ≡ decimal n) ⌝ }
+{
+    let mut i: usize = 19;
+    let mut rest = n / 10;
+    text[19] = last_digit(n);
+    while 0 < rest {
+        i -= 1;
+        text[i] = last_digit(rest);
+        rest = rest / 10;
+    }
+    i
+}
+
+// A number in decimal digits.
+pub fn put_decimal(out: &mut [u8], at: usize, n: usize) -> usize
+    ensures { λ r. ⌜ isPut (now (out .entry)) at (decimal n) r (now (out .exit)) ⌝ }
+{
+    let mut text = [0u8; 20];
+    let start = spell(n, &mut text);
+    put(out, at, &text[start..])
+}

@@ -1,0 +1,185 @@
+-- Inversion: an image whose header was read begins with that header as the format writes it.
+use Prim.Native.Nat.{ℕ, _≤_}
+use native.Mathlib.Omega.{arith}
+use mathlib.Core.Path.{_≡_, refl, sym, _∙_, ap}
+use mathlib.Core.Bool.{true}
+use mathlib.Core.List.{List, [], _∷_, _++_, append-nil}
+use lib.ListN.{length}
+use lib.Seq.{slice}
+use Rattle.fields.specs.Bytes.{uint32, string, AllBytes}
+use Rattle.fields.specs.Fields.{absent, whole, within, uint32At, viewOf}
+use Rattle.fields.specs.Place.{clash, by-uint32, string-place}
+use Rattle.fields.specs.Rest.{rest, rest-whole, rest-within, view-absent, view-length}
+use Rattle.fields.specs.Read.{bytes-read, string-read, uint32-read, end-read}
+use Rattle.fields.specs.declared.Cursor.{Cursor}
+use Rattle.fields.specs.declared.Fault.{Fault}
+use Rattle.fields.specs.declared.Part.{Part}
+use Rattle.fields.specs.declared.Uint32.the-variants as answer
+use Rattle.names.specs.declared.Algorithm.{Algorithm}
+use Rattle.names.specs.declared.Cipher.{Cipher}
+use Rattle.names.specs.declared.Kdf.{Kdf}
+use Rattle.names.specs.declared.Kdf.the-variants as kdf
+use Rattle.names.specs.Ciphers.{cipherName, kdfName}
+use Rattle.format.specs.Format.{magic, options, OptionsFit, publicLength, pointTag, blob, header}
+use Rattle.format.specs.Laws.{header-then}
+use Rattle.keys.specs.Read.{blob-read}
+use Rattle.header.specs.declared.CipherField.{CipherField}
+use Rattle.header.specs.declared.CipherField.the-variants as cipher-field
+use Rattle.header.specs.declared.KdfField.{KdfField}
+use Rattle.header.specs.declared.KdfField.the-variants as kdf-field
+use Rattle.header.specs.declared.BlobField.{BlobField}
+use Rattle.header.specs.declared.BlobField.the-variants as blob-field
+use Rattle.header.specs.declared.Header.{Header}
+use Rattle.header.specs.declared.HeaderRead.the-variants as header-read
+use Rattle.header.specs.Header.{onKdf, cipherAt, noneAt, bcryptAt, kdfAt, countAt, blobFieldAt, headerAt}
+use Rattle.header.specs.Place.{cipher-place, none-place, bcrypt-place, kdf-place, count-place, blob-place}
+
+-- by cases, with the equation in hand
+by-cipher-field :
+    {P : Type 0} (w : CipherField) → ((f : Fault) → w ≡ cipher-field.Refused f → P) → ((k : Cipher) (c : Cursor) → w ≡ cipher-field.Cipher k c → P) → P
+by-cipher-field (cipher-field.Refused f) refused read = refused f refl
+by-cipher-field (cipher-field.Cipher k c) refused read = read k c refl
+
+by-kdf-field :
+    {P : Type 0} (w : KdfField) → ((f : Fault) → w ≡ kdf-field.Refused f → P)
+    → ((k : Kdf) (salt : Part) (rounds : ℕ) (c : Cursor) → w ≡ kdf-field.Options k salt rounds c → P) → P
+by-kdf-field (kdf-field.Refused f) refused read = refused f refl
+by-kdf-field (kdf-field.Options k salt rounds c) refused read = read k salt rounds c refl
+
+by-blob-field :
+    {P : Type 0} (w : BlobField) → ((f : Fault) → w ≡ blob-field.Refused f → P)
+    → ((a : Algorithm) (b p : Part) (c : Cursor) → w ≡ blob-field.Key a b p c → P) → P
+by-blob-field (blob-field.Refused f) refused read = refused f refl
+by-blob-field (blob-field.Key a b p c) refused read = read a b p c refl
+
+module _ (s : List ℕ) (all : AllBytes s) where
+  cipher-text : (cipher : Cipher) (d : Cursor) → cipherAt s ≡ cipher-field.Cipher cipher d → s ≡ magic ++ (string (cipherName cipher) ++ rest s d)
+  cipher-text cipher d e =
+      let p = cipher-place s cipher d e in
+      let m = bytes-read s (whole s) 15 (p .start) (p .after) (p .magic-read) in
+      let n = string-read s all (p .after) (p .name) d (p .name-read) .text in
+      sym (rest-whole s) ∙ rw (p .magic-is) at m ∙ ap (λ (x : List ℕ). magic ++ x) (rw (p .name-is) at n)
+
+  -- the options' string, and what they must be
+  options-text :
+      (k : Kdf) (c : Cursor) (salt : Part) (rounds : ℕ) (d : Cursor) → onKdf k (noneAt s c) (bcryptAt s c) ≡ kdf-field.Options k salt rounds d
+      → (rest s c ≡ string (options k (viewOf s salt) rounds) ++ rest s d) × OptionsFit k (viewOf s salt) rounds
+  options-text kdf.None c salt rounds d e =
+      let p = none-place s c kdf.None salt rounds d e in
+      let r = string-read s all c (p .0) d (p .1) in
+      let none : viewOf s (p .0) ≡ [] = empty (viewOf s (p .0)) (r .size ∙ p .2) in
+      (rw none at (r .text), (ap (viewOf s) (sym (p .4)) ∙ view-absent s, sym (p .5)))
+    where
+      empty : (l : List ℕ) → length l ≡ 0 → l ≡ []
+      empty [] z = refl
+      empty (x ∷ xs) z = absurd (omega arith)
+  options-text kdf.Bcrypt c salt rounds d e =
+      let p = bcrypt-place s c kdf.Bcrypt salt rounds d e in
+      let r = string-read s all c (p .inside) d (p .read) in
+      let a = string-read s all (within (p .inside)) salt (p .after) (p .salt-read) in
+      let b = uint32-read s all (p .after) rounds (p .last) (p .rounds-read) in
+      let z = end-read s (p .last) (p .ends) .0 in
+      let inner : viewOf s (p .inside) ≡ string (viewOf s salt) ++ uint32 rounds =
+          sym (rest-within s (p .inside) (omega (arith, r .place .placed))) ∙ a .text
+          ∙ ap (λ (x : List ℕ). string (viewOf s salt) ++ x) (b .0 ∙ ap (λ (x : List ℕ). uint32 rounds ++ x) z ∙ append-nil (uint32 rounds)) in
+      (rw inner at (r .text), b .1)
+
+  kdf-text :
+      (c : Cursor) (k : Kdf) (salt : Part) (rounds : ℕ) (d : Cursor) → kdfAt s c ≡ kdf-field.Options k salt rounds d
+      → (rest s c ≡ string (kdfName k) ++ (string (options k (viewOf s salt) rounds) ++ rest s d)) × OptionsFit k (viewOf s salt) rounds
+  kdf-text c k salt rounds d e =
+      let p = kdf-place s c k salt rounds d e in
+      let n = string-read s all c (p .name) (p .after) (p .name-read) .text in
+      let o = options-text k (p .after) salt rounds d (p .options-are) in
+      (rw (p .name-is) at n ∙ ap (λ (x : List ℕ). string (kdfName k) ++ x) (o .0), o .1)
+
+  -- an accepted public blob
+  record BlobText (c : Cursor) (a : Algorithm) (b point : Part) (d : Cursor) : Type 0 where
+    pub text : rest s c ≡ string (blob a (viewOf s point)) ++ rest s d
+    pub content : viewOf s b ≡ blob a (viewOf s point)
+    pub long : length (viewOf s point) ≡ publicLength a
+    pub tag : pointTag a (viewOf s point) ≡ true
+    pub good : d .at ≤ length s
+    pub end : d .end ≡ c .end
+
+  blob-text : (c : Cursor) (a : Algorithm) (b point : Part) (d : Cursor) → blobFieldAt s c ≡ blob-field.Key a b point d → BlobText c a b point d
+  blob-text c a b point d e =
+      let p = blob-place s c a b point d e in
+      let r = string-read s all c b d (p .0) in
+      let k = blob-read s all (within b) a point (p .1) in
+      let content : viewOf s b ≡ blob a (viewOf s point) = sym (rest-within s b (omega (arith, r .place .placed))) ∙ k .0 in
+      record {
+        text = rw content at (r .text);
+        content = content;
+        long = k .1;
+        tag = k .2;
+        good = omega (arith, r .place .placed);
+        end = r .place .placed .end;
+      }
+
+  -- an accepted header
+  pub record HeaderText (h : Header) : Type 0 where
+    pub fits : length s ≤ 65535
+    pub text :
+        s ≡ header (h .cipher) (h .kdf) (viewOf s (h .salt)) (h .rounds) (h .algorithm) (viewOf s (h .point)) ++ rest s (record { at = h .section; end = length s })
+    pub options-fit : OptionsFit (h .kdf) (viewOf s (h .salt)) (h .rounds)
+    pub content : viewOf s (h .blob) ≡ blob (h .algorithm) (viewOf s (h .point))
+    pub long : length (viewOf s (h .point)) ≡ publicLength (h .algorithm)
+    pub tag : pointTag (h .algorithm) (viewOf s (h .point)) ≡ true
+    pub good : h .section ≤ length s
+
+  -- the four reads, one after the other
+  joined :
+      (cipher : Cipher) (c : Cursor) (k : Kdf) (salt : Part) (rounds : ℕ) (d : Cursor) (n : ℕ) (e : Cursor) (a : Algorithm) (b point : Part) (g : Cursor)
+      → cipherAt s ≡ cipher-field.Cipher cipher c → kdfAt s c ≡ kdf-field.Options k salt rounds d → countAt s d ≡ answer.Value n e
+      → blobFieldAt s e ≡ blob-field.Key a b point g
+      → HeaderText
+      (record { cipher = cipher; kdf = k; salt = salt; rounds = rounds; algorithm = a; blob = b; point = point; section = g .at })
+  joined cipher c k salt rounds d n e a b point g p₁ p₂ p₃ p₄ =
+      let t₁ = cipher-text cipher c p₁ in
+      let t₂ = kdf-text c k salt rounds d p₂ in
+      let q₃ = count-place s d n e p₃ in
+      let t₃ = uint32-read s all d 1 e (q₃ .0) .0 in
+      let t₄ = blob-text e a b point g p₄ in
+      let end : g .end ≡ length s = t₄ .end ∙ q₃ .1 ∙ kdf-place s c k salt rounds d p₂ .end ∙ cipher-place s cipher c p₁ .end in
+      let tail : rest s g ≡ rest s (record { at = g .at; end = length s }) = ap (λ (i : ℕ). slice (g .at) i s) end in
+      record {
+        fits = cipher-place s cipher c p₁ .fits;
+        text =
+            t₁
+            ∙ ap (λ (x : List ℕ). magic ++ (string (cipherName cipher) ++ x))
+            (t₂ .0
+            ∙ ap (λ (x : List ℕ). string (kdfName k) ++ (string (options k (viewOf s salt) rounds) ++ x))
+            (t₃ ∙ ap (λ (x : List ℕ). uint32 1 ++ x) (t₄ .text ∙ ap (λ (x : List ℕ). string (blob a (viewOf s point)) ++ x) tail)))
+            ∙ sym (header-then cipher k (viewOf s salt) rounds a (viewOf s point) (rest s (record { at = g .at; end = length s })));
+        options-fit = t₂ .1;
+        content = t₄ .content;
+        long = t₄ .long;
+        tag = t₄ .tag;
+        good = t₄ .good;
+      }
+
+  pub header-text : (h : Header) → headerAt s ≡ header-read.Header h → HeaderText h
+  unfolding headerAt
+  header-text h e =
+      by-cipher-field (cipherAt s)
+      (λ f w. let g : header-read.Refused f ≡ header-read.Header h = rw w at e in clash cc)
+      (λ cipher c p₁.
+      let g₁ = rw p₁ at e in
+      by-kdf-field (kdfAt s c)
+      (λ f w. let g : header-read.Refused f ≡ header-read.Header h = rw w at g₁ in clash cc)
+      (λ k salt rounds d p₂.
+      let g₂ = rw p₂ at g₁ in
+      by-uint32 (countAt s d)
+      (λ f w. let g : header-read.Refused f ≡ header-read.Header h = rw w at g₂ in clash cc)
+      (λ n i p₃.
+      let g₃ = rw p₃ at g₂ in
+      by-blob-field (blobFieldAt s i)
+      (λ f w. let g : header-read.Refused f ≡ header-read.Header h = rw w at g₃ in clash cc)
+      (λ a b point j p₄.
+      let g₄ :
+          header-read.Header
+          (record { cipher = cipher; kdf = k; salt = salt; rounds = rounds; algorithm = a; blob = b; point = point; section = j .at })
+          ≡ header-read.Header h = rw p₄ at g₃ in
+      let o : record { cipher = cipher; kdf = k; salt = salt; rounds = rounds; algorithm = a; blob = b; point = point; section = j .at } ≡ h = cc in
+      rw (← o) (joined cipher c k salt rounds d n i a b point j p₁ p₂ p₃ p₄)))))
