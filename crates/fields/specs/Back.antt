@@ -17,7 +17,7 @@ use Rattle.fields.specs.Bytes.{uint32, string}
 use Rattle.fields.specs.Fields.{numberAt, part, moved, uint32At, bytesAt, stringAt, fixedAt, endAt, viewOf}
 use Rattle.fields.specs.Room.{Room, room-is}
 use Rattle.fields.specs.Place.{bytes-place}
-use Rattle.fields.specs.Rest.{rest, Good, rest-four, room-of, rest-back, digits-number}
+use Rattle.fields.specs.Rest.{rest, Good, rest-four, room-of, rest-back, digits-number, length-string}
 
 -- the answer w has the bytes b, and t is what is left after it
 pub record FieldBack (s : List ℕ) (w : Field) (b t : List ℕ) : Type 0 where
@@ -65,6 +65,12 @@ module _ (s : List ℕ) (c : Cursor) (good : Good s c) where
         good = omega arith;
         more = k .1;
       }
+
+-- what stands in an image that is not longer than a uint32 says has a length that fits
+pub short-of : (s : List ℕ) (c : Cursor) → Good s c → length s < 2 ^ 32 → (b t : List ℕ) → rest s c ≡ string b ++ t → length b < 2 ^ 32
+short-of s c good small b t e =
+    let r = room-of s c good (string b) t e in
+    omega (arith, length-string b)
 
 module _ (s : List ℕ) (c : Cursor) (good : Good s c) (b t : List ℕ) (short : length b < 2 ^ 32) (e : rest s c ≡ string b ++ t) where
   pub string-back : FieldBack s (stringAt s c) b t

@@ -10,8 +10,8 @@ use lib.Seq.{slice}
 use Rattle.fields.specs.Bytes.{uint32, string, same-self}
 use Rattle.fields.specs.Fields.{absent, whole, within, bytesAt, viewOf}
 use Rattle.fields.specs.Place.{string-place}
-use Rattle.fields.specs.Rest.{rest, Good, room-of, rest-whole, rest-within, view-absent, view-length, length-string, length-uint32}
-use Rattle.fields.specs.Back.{FieldBack, Uint32Back, bytes-back, string-back, uint32-back, end-back}
+use Rattle.fields.specs.Rest.{rest, Good, rest-whole, rest-within, view-absent, length-string}
+use Rattle.fields.specs.Back.{FieldBack, Uint32Back, short-of, bytes-back, string-back, uint32-back, end-back}
 use Rattle.fields.specs.declared.Cursor.{Cursor}
 use Rattle.fields.specs.declared.Part.{Part}
 use Rattle.fields.specs.declared.Field.the-variants as field
@@ -113,12 +113,6 @@ bcrypt-back s c good salt rounds t small fits e short salty =
       more = p .more;
     }
 
--- a list that ends an image within the limit is short
-short-of : (s : List ℕ) (c : Cursor) → Good s c → length s ≤ 65535 → (b t : List ℕ) → rest s c ≡ string b ++ t → length b < 2 ^ 32
-short-of s c good small b t e =
-    let r = room-of s c good (string b) t e in
-    omega (arith, length-string b)
-
 kdf-options-back :
     (s : List ℕ) (c : Cursor) → Good s c → length s ≤ 65535 → (k : Kdf) (salt : List ℕ) (rounds : ℕ) (t : List ℕ) → OptionsFit k salt rounds
     → rest s c ≡ string (kdfName k) ++ (string (options k salt rounds) ++ t) → KdfBack s (kdfAt s c) k salt rounds t
@@ -142,7 +136,7 @@ kdf-options-back s c good small k salt rounds t fit e =
     after kdf.None salt′ rounds′ fit′ d good′ e′ =
         rw (fit′ .0, fit′ .1) (let o = none-back s d good′ t e′ in (o, o .read))
     after kdf.Bcrypt salt′ rounds′ fit′ d good′ e′ =
-        let short = short-of s d good′ small (string salt′ ++ uint32 rounds′) t e′ in
+        let short = short-of s d good′ (omega arith) (string salt′ ++ uint32 rounds′) t e′ in
         let salty : length salt′ < 2 ^ 32 = omega (arith, length-append (string salt′) (uint32 rounds′), length-string salt′) in
         let o = bcrypt-back s d good′ salt′ rounds′ t small fit′ e′ short salty in
         (o, o .read)
@@ -174,7 +168,7 @@ blob-field-back :
     → rest s c ≡ string (blob a x) ++ t → BlobBack s (blobFieldAt s c) a x t
 unfolding blobFieldAt
 blob-field-back s c good end small a x t l four e =
-    let p = string-back s c good (blob a x) t (short-of s c good small (blob a x) t e) e in
+    let p = string-back s c good (blob a x) t (short-of s c good (omega arith) (blob a x) t e) e in
     let b = blob-back s (within (p .place)) (omega (arith, p .inside)) a x l four (rest-within s (p .place) (p .inside) ∙ p .seen) in
     record {
       place = p .place;

@@ -1,1 +1,2 @@
 pub mod Section
+pub mod Back

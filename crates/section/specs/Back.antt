@@ -1,0 +1,202 @@
+-- Reading back: a section that ends an image as the format writes it is read, with its fields.
+use Prim.Native.Nat.{ℕ, _+_, _-_, _%_, _≤_, _<_, _^_}
+use native.Mathlib.Omega.{arith}
+use mathlib.Core.Path.{_≡_, refl, sym, _∙_, ap}
+use mathlib.Core.Bool.{Bool, true, false}
+use mathlib.Core.List.{List, [], _∷_, _++_, append-nil}
+use borrow.Author.Tests.{eq-eqb, eqb-true, lt-ltb}
+use lib.Dec.{eqb}
+use lib.ListN.{length, take}
+use lib.Seq.{slice, length-slice}
+use Rattle.fields.specs.Bytes.{uint32, string, same-self}
+use Rattle.fields.specs.Fields.{part, absent, within, viewOf}
+use Rattle.fields.specs.Room.{view-in}
+use Rattle.fields.specs.Place.{by-bool}
+use Rattle.fields.specs.Rest.{rest, Good, rest-within, view-absent}
+use Rattle.fields.specs.Back.{FieldBack, Uint32Back, short-of, bytes-back, string-back, uint32-back, end-back}
+use Rattle.fields.specs.declared.Cursor.{Cursor}
+use Rattle.fields.specs.declared.Part.{Part}
+use Rattle.fields.specs.declared.Ending.the-variants as ending
+use Rattle.names.specs.declared.Algorithm.{Algorithm}
+use Rattle.names.specs.declared.Cipher.{Cipher}
+use Rattle.names.specs.Algorithms.{algorithm-self}
+use Rattle.names.specs.Ciphers.{blockSize, tagLength}
+use Rattle.utf8.specs.Utf8.{utf8}
+use Rattle.format.specs.Format.{publicLength, privateLength, pointTag, privateField, standing, mayStand, blob, content, section, short, paddingBytes}
+use Rattle.format.specs.Laws.{content-then, section-length, padding-length}
+use Rattle.keys.specs.Back.{keypair-back}
+use Rattle.section.specs.declared.Entry.{Entry}
+use Rattle.section.specs.declared.Entry.the-variants as entry
+use Rattle.section.specs.declared.Kind.the-variants.{Plain, Encrypted}
+use Rattle.section.specs.declared.Section.{Section}
+use Rattle.section.specs.declared.SectionRead.{SectionRead}
+use Rattle.section.specs.declared.SectionRead.the-variants as section-read
+use Rattle.section.specs.Section.{checkintsAt, samePublic, entryAt, paddingAt, contentAt, plainAt, encryptedOf, presentOf, encryptedAt}
+
+checkints-back : (s : List ℕ) (c : Cursor) → Good s c → (n : ℕ) (t : List ℕ) → n < 2 ^ 32 → rest s c ≡ uint32 n ++ (uint32 n ++ t) → Uint32Back s (checkintsAt s c) n t
+unfolding checkintsAt
+checkints-back s c good n t fits e =
+    let a = uint32-back s c good n (uint32 n ++ t) fits e in
+    let b = uint32-back s (a .next) (a .good) n t fits (a .more) in
+    record {
+      next = b .next;
+      read = rw (a .read, b .read, eq-eqb n n refl);
+      good = b .good;
+      more = b .more;
+    }
+
+-- what is left, as the padding's part
+pub rest-padding : (s : List ℕ) (c : Cursor) → Good s c → viewOf s (part (c .at) (c .end - c .at)) ≡ rest s c
+rest-padding s c good =
+    let ends : c .at + (c .end - c .at) ≡ c .end = omega arith in
+    view-in s (part (c .at) (c .end - c .at)) (omega arith) ∙ ap (λ (e : ℕ). slice (c .at) e s) ends
+
+padding-back :
+    (s : List ℕ) (c : Cursor) → Good s c → (n : ℕ) → rest s c ≡ take (short n) paddingBytes → (paddingAt s c ≡ ending.Clean) × (c .end - c .at ≡ short n)
+unfolding paddingAt
+padding-back s c good n e =
+    let left : c .end - c .at ≡ short n = sym (length-slice (c .at) (c .end) s (good .1)) ∙ ap length e ∙ padding-length n in
+    let seen : viewOf s (part (c .at) (c .end - c .at)) ≡ take (short n) paddingBytes = rest-padding s c good ∙ e in
+    (rw (seen, left, lt-ltb (short n) 8 (omega arith), same-self (take (short n) paddingBytes)), left)
+
+-- a key that fits the format, with the scalar in a form that it may have
+pub record KeyFits (a : Algorithm) (zero : Bool) (point scalar comment : List ℕ) : Type 0 where
+  pub long : length point ≡ publicLength a
+  pub tag : pointTag a point ≡ true
+  pub private : length scalar ≡ privateLength a
+  pub may : mayStand a zero ≡ true
+  pub text : utf8 comment ≡ true
+
+record EntryBack (s : List ℕ) (w : Entry) (scalar comment t : List ℕ) : Type 0 where
+  pub private : Part
+  pub place : Part
+  pub next : Cursor
+  pub read : w ≡ entry.Key private place next
+  pub kept : viewOf s private ≡ scalar
+  pub seen : viewOf s place ≡ comment
+  pub good : Good s next
+  pub more : rest s next ≡ t
+
+entry-back :
+    (s : List ℕ) (c : Cursor) → Good s c → length s < 2 ^ 32 → (a : Algorithm) (q : Part) (zero : Bool) (scalar comment t : List ℕ)
+    → KeyFits a zero (viewOf s q) scalar comment
+    → rest s c ≡ blob a (viewOf s q) ++ (privateField a (viewOf s q) (standing zero scalar) ++ (string comment ++ t))
+    → EntryBack s (entryAt s c a q) scalar comment t
+unfolding entryAt samePublic
+entry-back s c good small a q zero scalar comment t fits e =
+    let p = keypair-back s c good a zero (viewOf s q) scalar (string comment ++ t) (fits .long) (fits .tag) (fits .private) (fits .may) e in
+    let m = string-back s (p .next) (p .good) comment t (short-of s (p .next) (p .good) small comment t (p .more)) (p .more) in
+    record {
+      private = p .private;
+      place = m .place;
+      next = m .next;
+      read = rw (p .read, algorithm-self, p .seen, same-self (viewOf s q), m .read, m .seen, fits .text);
+      kept = p .kept;
+      seen = m .seen;
+      good = m .good;
+      more = m .more;
+    }
+
+-- what a plain section gives back
+pub record PlainBack (s : List ℕ) (w : SectionRead) (n : ℕ) (scalar comment : List ℕ) (padding : ℕ) : Type 0 where
+  pub fields : Section
+  pub read : w ≡ section-read.Section fields
+  pub plain : fields .kind ≡ Plain
+  pub same-checkint : fields .checkint ≡ n
+  pub same-scalar : viewOf s (fields .scalar) ≡ scalar
+  pub same-comment : viewOf s (fields .comment) ≡ comment
+  pub same-padding : fields .padding ≡ padding
+
+content-back :
+    (s : List ℕ) (c : Cursor) → Good s c → length s < 2 ^ 32 → (a : Algorithm) (q : Part) (zero : Bool) (n : ℕ) (scalar comment : List ℕ) → n < 2 ^ 32
+    → KeyFits a zero (viewOf s q) scalar comment
+    → rest s c ≡ section n a (viewOf s q) (standing zero scalar) comment
+    → PlainBack s (contentAt s c a q) n scalar comment (short (length (content n a (viewOf s q) (standing zero scalar) comment)))
+unfolding contentAt section
+content-back s c good small a q zero n scalar comment fit fits e =
+    let stored = standing zero scalar in
+    let size = length (content n a (viewOf s q) stored comment) in
+    let padding = take (short size) paddingBytes in
+    let long : c .end - c .at ≡ size + short size =
+        sym (length-slice (c .at) (c .end) s (good .1)) ∙ ap length e ∙ section-length n a (viewOf s q) stored comment in
+    let k = checkints-back s c good n (blob a (viewOf s q) ++ (privateField a (viewOf s q) stored ++ (string comment ++ padding))) fit
+        (e ∙ content-then n a (viewOf s q) stored comment padding) in
+    let m = entry-back s (k .next) (k .good) small a q zero scalar comment padding fits (k .more) in
+    let p = padding-back s (m .next) (m .good) size (m .more) in
+    let whole : (c .end - c .at) % 8 ≡ 0 = omega arith in
+    record {
+      fields =
+          record {
+            kind = Plain;
+            checkint = n;
+            padding = m .next .end - m .next .at;
+            scalar = m .private;
+            comment = m .place;
+            ciphertext = absent;
+            tag = absent;
+          };
+      read = rw (eq-eqb ((c .end - c .at) % 8) 0 whole, k .read, m .read, p .0);
+      plain = refl;
+      same-checkint = refl;
+      same-scalar = m .kept;
+      same-comment = m .seen;
+      same-padding = p .1;
+    }
+
+pub plain-back :
+    (s : List ℕ) (c : Cursor) → Good s c → length s < 2 ^ 32 → (a : Algorithm) (q : Part) (zero : Bool) (n : ℕ) (scalar comment : List ℕ) → n < 2 ^ 32
+    → KeyFits a zero (viewOf s q) scalar comment
+    → rest s c ≡ string (section n a (viewOf s q) (standing zero scalar) comment)
+    → PlainBack s (plainAt s c a q) n scalar comment (short (length (content n a (viewOf s q) (standing zero scalar) comment)))
+unfolding plainAt
+plain-back s c good small a q zero n scalar comment fit fits e =
+    let b = section n a (viewOf s q) (standing zero scalar) comment in
+    let e′ = e ∙ sym (append-nil (string b)) in
+    let p = string-back s c good b [] (short-of s c good small b [] e′) e′ in
+    let k = content-back s (within (p .place)) (omega (arith, p .inside)) small a q zero n scalar comment fit fits (rest-within s (p .place) (p .inside) ∙ p .seen) in
+    record {
+      fields = k .fields;
+      read = rw (p .read, k .read, end-back s (p .next) (p .good) (p .more));
+      plain = k .plain;
+      same-checkint = k .same-checkint;
+      same-scalar = k .same-scalar;
+      same-comment = k .same-comment;
+      same-padding = k .same-padding;
+    }
+
+-- a list of no elements
+pub empty : (l : List ℕ) → length l ≡ 0 → l ≡ []
+empty [] z = refl
+empty (x ∷ xs) z = absurd (omega arith)
+
+-- an absent tag has the bytes that a tag of none has
+present-seen : (s : List ℕ) (p : Part) (b : List ℕ) → viewOf s p ≡ b → p .length ≡ length b → viewOf s (presentOf p) ≡ b
+unfolding presentOf
+present-seen s p b e l =
+    by-bool (eqb (p .length) 0)
+    (λ v. rw v (view-absent s ∙ sym (empty b (sym l ∙ eqb-true (p .length) 0 v))))
+    (λ v. rw v e)
+
+-- what an encrypted section gives back
+pub record EncryptedBack (s : List ℕ) (w : SectionRead) (ciphertext tag : List ℕ) : Type 0 where
+  pub fields : Section
+  pub read : w ≡ section-read.Section fields
+  pub encrypted : fields .kind ≡ Encrypted
+  pub same-ciphertext : viewOf s (fields .ciphertext) ≡ ciphertext
+  pub same-tag : viewOf s (fields .tag) ≡ tag
+
+pub encrypted-back :
+    (s : List ℕ) (c : Cursor) → Good s c → length s < 2 ^ 32 → (cipher : Cipher) (ciphertext tag : List ℕ) → length ciphertext % blockSize cipher ≡ 0
+    → length tag ≡ tagLength cipher → rest s c ≡ string ciphertext ++ tag → EncryptedBack s (encryptedAt s c cipher) ciphertext tag
+unfolding encryptedAt
+encrypted-back s c good small cipher ciphertext tag blocks long e =
+    let p = string-back s c good ciphertext tag (short-of s c good small ciphertext tag e) e in
+    let t = bytes-back s (p .next) (p .good) tag [] (p .more ∙ sym (append-nil tag)) in
+    let divides : p .place .length % blockSize cipher ≡ 0 = ap (λ (n : ℕ). n % blockSize cipher) (p .size) ∙ blocks in
+    record {
+      fields = encryptedOf (p .place) (presentOf (t .place));
+      read = rw (p .read, eq-eqb (p .place .length % blockSize cipher) 0 divides, ← long, t .read, end-back s (t .next) (t .good) (t .more));
+      encrypted = refl;
+      same-ciphertext = p .seen;
+      same-tag = present-seen s (t .place) tag (t .seen) (t .size);
+    }
