@@ -70,3 +70,8 @@ same-is false a b h = go (sameBytes a b) (same-true a b)
     go : (t : Bool) → (t ≡ true → a ≡ b) → false ≡ t
     go true k = h .1 (k refl)
     go false k = refl
+
+-- no bytes
+pub length-zero : (l : List ℕ) → length l ≡ 0 → l ≡ []
+length-zero [] z = refl
+length-zero (x ∷ xs) z = absurd (omega arith)

@@ -3,10 +3,10 @@ use Prim.Native.Nat.{ℕ, _≤_}
 use native.Mathlib.Omega.{arith}
 use mathlib.Core.Path.{_≡_, refl, sym, _∙_, ap}
 use mathlib.Core.Bool.{true}
-use mathlib.Core.List.{List, [], _∷_, _++_, append-nil}
+use mathlib.Core.List.{List, [], _++_, append-nil}
 use lib.ListN.{length}
 use lib.Seq.{slice}
-use Rattle.fields.specs.Bytes.{uint32, string, AllBytes}
+use Rattle.fields.specs.Bytes.{uint32, string, AllBytes, length-zero}
 use Rattle.fields.specs.Fields.{absent, whole, within, uint32At, viewOf}
 use Rattle.fields.specs.Place.{clash, by-uint32, string-place}
 use Rattle.fields.specs.Rest.{rest, rest-whole, rest-within, view-absent, view-length}
@@ -67,12 +67,8 @@ module _ (s : List ℕ) (all : AllBytes s) where
   options-text kdf.None c salt rounds d e =
       let p = none-place s c kdf.None salt rounds d e in
       let r = string-read s all c (p .0) d (p .1) in
-      let none : viewOf s (p .0) ≡ [] = empty (viewOf s (p .0)) (r .size ∙ p .2) in
+      let none : viewOf s (p .0) ≡ [] = length-zero (viewOf s (p .0)) (r .size ∙ p .2) in
       (rw none at (r .text), (ap (viewOf s) (sym (p .4)) ∙ view-absent s, sym (p .5)))
-    where
-      empty : (l : List ℕ) → length l ≡ 0 → l ≡ []
-      empty [] z = refl
-      empty (x ∷ xs) z = absurd (omega arith)
   options-text kdf.Bcrypt c salt rounds d e =
       let p = bcrypt-place s c kdf.Bcrypt salt rounds d e in
       let r = string-read s all c (p .inside) d (p .read) in

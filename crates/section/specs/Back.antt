@@ -3,12 +3,12 @@ use Prim.Native.Nat.{ℕ, _+_, _-_, _%_, _≤_, _<_, _^_}
 use native.Mathlib.Omega.{arith}
 use mathlib.Core.Path.{_≡_, refl, sym, _∙_, ap}
 use mathlib.Core.Bool.{Bool, true, false}
-use mathlib.Core.List.{List, [], _∷_, _++_, append-nil}
+use mathlib.Core.List.{List, [], _++_, append-nil}
 use borrow.Author.Tests.{eq-eqb, eqb-true, lt-ltb}
 use lib.Dec.{eqb}
 use lib.ListN.{length, take}
 use lib.Seq.{slice, length-slice}
-use Rattle.fields.specs.Bytes.{uint32, string, same-self}
+use Rattle.fields.specs.Bytes.{uint32, string, same-self, length-zero}
 use Rattle.fields.specs.Fields.{part, absent, within, viewOf}
 use Rattle.fields.specs.Room.{view-in}
 use Rattle.fields.specs.Place.{by-bool}
@@ -164,17 +164,12 @@ plain-back s c good small a q zero n scalar comment fit fits e =
       same-padding = k .same-padding;
     }
 
--- a list of no elements
-pub empty : (l : List ℕ) → length l ≡ 0 → l ≡ []
-empty [] z = refl
-empty (x ∷ xs) z = absurd (omega arith)
-
 -- an absent tag has the bytes that a tag of none has
-present-seen : (s : List ℕ) (p : Part) (b : List ℕ) → viewOf s p ≡ b → p .length ≡ length b → viewOf s (presentOf p) ≡ b
+pub present-seen : (s : List ℕ) (p : Part) (b : List ℕ) → viewOf s p ≡ b → p .length ≡ length b → viewOf s (presentOf p) ≡ b
 unfolding presentOf
 present-seen s p b e l =
     by-bool (eqb (p .length) 0)
-    (λ v. rw v (view-absent s ∙ sym (empty b (sym l ∙ eqb-true (p .length) 0 v))))
+    (λ v. rw v (view-absent s ∙ sym (length-zero b (sym l ∙ eqb-true (p .length) 0 v))))
     (λ v. rw v e)
 
 -- what an encrypted section gives back

@@ -1,0 +1,298 @@
+-- Inversion: a section that was read ends the image as the format writes it, its scalar in the form that it had.
+use Prim.Native.Nat.{ℕ, _+_, _-_, _%_, _≤_, _<_, _^_}
+use native.Mathlib.Omega.{arith}
+use mathlib.Core.Path.{_≡_, refl, sym, _∙_, ap}
+use mathlib.Core.Bool.{Bool, true, false}
+use mathlib.Core.List.{List, [], _++_, append-nil}
+use borrow.Author.Tests.{eqb-true, ltb-true}
+use lib.Dec.{eqb, ltb}
+use lib.ListN.{length, take, length-append}
+use lib.Seq.{length-slice, length-take-le}
+use Rattle.fields.specs.Bytes.{uint32, string, AllBytes, sameBytes, same-true, both-true, length-zero}
+use Rattle.fields.specs.Fields.{part, absent, within, uint32At, bytesAt, stringAt, endAt, viewOf}
+use Rattle.fields.specs.Place.{clash, by-field, by-uint32, by-ending, by-bool, bytes-place}
+use Rattle.fields.specs.Rest.{rest, Good, rest-within, view-absent, view-length}
+use Rattle.fields.specs.Read.{StringRead, uint32-read, bytes-read, string-read, end-read}
+use Rattle.fields.specs.declared.Cursor.{Cursor}
+use Rattle.fields.specs.declared.Fault.{Fault}
+use Rattle.fields.specs.declared.Part.{Part}
+use Rattle.fields.specs.declared.Field.the-variants as field
+use Rattle.fields.specs.declared.Uint32.the-variants as answer
+use Rattle.fields.specs.declared.Ending.the-variants as ending
+use Rattle.names.specs.declared.Algorithm.{Algorithm}
+use Rattle.names.specs.declared.Cipher.{Cipher}
+use Rattle.names.specs.Algorithms.{sameAlgorithm, algorithm-same}
+use Rattle.names.specs.Ciphers.{blockSize, tagLength}
+use Rattle.utf8.specs.Utf8.{utf8}
+use Rattle.format.specs.Format.{publicLength, privateLength, pointTag, privateField, standing, mayStand, blob, content, section, short, paddingBytes}
+use Rattle.format.specs.Laws.{content-then}
+use Rattle.keys.specs.declared.Keypair.{Keypair}
+use Rattle.keys.specs.declared.Keypair.the-variants as keypair
+use Rattle.keys.specs.Keys.{keypairAt, afterZero}
+use Rattle.keys.specs.Read.{PairRead, keypair-read}
+use Rattle.section.specs.declared.Entry.{Entry}
+use Rattle.section.specs.declared.Entry.the-variants as entry
+use Rattle.section.specs.declared.Kind.the-variants.{Plain, Encrypted}
+use Rattle.section.specs.declared.Section.{Section}
+use Rattle.section.specs.declared.SectionRead.{SectionRead}
+use Rattle.section.specs.declared.SectionRead.the-variants as section-read
+use Rattle.section.specs.Section.{checkintsAt, samePublic, entryAt, paddingAt, contentAt, plainAt, encryptedOf, presentOf, encryptedAt}
+use Rattle.section.specs.Back.{KeyFits, rest-padding, present-seen}
+
+-- by cases, with the equation in hand
+by-keypair :
+    {P : Type 0} (w : Keypair) → ((f : Fault) → w ≡ keypair.Refused f → P)
+    → ((a : Algorithm) (p x : Part) (c : Cursor) → w ≡ keypair.Pair a p x c → P) → P
+by-keypair (keypair.Refused f) refused pair = refused f refl
+by-keypair (keypair.Pair a p x c) refused pair = pair a p x c refl
+
+by-entry : {P : Type 0} (w : Entry) → ((f : Fault) → w ≡ entry.Refused f → P) → ((x m : Part) (c : Cursor) → w ≡ entry.Key x m c → P) → P
+by-entry (entry.Refused f) refused key = refused f refl
+by-entry (entry.Key x m c) refused key = key x m c refl
+
+by-section : {P : Type 0} (w : SectionRead) → ((f : Fault) → w ≡ section-read.Refused f → P) → ((x : Section) → w ≡ section-read.Section x → P) → P
+by-section (section-read.Refused f) refused read = refused f refl
+by-section (section-read.Section x) refused read = read x refl
+
+-- a padding that was read
+padding-read : (s : List ℕ) (c : Cursor) → Good s c → paddingAt s c ≡ ending.Clean → (rest s c ≡ take (c .end - c .at) paddingBytes) × (c .end - c .at < 8)
+unfolding paddingAt
+padding-read s c good e =
+    by-bool (ltb (c .end - c .at) 8)
+    (λ w.
+    let g = rw w at e in
+    by-bool (sameBytes (viewOf s (part (c .at) (c .end - c .at))) (take (c .end - c .at) paddingBytes))
+    (λ v. (sym (rest-padding s c good) ∙ same-true _ _ v, ltb-true (c .end - c .at) 8 w))
+    (λ v. let h = rw v at g in clash cc))
+    (λ w. let g = rw w at e in clash cc)
+
+module _ (s : List ℕ) (all : AllBytes s) where
+  checkints-read :
+      (c : Cursor) (n : ℕ) (d : Cursor) → checkintsAt s c ≡ answer.Value n d → (rest s c ≡ uint32 n ++ (uint32 n ++ rest s d)) × (n < 2 ^ 32)
+  unfolding checkintsAt
+  checkints-read c n d e =
+      by-uint32 (uint32At s c)
+      (λ f w. let g : answer.Refused f ≡ answer.Value n d = rw w at e in clash cc)
+      (λ a b w.
+      let g = rw w at e in
+      by-uint32 (uint32At s b)
+      (λ f v. let h : answer.Refused f ≡ answer.Value n d = rw v at g in clash cc)
+      (λ m x v.
+      let h = rw v at g in
+      by-bool (eqb m a)
+      (λ u.
+      let i : answer.Value a x ≡ answer.Value n d = rw u at h in
+      let same : m ≡ a = eqb-true m a u in
+      let o : a ≡ n = cc in
+      let j : x ≡ d = cc in
+      let r₁ = uint32-read s all c n b (rw o at w) in
+      let r₂ = uint32-read s all b n d (rw (same, o, j) at v) in
+      (r₁ .0 ∙ ap (λ (y : List ℕ). uint32 n ++ y) (r₂ .0), r₁ .1))
+      (λ u. let i = rw u at h in clash cc)))
+
+  -- an accepted key: its keypair, which has the blob's public key, and its comment
+  record EntryRead (c : Cursor) (a : Algorithm) (q x m : Part) (d : Cursor) : Type 0 where
+    pub zero : Bool
+    pub text : rest s c ≡ blob a (viewOf s q) ++ (privateField a (viewOf s q) (standing zero (viewOf s x)) ++ (string (viewOf s m) ++ rest s d))
+    pub fits : KeyFits a zero (viewOf s q) (viewOf s x) (viewOf s m)
+    pub after : afterZero s x ≡ zero
+    pub good : Good s d
+
+  entry-joined :
+      (c : Cursor) (a : Algorithm) (p q x m : Part) (b d : Cursor) → PairRead s all c a p x b → viewOf s p ≡ viewOf s q → StringRead s b m d
+      → utf8 (viewOf s m) ≡ true → EntryRead c a q x m d
+  entry-joined c a p q x m b d pair public comment text =
+      record {
+        zero = pair .zero;
+        text =
+            rw public at (pair .text)
+            ∙ ap (λ (l : List ℕ). blob a (viewOf s q) ++ (privateField a (viewOf s q) (standing (pair .zero) (viewOf s x)) ++ l)) (comment .text);
+        fits =
+            record {
+              long = rw public at (pair .long);
+              tag = rw public at (pair .tag);
+              private = pair .private;
+              may = pair .may;
+              text = text;
+            };
+        after = pair .after;
+        good = omega (arith, comment .place .placed);
+      }
+
+  entry-read : (c : Cursor) (a : Algorithm) (q x m : Part) (d : Cursor) → entryAt s c a q ≡ entry.Key x m d → EntryRead c a q x m d
+  unfolding entryAt samePublic
+  entry-read c a q x m d e =
+      by-keypair (keypairAt s c)
+      (λ f w. let g : entry.Refused f ≡ entry.Key x m d = rw w at e in clash cc)
+      (λ j p y b w.
+      let g = rw w at e in
+      by-bool (samePublic s j p a q)
+      (λ v.
+      let h = rw v at g in
+      by-field (stringAt s b)
+      (λ f u. let i : entry.Refused f ≡ entry.Key x m d = rw u at h in clash cc)
+      (λ t z u.
+      let i = rw u at h in
+      by-bool (utf8 (viewOf s t))
+      (λ r.
+      let k : entry.Key y t z ≡ entry.Key x m d = rw r at i in
+      let o₁ : y ≡ x = cc in
+      let o₂ : t ≡ m = cc in
+      let o₃ : z ≡ d = cc in
+      let both = both-true (sameAlgorithm j a) (sameBytes (viewOf s p) (viewOf s q)) v in
+      let kind : j ≡ a = algorithm-same j a (both .0) in
+      let public : viewOf s p ≡ viewOf s q = same-true _ _ (both .1) in
+      entry-joined c a p q x m b d (keypair-read s all c a p x b (rw (kind, o₁) at w)) public (string-read s all b m d (rw (o₂, o₃) at u)) (rw o₂ at r))
+      (λ r. let k = rw r at i in clash cc)))
+      (λ v. let h = rw v at g in clash cc))
+
+  -- an accepted plain section
+  pub record PlainRead (c : Cursor) (a : Algorithm) (q : Part) (x : Section) : Type 0 where
+    pub zero : Bool
+    pub plain : x .kind ≡ Plain
+    pub text : rest s c ≡ string (section (x .checkint) a (viewOf s q) (standing zero (viewOf s (x .scalar))) (viewOf s (x .comment)))
+    pub fits : KeyFits a zero (viewOf s q) (viewOf s (x .scalar)) (viewOf s (x .comment))
+    pub checkint : x .checkint < 2 ^ 32
+    pub after : afterZero s (x .scalar) ≡ zero
+
+  -- how long the padding is follows from the multiple of 8
+  padding-short : (n p : ℕ) → (n + p) % 8 ≡ 0 → p < 8 → p ≡ short n
+  padding-short n p e h = omega arith
+
+  -- the fields one after the other, and the padding that they leave
+  content-joined :
+      (c : Cursor) (a : Algorithm) (q : Part) (n : ℕ) (d : Cursor) (x m : Part) (b : Cursor) → c .end ≤ length s → (c .end - c .at) % 8 ≡ 0
+      → checkintsAt s c ≡ answer.Value n d → (r : EntryRead d a q x m b) → paddingAt s b ≡ ending.Clean
+      → rest s c ≡ section n a (viewOf s q) (standing (r .zero) (viewOf s x)) (viewOf s m)
+  unfolding section
+  content-joined c a q n d x m b inside whole w r u =
+      let stored = standing (r .zero) (viewOf s x) in
+      let body = content n a (viewOf s q) stored (viewOf s m) in
+      let k = checkints-read c n d w in
+      let p = padding-read s b (r .good) u in
+      let left = b .end - b .at in
+      let text : rest s c ≡ body ++ take left paddingBytes =
+          k .0 ∙ ap (λ (l : List ℕ). uint32 n ++ (uint32 n ++ l)) (r .text)
+          ∙ sym (content-then n a (viewOf s q) stored (viewOf s m) (rest s b))
+          ∙ ap (λ (l : List ℕ). body ++ l) (p .0) in
+      let long : c .end - c .at ≡ length body + left =
+          sym (length-slice (c .at) (c .end) s inside) ∙ ap length text ∙ length-append body (take left paddingBytes)
+          ∙ ap (λ (i : ℕ). length body + i) (length-take-le left paddingBytes (omega (arith, p .1))) in
+      let fills : left ≡ short (length body) = padding-short (length body) left (rw long at whole) (p .1) in
+      text ∙ ap (λ (i : ℕ). body ++ take i paddingBytes) fills
+
+  -- what reading the content found
+  record ContentRead (c : Cursor) (a : Algorithm) (q : Part) (x : Section) : Type 0 where
+    pub zero : Bool
+    pub plain : x .kind ≡ Plain
+    pub text : rest s c ≡ section (x .checkint) a (viewOf s q) (standing zero (viewOf s (x .scalar))) (viewOf s (x .comment))
+    pub fits : KeyFits a zero (viewOf s q) (viewOf s (x .scalar)) (viewOf s (x .comment))
+    pub checkint : x .checkint < 2 ^ 32
+    pub after : afterZero s (x .scalar) ≡ zero
+
+  content-read : (c : Cursor) (a : Algorithm) (q : Part) (x : Section) → c .end ≤ length s → contentAt s c a q ≡ section-read.Section x → ContentRead c a q x
+  unfolding contentAt
+  content-read c a q x inside e =
+      by-bool (eqb ((c .end - c .at) % 8) 0)
+      (λ w.
+      let g = rw w at e in
+      by-uint32 (checkintsAt s c)
+      (λ f v. let h : section-read.Refused f ≡ section-read.Section x = rw v at g in clash cc)
+      (λ n d v.
+      let h = rw v at g in
+      by-entry (entryAt s d a q)
+      (λ f u. let i : section-read.Refused f ≡ section-read.Section x = rw u at h in clash cc)
+      (λ y m b u.
+      let i = rw u at h in
+      by-ending (paddingAt s b)
+      (λ f t. let k : section-read.Refused f ≡ section-read.Section x = rw t at i in clash cc)
+      (λ t.
+      let k :
+          section-read.Section
+          (record { kind = Plain; checkint = n; padding = b .end - b .at; scalar = y; comment = m; ciphertext = absent; tag = absent })
+          ≡ section-read.Section x = rw t at i in
+      let o :
+          record { kind = Plain; checkint = n; padding = b .end - b .at; scalar = y; comment = m; ciphertext = absent; tag = absent } ≡ x =
+          cc in
+      let r = entry-read d a q y m b u in
+      rw (← o)
+      (record {
+        zero = r .zero;
+        plain = refl;
+        text = content-joined c a q n d y m b inside (eqb-true _ _ w) v r t;
+        fits = r .fits;
+        checkint = checkints-read c n d v .1;
+        after = r .after;
+      })))))
+      (λ w. let g = rw w at e in clash cc)
+
+  pub plain-read : (c : Cursor) (a : Algorithm) (q : Part) (x : Section) → plainAt s c a q ≡ section-read.Section x → PlainRead c a q x
+  unfolding plainAt
+  plain-read c a q x e =
+      by-field (stringAt s c)
+      (λ f w. let g : section-read.Refused f ≡ section-read.Section x = rw w at e in clash cc)
+      (λ p d w.
+      let g = rw w at e in
+      by-section (contentAt s (within p) a q)
+      (λ f v. let h : section-read.Refused f ≡ section-read.Section x = rw v at g in clash cc)
+      (λ y v.
+      let h = rw v at g in
+      by-ending (endAt d)
+      (λ f u. let i : section-read.Refused f ≡ section-read.Section x = rw u at h in clash cc)
+      (λ u.
+      let i : section-read.Section y ≡ section-read.Section x = rw u at h in
+      let o : y ≡ x = cc in
+      let r = string-read s all c p d w in
+      let inside : p .start + p .length ≤ length s = omega (arith, r .place .placed) in
+      let k = content-read (within p) a q x inside (v ∙ ap section-read.Section o) in
+      let body : viewOf s p ≡ section (x .checkint) a (viewOf s q) (standing (k .zero) (viewOf s (x .scalar))) (viewOf s (x .comment)) =
+          sym (rest-within s p inside) ∙ k .text in
+      record {
+        zero = k .zero;
+        plain = k .plain;
+        text =
+            r .text ∙ ap (λ (l : List ℕ). string (viewOf s p) ++ l) (end-read s d u .0) ∙ append-nil (string (viewOf s p)) ∙ ap string body;
+        fits = k .fits;
+        checkint = k .checkint;
+        after = k .after;
+      })))
+
+  -- an accepted encrypted section
+  pub record EncryptedRead (c : Cursor) (cipher : Cipher) (x : Section) : Type 0 where
+    pub encrypted : x .kind ≡ Encrypted
+    pub text : rest s c ≡ string (viewOf s (x .ciphertext)) ++ viewOf s (x .tag)
+    pub blocks : length (viewOf s (x .ciphertext)) % blockSize cipher ≡ 0
+    pub long : length (viewOf s (x .tag)) ≡ tagLength cipher
+
+  pub encrypted-read : (c : Cursor) (cipher : Cipher) (x : Section) → encryptedAt s c cipher ≡ section-read.Section x → EncryptedRead c cipher x
+  unfolding encryptedAt
+  encrypted-read c cipher x e =
+      by-field (stringAt s c)
+      (λ f w. let g : section-read.Refused f ≡ section-read.Section x = rw w at e in clash cc)
+      (λ p d w.
+      let g = rw w at e in
+      by-bool (eqb (p .length % blockSize cipher) 0)
+      (λ v.
+      let h = rw v at g in
+      by-field (bytesAt s d (tagLength cipher))
+      (λ f u. let i : section-read.Refused f ≡ section-read.Section x = rw u at h in clash cc)
+      (λ t b u.
+      let i = rw u at h in
+      by-ending (endAt b)
+      (λ f r. let k : section-read.Refused f ≡ section-read.Section x = rw r at i in clash cc)
+      (λ r.
+      let k : section-read.Section (encryptedOf p (presentOf t)) ≡ section-read.Section x = rw r at i in
+      let o : encryptedOf p (presentOf t) ≡ x = cc in
+      let a = string-read s all c p d w in
+      let place = bytes-place s d (tagLength cipher) t b u in
+      let size : length (viewOf s t) ≡ t .length = view-length s t (omega (arith, place .0)) in
+      let tag : viewOf s (presentOf t) ≡ viewOf s t = present-seen s t (viewOf s t) refl (sym size) in
+      let tail = bytes-read s d (tagLength cipher) t b u ∙ ap (λ (l : List ℕ). viewOf s t ++ l) (end-read s b r .0) ∙ append-nil (viewOf s t) in
+      rw (← o)
+      (record {
+        encrypted = refl;
+        text = a .text ∙ ap (λ (l : List ℕ). string (viewOf s p) ++ l) (tail ∙ sym tag);
+        blocks = ap (λ (j : ℕ). j % blockSize cipher) (a .size) ∙ eqb-true _ _ v;
+        long = ap length tag ∙ size ∙ place .1;
+      }))))
+      (λ v. let h = rw v at g in clash cc))
