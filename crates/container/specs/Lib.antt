@@ -1,2 +1,3 @@
 pub mod Container
 pub mod Form
+pub mod Back

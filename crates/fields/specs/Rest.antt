@@ -4,7 +4,7 @@ use native.Mathlib.Nat.{add-assoc, div-div-eq-div-mul, div-add-mod', mod-eq-of-l
 use native.Mathlib.Numerals.{add-one}
 use native.Mathlib.Omega.{arith}
 use mathlib.Core.Path.{_≡_, refl, sym, _∙_, ap}
-use mathlib.Core.List.{List, [], _∷_, _++_}
+use mathlib.Core.List.{List, [], _∷_, _++_, append-assoc}
 use lib.ListN.{length, getD, take, drop, length-append, length-take, take-append-drop, drop-of-length-le}
 use lib.Seq.{slice, slice-cons, length-slice, drop-append-le, length-take-le, take-take, take-at, drop-at, take-length, getD-take, getD-drop}
 use Rattle.fields.specs.declared.Cursor.{Cursor}
@@ -168,3 +168,25 @@ length-uint32 n = refl
 pub length-string : (b : List ℕ) → length (string b) ≡ 4 + length b
 unfolding string uint32
 length-string b = length-append (uint32 (length b)) b
+
+-- ---- equal bytes
+
+pub append-cancel : (a b c : List ℕ) → a ++ b ≡ a ++ c → b ≡ c
+append-cancel a b c e = sym (drop-at a b (length a) refl) ∙ ap (drop (length a)) e ∙ drop-at a c (length a) refl
+
+uint32-same : (m n : ℕ) → m < 2 ^ 32 → n < 2 ^ 32 → uint32 m ≡ uint32 n → m ≡ n
+unfolding uint32
+uint32-same m n hm hn e =
+    sym (digits-number m hm)
+    ∙ ap (λ (l : List ℕ). number4 (getD l 0 0) (getD l 1 0) (getD l 2 0) (getD l 3 0)) e
+    ∙ digits-number n hn
+
+-- strings that begin the same bytes have the same length
+pub string-same :
+    (a b t u : List ℕ) → length a < 2 ^ 32 → length b < 2 ^ 32 → string a ++ t ≡ string b ++ u → length a ≡ length b
+unfolding string
+string-same a b t u ha hb e =
+    let first = sym (take-at (uint32 (length a)) (a ++ t) 4 (length-uint32 (length a)))
+        ∙ ap (take 4) (sym (append-assoc (uint32 (length a)) a t) ∙ e ∙ append-assoc (uint32 (length b)) b u)
+        ∙ take-at (uint32 (length b)) (b ++ u) 4 (length-uint32 (length b)) in
+    uint32-same (length a) (length b) ha hb first

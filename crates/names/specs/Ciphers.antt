@@ -7,6 +7,7 @@ use mathlib.Core.Bool.{Bool, true, false}
 use mathlib.Core.List.{List, [], _∷_}
 use lib.ListN.{length}
 use Rattle.fields.specs.Bytes.{ascii}
+use Rattle.fields.specs.Place.{clash}
 use Rattle.names.specs.Table.{lookUp, named}
 use Rattle.names.specs.declared.Cipher.{Cipher}
 use Rattle.names.specs.declared.Cipher.the-variants.{None, TripleDesCbc, Aes128Cbc, Aes192Cbc, Aes256Cbc, Aes128Ctr, Aes192Ctr, Aes256Ctr, Aes128Gcm, Aes256Gcm}
@@ -115,6 +116,18 @@ pub cipher-read : (b : List ℕ) (c : Cipher) → cipherNamed b ≡ Known c → 
 unfolding cipherNamed
 cipher-read b c e =
     named cipherName Known Unknown ciphers b c (λ q. let z : _≡_ {A = ℕ} 0 1 = cc in omega arith) (λ x q. cc) e
+
+pub none-only : (c : Cipher) → isNone c ≡ true → None ≡ c
+none-only None e = refl
+none-only TripleDesCbc e = clash cc
+none-only Aes128Cbc e = clash cc
+none-only Aes192Cbc e = clash cc
+none-only Aes256Cbc e = clash cc
+none-only Aes128Ctr e = clash cc
+none-only Aes192Ctr e = clash cc
+none-only Aes256Ctr e = clash cc
+none-only Aes128Gcm e = clash cc
+none-only Aes256Gcm e = clash cc
 
 pub kdf-back : (k : Kdf) → (kdfNamed (kdfName k) ≡ kdf-name.Known k) × (length (kdfName k) < 2 ^ 32)
 unfolding kdfNamed
