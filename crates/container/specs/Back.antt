@@ -49,9 +49,9 @@ unfolding readAt sectionAt
 plain-after s n a zero point scalar comment small fit fits h =
     let f = h .fields in
     let k : PlainBack s _ n scalar comment (short (length (content n a point (standing zero scalar) comment))) =
-        rw (h .same-point) at
-        (plain-back s (record { at = f .section; end = length s }) (omega (arith, h .good)) (omega arith) a (f .point) zero n scalar comment fit
-        (rw (h .same-point) fits) (rw (h .same-point) (h .more))) in
+    rw (h .same-point) at
+    (plain-back s (record { at = f .section; end = length s }) (omega (arith, h .good)) (omega arith) a (f .point) zero n scalar comment fit
+    (rw (h .same-point) fits) (rw (h .same-point) (h .more))) in
     record {
       fields = record { header = f; section = k .fields };
       read = rw (h .read, h .same-cipher, h .same-kdf, h .same-algorithm, k .read);
@@ -77,7 +77,7 @@ unfolding plainImage
 plain-image-back s n a zero point scalar comment small fit fits e =
     let body = section n a point (standing zero scalar) comment in
     let h = header-back s cipher.None kdf.None [] 0 a point (string body) small (refl, refl) (fits .long) (fits .tag)
-        (e ∙ ap (λ (l : List ℕ). header cipher.None kdf.None [] 0 a point ++ l) (append-nil (string body))) in
+    (e ∙ ap (λ (l : List ℕ). header cipher.None kdf.None [] 0 a point ++ l) (append-nil (string body))) in
     plain-after s n a zero point scalar comment small fit fits h
 
 -- what an encrypted image gives back
@@ -113,10 +113,10 @@ unfolding encryptedImage readAt sectionAt
 encrypted-image-back s cipher k salt rounds a point ciphertext tag small fits e =
     let after = string ciphertext ++ tag in
     let h = header-back s cipher k salt rounds a point after small (fits .options-fit) (fits .long) (fits .tag-byte)
-        (e ∙ ap (λ (l : List ℕ). header cipher k salt rounds a point ++ (string ciphertext ++ l)) (append-nil tag)) in
+    (e ∙ ap (λ (l : List ℕ). header cipher k salt rounds a point ++ (string ciphertext ++ l)) (append-nil tag)) in
     let f = h .fields in
     let x = encrypted-back s (record { at = f .section; end = length s }) (omega (arith, h .good)) (omega arith) cipher ciphertext tag (fits .blocks)
-        (fits .tag-long) (h .more) in
+    (fits .tag-long) (h .more) in
     record {
       fields = record { header = f; section = x .fields };
       read = rw (h .read, h .same-cipher, fits .encrypts, x .read);

@@ -96,11 +96,10 @@ pub view-two :
     → (viewOf s (part (p .start) m) ≡ x) × (viewOf s (part (p .start + m) n) ≡ y)
 view-two s p m n x y h l lx e =
     let k = rest-back s (within p) (omega arith) x y (rest-within s p h ∙ e) in
-    let ends : p .start + m + n ≡ p .start + p .length = omega arith in
-    (
+    let ends : p .start + m + n ≡ p .start + p .length = omega arith in (
       ap (λ (i : ℕ). viewOf s (part (p .start) i)) (sym lx) ∙ k .0,
       view-in s (part (p .start + m) n) (omega arith) ∙ ap (λ (i : ℕ). slice (p .start + m) i s) ends
-      ∙ ap (λ (i : ℕ). slice (p .start + i) (p .start + p .length) s) (sym lx) ∙ k .1,
+          ∙ ap (λ (i : ℕ). slice (p .start + i) (p .start + p .length) s) (sym lx) ∙ k .1,
     )
 
 -- a byte of a part
@@ -187,6 +186,6 @@ pub string-same :
 unfolding string
 string-same a b t u ha hb e =
     let first = sym (take-at (uint32 (length a)) (a ++ t) 4 (length-uint32 (length a)))
-        ∙ ap (take 4) (sym (append-assoc (uint32 (length a)) a t) ∙ e ∙ append-assoc (uint32 (length b)) b u)
-        ∙ take-at (uint32 (length b)) (b ++ u) 4 (length-uint32 (length b)) in
+    ∙ ap (take 4) (sym (append-assoc (uint32 (length a)) a t) ∙ e ∙ append-assoc (uint32 (length b)) b u)
+    ∙ take-at (uint32 (length b)) (b ++ u) 4 (length-uint32 (length b)) in
     uint32-same (length a) (length b) ha hb first

@@ -76,8 +76,8 @@ module _ (s : List ℕ) (all : AllBytes s) where
       let b = uint32-read s all (p .after) rounds (p .last) (p .rounds-read) in
       let z = end-read s (p .last) (p .ends) .0 in
       let inner : viewOf s (p .inside) ≡ string (viewOf s salt) ++ uint32 rounds =
-          sym (rest-within s (p .inside) (omega (arith, r .place .placed))) ∙ a .text
-          ∙ ap (λ (x : List ℕ). string (viewOf s salt) ++ x) (b .0 ∙ ap (λ (x : List ℕ). uint32 rounds ++ x) z ∙ append-nil (uint32 rounds)) in
+      sym (rest-within s (p .inside) (omega (arith, r .place .placed))) ∙ a .text
+      ∙ ap (λ (x : List ℕ). string (viewOf s salt) ++ x) (b .0 ∙ ap (λ (x : List ℕ). uint32 rounds ++ x) z ∙ append-nil (uint32 rounds)) in
       (rw inner at (r .text), b .1)
 
   kdf-text :
@@ -174,8 +174,8 @@ module _ (s : List ℕ) (all : AllBytes s) where
       (λ f w. let g : header-read.Refused f ≡ header-read.Header h = rw w at g₃ in clash cc)
       (λ a b point j p₄.
       let g₄ :
-          header-read.Header
-          (record { cipher = cipher; kdf = k; salt = salt; rounds = rounds; algorithm = a; blob = b; point = point; section = j .at })
-          ≡ header-read.Header h = rw p₄ at g₃ in
+      header-read.Header
+      (record { cipher = cipher; kdf = k; salt = salt; rounds = rounds; algorithm = a; blob = b; point = point; section = j .at })
+      ≡ header-read.Header h = rw p₄ at g₃ in
       let o : record { cipher = cipher; kdf = k; salt = salt; rounds = rounds; algorithm = a; blob = b; point = point; section = j .at } ≡ h = cc in
       rw (← o) (joined cipher c k salt rounds d n i a b point j p₁ p₂ p₃ p₄)))))

@@ -73,7 +73,7 @@ module _ (s : List ℕ) (all : AllBytes s) where
       let r = string-read s all c p d (f .0) in
       let o : q ≡ p = cc in
       let first : getD (viewOf s p) 0 0 ≡ getD s (p .start) 0 =
-          view-byte s p 0 (omega (arith, r .place .placed)) (omega (arith, f .1)) ∙ ap (λ (i : ℕ). getD s i 0) (add-zero (p .start)) in
+      view-byte s p 0 (omega (arith, r .place .placed)) (omega (arith, f .1)) ∙ ap (λ (i : ℕ). getD s i 0) (add-zero (p .start)) in
       let four : getD s (p .start) 0 ≡ 4 = rw o at (eqb-true (getD s (q .start) 0) 4 v) in
       (r, r .size ∙ f .1, eq-eqb _ _ (first ∙ four)))
       (λ v. let h = rw v at g in clash cc))
@@ -131,8 +131,8 @@ module _ (s : List ℕ) (all : AllBytes s) where
       let r = string-read s all c q x w in
       let inside : q .start + (size + 1) ≤ length s = omega (arith, r .place .placed) in
       let cut : viewOf s q ≡ 0 ∷ viewOf s p =
-          ap (λ (n : ℕ). viewOf s (part (q .start) n)) l ∙ view-cons s (q .start) size inside
-          ∙ ap (λ (b : ℕ). b ∷ viewOf s (part (q .start + 1) size)) z ∙ ap (λ (y : Part). 0 ∷ viewOf s y) o in
+      ap (λ (n : ℕ). viewOf s (part (q .start) n)) l ∙ view-cons s (q .start) size inside
+      ∙ ap (λ (b : ℕ). b ∷ viewOf s (part (q .start + 1) size)) z ∙ ap (λ (y : Part). 0 ∷ viewOf s y) o in
       let before : q .start + 1 - 1 ≡ q .start = omega arith in
       record {
         zero = true;
@@ -289,8 +289,8 @@ module _ (s : List ℕ) (all : AllBytes s) where
       let r₂ = string-read s all b y m (f₂ .0) in
       let inside : y .start + (32 + 32) ≤ length s = omega (arith, r₂ .place .placed, f₂ .1) in
       let halves : viewOf s y ≡ viewOf s (part (y .start) 32) ++ viewOf s q =
-          ap (λ (j : ℕ). viewOf s (part (y .start) j)) (f₂ .1) ∙ view-split s (y .start) 32 32 inside
-          ∙ ap (λ (z : List ℕ). viewOf s (part (y .start) 32) ++ z) (same-true _ _ u) in
+      ap (λ (j : ℕ). viewOf s (part (y .start) j)) (f₂ .1) ∙ view-split s (y .start) 32 32 inside
+      ∙ ap (λ (z : List ℕ). viewOf s (part (y .start) 32) ++ z) (same-true _ _ u) in
       let both : rest s b ≡ string (viewOf s (part (y .start) 32) ++ viewOf s q) ++ rest s m = rw halves at (r₂ .text) in
       let before = length-byte s b y m (f₂ .0) (omega (arith, f₂ .1)) in
       rw (← o, ← k, ← n)

@@ -118,9 +118,9 @@ content-back s c good small a q zero n scalar comment fit fits e =
     let size = length (content n a (viewOf s q) stored comment) in
     let padding = take (short size) paddingBytes in
     let long : c .end - c .at ≡ size + short size =
-        sym (length-slice (c .at) (c .end) s (good .1)) ∙ ap length e ∙ section-length n a (viewOf s q) stored comment in
+    sym (length-slice (c .at) (c .end) s (good .1)) ∙ ap length e ∙ section-length n a (viewOf s q) stored comment in
     let k = checkints-back s c good n (blob a (viewOf s q) ++ (privateField a (viewOf s q) stored ++ (string comment ++ padding))) fit
-        (e ∙ content-then n a (viewOf s q) stored comment padding) in
+    (e ∙ content-then n a (viewOf s q) stored comment padding) in
     let m = entry-back s (k .next) (k .good) small a q zero scalar comment padding fits (k .more) in
     let p = padding-back s (m .next) (m .good) size (m .more) in
     let whole : (c .end - c .at) % 8 ≡ 0 = omega arith in

@@ -172,12 +172,12 @@ module _ (s : List ℕ) (all : AllBytes s) where
       let p = padding-read s b (r .good) u in
       let left = b .end - b .at in
       let text : rest s c ≡ body ++ take left paddingBytes =
-          k .0 ∙ ap (λ (l : List ℕ). uint32 n ++ (uint32 n ++ l)) (r .text)
-          ∙ sym (content-then n a (viewOf s q) stored (viewOf s m) (rest s b))
-          ∙ ap (λ (l : List ℕ). body ++ l) (p .0) in
+      k .0 ∙ ap (λ (l : List ℕ). uint32 n ++ (uint32 n ++ l)) (r .text)
+      ∙ sym (content-then n a (viewOf s q) stored (viewOf s m) (rest s b))
+      ∙ ap (λ (l : List ℕ). body ++ l) (p .0) in
       let long : c .end - c .at ≡ length body + left =
-          sym (length-slice (c .at) (c .end) s inside) ∙ ap length text ∙ length-append body (take left paddingBytes)
-          ∙ ap (λ (i : ℕ). length body + i) (length-take-le left paddingBytes (omega (arith, p .1))) in
+      sym (length-slice (c .at) (c .end) s inside) ∙ ap length text ∙ length-append body (take left paddingBytes)
+      ∙ ap (λ (i : ℕ). length body + i) (length-take-le left paddingBytes (omega (arith, p .1))) in
       let fills : left ≡ short (length body) = padding-short (length body) left (rw long at whole) (p .1) in
       text ∙ ap (λ (i : ℕ). body ++ take i paddingBytes) fills
 
@@ -208,12 +208,12 @@ module _ (s : List ℕ) (all : AllBytes s) where
       (λ f t. let k : section-read.Refused f ≡ section-read.Section x = rw t at i in clash cc)
       (λ t.
       let k :
-          section-read.Section
-          (record { kind = Plain; checkint = n; padding = b .end - b .at; scalar = y; comment = m; ciphertext = absent; tag = absent })
-          ≡ section-read.Section x = rw t at i in
+      section-read.Section
+      (record { kind = Plain; checkint = n; padding = b .end - b .at; scalar = y; comment = m; ciphertext = absent; tag = absent })
+      ≡ section-read.Section x = rw t at i in
       let o :
-          record { kind = Plain; checkint = n; padding = b .end - b .at; scalar = y; comment = m; ciphertext = absent; tag = absent } ≡ x =
-          cc in
+      record { kind = Plain; checkint = n; padding = b .end - b .at; scalar = y; comment = m; ciphertext = absent; tag = absent } ≡ x =
+      cc in
       let r = entry-read d a q y m b u in
       rw (← o)
       (record {
@@ -246,7 +246,7 @@ module _ (s : List ℕ) (all : AllBytes s) where
       let inside : p .start + p .length ≤ length s = omega (arith, r .place .placed) in
       let k = content-read (within p) a q x inside (v ∙ ap section-read.Section o) in
       let body : viewOf s p ≡ section (x .checkint) a (viewOf s q) (standing (k .zero) (viewOf s (x .scalar))) (viewOf s (x .comment)) =
-          sym (rest-within s p inside) ∙ k .text in
+      sym (rest-within s p inside) ∙ k .text in
       record {
         zero = k .zero;
         plain = k .plain;

@@ -1,0 +1,94 @@
+-- The form by the scalar alone: for an accepted image, writing its record again gives it back exactly where the scalar stands by
+-- the writer's rule.
+use Prim.Native.Nat.{ℕ, _<_, _^_}
+use native.Mathlib.Omega.{arith}
+use mathlib.Core.Path.{_≡_, refl, sym, _∙_, ap}
+use mathlib.Core.Bool.{Bool, true, false, cond, not}
+use mathlib.Core.List.{List}
+use lib.Dec.{leb}
+use lib.ListN.{length, getD}
+use Rattle.fields.specs.Bytes.{AllBytes, sameBytes, same-true, same-self}
+use Rattle.fields.specs.Fields.{viewOf}
+use Rattle.fields.specs.Place.{clash, by-bool}
+use Rattle.names.specs.declared.Algorithm.{Algorithm}
+use Rattle.names.specs.declared.Algorithm.the-variants.{Ed25519, Ecdsa}
+use Rattle.format.specs.Format.{standing, mayStand, needsLeadingZero, plainImage}
+use Rattle.format.specs.Laws.{key-small, standing-same}
+use Rattle.keys.specs.Keys.{onAlgorithm, afterZero}
+use Rattle.section.specs.declared.Kind.the-variants.{Plain, Encrypted}
+use Rattle.container.specs.declared.Fields.{Fields}
+use Rattle.container.specs.declared.ImageRead.the-variants as read
+use Rattle.container.specs.Container.{readAt}
+use Rattle.container.specs.Form.{writtenAgain, formOf, scalarInForm}
+use Rattle.container.specs.Read.{PlainText, ImageText, plain-text, encrypted-text, image-text}
+
+-- whether two answers are the same
+abbrev pub agree : Bool → Bool → Bool
+agree true z = z
+agree false z = not z
+
+agree-true : (w z : Bool) → agree w z ≡ true → w ≡ z
+agree-true true true e = refl
+agree-true true false e = sym e
+agree-true false true e = e
+agree-true false false e = refl
+
+agree-self : (z : Bool) → agree z z ≡ true
+agree-self true = refl
+agree-self false = refl
+
+-- the writer's image is the image itself exactly where the zero that stands is the one that the rule asks for
+pub form-agrees :
+    (s : List ℕ) (f : Fields) (p : PlainText s f)
+    → sameBytes (writtenAgain s f) s ≡ agree (needsLeadingZero (f .header .algorithm) (viewOf s (f .section .scalar))) (p .zero)
+unfolding writtenAgain
+form-agrees s f p =
+    let a = f .header .algorithm in
+    let point = viewOf s (f .header .point) in
+    let scalar = viewOf s (f .section .scalar) in
+    let comment = viewOf s (f .section .comment) in
+    let rule = needsLeadingZero a scalar in
+    let image : Bool → List ℕ = λ z. plainImage (f .section .checkint) a point (standing z scalar) comment in
+    let small = key-small a in
+    by-bool (agree rule (p .zero))
+    (λ w. rw w (ap (λ (z : Bool). sameBytes (image z) s) (agree-true rule (p .zero) w) ∙ ap (λ (t : List ℕ). sameBytes t s) (sym (p .text)) ∙ same-self s))
+    (λ w.
+    rw w
+    (by-bool (sameBytes (image rule) s)
+    (λ v.
+    let same : image rule ≡ image (p .zero) = same-true (image rule) s v ∙ p .text in
+    let z = standing-same (f .section .checkint) a point scalar comment rule (p .zero)
+    (omega (arith, p .key-fits .long)) (omega (arith, p .key-fits .private)) same in
+    clash (let q : agree rule (p .zero) ≡ true = rw z (agree-self (p .zero)) in cc))
+    (λ v. v)))
+
+-- the same, by the byte before the scalar
+scalar-agrees :
+    (s : List ℕ) (f : Fields) (p : PlainText s f) → f .section .kind ≡ Plain
+    → scalarInForm s f ≡ agree (needsLeadingZero (f .header .algorithm) (viewOf s (f .section .scalar))) (p .zero)
+unfolding scalarInForm
+scalar-agrees s f p plain = rw (plain, p .after) (go (f .header .algorithm) (p .key-fits .may))
+  where
+    scalar : List ℕ
+    scalar = viewOf s (f .section .scalar)
+
+    as-cond : (w z : Bool) → cond w z (not z) ≡ agree w z
+    as-cond true z = refl
+    as-cond false z = refl
+
+    no-zero : (z : Bool) → not z ≡ true → true ≡ not z
+    no-zero z e = sym e
+
+    go :
+        (a : Algorithm) → mayStand a (p .zero) ≡ true
+        → onAlgorithm a true (λ k. cond (leb 0x80 (getD scalar 0 0)) (p .zero) (not (p .zero))) ≡ agree (needsLeadingZero a scalar) (p .zero)
+    go Ed25519 may = no-zero (p .zero) may
+    go (Ecdsa k) may = as-cond (leb 0x80 (getD scalar 0 0)) (p .zero)
+
+pub form-scalar : (s : List ℕ) → AllBytes s → (f : Fields) → readAt s ≡ read.Record f → formOf s f ≡ scalarInForm s f
+unfolding formOf scalarInForm writtenAgain
+form-scalar s all f e = go (image-text s all f e)
+  where
+    go : ImageText s all f e → formOf s f ≡ scalarInForm s f
+    go (plain-text plain p) = rw plain (form-agrees s f p) ∙ sym (scalar-agrees s f p plain)
+    go (encrypted-text encrypted p) = rw encrypted
