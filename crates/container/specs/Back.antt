@@ -17,11 +17,10 @@ use Rattle.format.specs.Format.{OptionsFit, publicLength, pointTag, standing, s
 use Rattle.header.specs.Header.{headerAt}
 use Rattle.header.specs.Back.{HeaderBack, header-back}
 use Rattle.section.specs.declared.Kind.the-variants.{Plain, Encrypted}
-use Rattle.section.specs.Section.{sectionAt}
 use Rattle.section.specs.Back.{KeyFits, PlainBack, plain-back, EncryptedBack, encrypted-back}
 use Rattle.container.specs.declared.Fields.{Fields}
 use Rattle.container.specs.declared.ImageRead.the-variants as read
-use Rattle.container.specs.Container.{readAt}
+use Rattle.container.specs.Container.{sectionAt, readAt}
 
 -- what a plain image gives back
 pub record PlainImageBack (s : List ℕ) (n : ℕ) (a : Algorithm) (point scalar comment : List ℕ) (padding : ℕ) : Type 0 where

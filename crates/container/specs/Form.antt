@@ -11,6 +11,9 @@ use Rattle.keys.specs.Keys.{onAlgorithm, afterZero}
 use Rattle.section.specs.declared.Kind.{Kind}
 use Rattle.section.specs.declared.Kind.the-variants.{Plain, Encrypted}
 use Rattle.container.specs.declared.Fields.{Fields}
+use Rattle.container.specs.declared.FormRead.{FormRead}
+use Rattle.container.specs.declared.FormRead.the-variants as form-read
+use Rattle.container.specs.Container.{onRead, readAt}
 
 abbrev pub onKind : {R : Type 0} → Kind → R → R → R
 onKind Plain plain encrypted = plain
@@ -26,6 +29,9 @@ writtenAgain s f =
 -- every encrypted image is in the form
 unfoldable pub formOf : List ℕ → Fields → Bool
 formOf s f = onKind (f .section .kind) (sameBytes (writtenAgain s f) s) true
+
+unfoldable pub formReadAt : List ℕ → FormRead
+formReadAt s = onRead (readAt s) form-read.Refused (λ f. form-read.Record f (formOf s f))
 
 -- ---- the form by the scalar alone, which is what the code looks at; `form-scalar` says that it is the same
 

@@ -29,12 +29,12 @@ use Rattle.section.specs.declared.Kind.the-variants.{Plain, Encrypted}
 use Rattle.section.specs.declared.Section.{Section}
 use Rattle.section.specs.declared.SectionRead.{SectionRead}
 use Rattle.section.specs.declared.SectionRead.the-variants as section-read
-use Rattle.section.specs.Section.{kdfNamePlace, plainAt, encryptedAt, sectionAt}
+use Rattle.section.specs.Section.{plainAt, encryptedAt}
 use Rattle.section.specs.Back.{KeyFits}
 use Rattle.section.specs.Read.{PlainRead, plain-read, EncryptedRead, encrypted-read}
 use Rattle.container.specs.declared.Fields.{Fields}
 use Rattle.container.specs.declared.ImageRead.the-variants as read
-use Rattle.container.specs.Container.{readAt}
+use Rattle.container.specs.Container.{kdfNamePlace, sectionAt, readAt}
 use Rattle.container.specs.Back.{SealFits}
 
 -- by cases, with the equation in hand

@@ -4,14 +4,17 @@ ghost use mathlib.Core.Path.{_≡_};
 ghost use Rattle.fields.specs.Fields.{isView};
 ghost use lib.Dec.{leb};
 ghost use lib.ListN.{getD};
-ghost use Rattle.container.specs.Container.{readAt};
-ghost use Rattle.container.specs.Form.{scalarInForm};
+ghost use Rattle.container.specs.Container.{sectionAt, readAt};
+ghost use Rattle.container.specs.Form.{scalarInForm, formReadAt};
 ghost use Rattle.keys.specs.Keys.{afterZero};
+use fields::Cursor;
 use fields::Fault;
 use fields::Part;
+use fields::Refusal;
 use header::Header;
 use header::HeaderRead;
 use names::Algorithm;
+use names::Kdf;
 use section::Kind;
 use section::Section;
 use section::SectionRead;
@@ -27,12 +30,42 @@ pub enum ImageRead {
     Refused(Fault),
 }
 
+// The section that goes on from a header. A plain one needs the KDF `none`, whose name begins at 23 after
+// the cipher's.
+fn read_section(image: &[u8], header: Header) -> SectionRead
+    ensures { λ r. ⌜ r ≡ sectionAt (now (image .entry)) header ⌝ }
+{
+    let at = header.section;
+    let end = image.len();
+    let c = Cursor {
+        at: at,
+        end: end,
+    };
+    let cipher = header.cipher;
+    let kdf = header.kdf;
+    let algorithm = header.algorithm;
+    let point = header.point;
+    if cipher.is_none() {
+        match kdf {
+            Kdf::None => return section::read_plain(c, image, algorithm, point),
+            Kdf::Bcrypt => {
+                return SectionRead::Refused(Fault {
+                    why: Refusal::Crypto,
+                    at: 23,
+                });
+            }
+        }
+    }
+    section::read_encrypted(c, image, cipher)
+}
+
+// The full read: the one followed by the other.
 pub fn read(image: &[u8]) -> ImageRead
     ensures { λ r. ⌜ r ≡ readAt (now (image .entry)) ⌝ }
 {
     match header::read_header(image) {
         HeaderRead::Refused(f) => ImageRead::Refused(f),
-        HeaderRead::Header(h) => match section::read_section(image, h) {
+        HeaderRead::Header(h) => match read_section(image, h) {
             SectionRead::Refused(f) => ImageRead::Refused(f),
             SectionRead::Section(x) => ImageRead::Record(Fields {
                 header: h,
@@ -122,7 +155,7 @@ fn needs_leading_zero(scalar: &[u8]) -> bool
 }
 
 // Does the scalar of an accepted image stand as the writer would write it?
-pub fn scalar_in_form(image: &[u8], f: Fields) -> bool
+fn scalar_in_form(image: &[u8], f: Fields) -> bool
     ensures { λ r. ⌜ r ≡ scalarInForm (now (image .entry)) f ⌝ }
 {
     let header = f.header;
@@ -144,5 +177,20 @@ pub fn scalar_in_form(image: &[u8], f: Fields) -> bool
                 true
             }
         },
+    }
+}
+
+pub enum FormRead {
+    Record(Fields, bool),
+    Refused(Fault),
+}
+
+// The full read, and whether the image is in the writer's form.
+pub fn read_with_form(image: &[u8]) -> FormRead
+    ensures { λ r. ⌜ r ≡ formReadAt (now (image .entry)) ⌝ }
+{
+    match read(image) {
+        ImageRead::Refused(f) => FormRead::Refused(f),
+        ImageRead::Record(fields) => FormRead::Record(fields, scalar_in_form(image, fields)),
     }
 }

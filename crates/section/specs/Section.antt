@@ -2,7 +2,7 @@
 use Prim.Native.Nat.{ℕ, _-_, _%_}
 use mathlib.Core.List.{List}
 use mathlib.Core.Bool.{Bool, cond, _&&_}
-use lib.ListN.{length, take}
+use lib.ListN.{take}
 use lib.Dec.{eqb, ltb}
 use Rattle.fields.specs.Bytes.{sameBytes}
 use Rattle.fields.specs.Fields.{fault, part, absent, within, onField, onUint32, onEnding, uint32At, bytesAt, stringAt, endAt, viewOf}
@@ -17,12 +17,10 @@ use Rattle.fields.specs.declared.Refusal.the-variants.{Length, FormatEncoding, 
 use Rattle.names.specs.declared.Algorithm.{Algorithm}
 use Rattle.names.specs.declared.Cipher.{Cipher}
 use Rattle.names.specs.Algorithms.{sameAlgorithm}
-use Rattle.names.specs.Ciphers.{isNone, blockSize, tagLength}
+use Rattle.names.specs.Ciphers.{blockSize, tagLength}
 use Rattle.utf8.specs.Utf8.{utf8}
 use Rattle.format.specs.Format.{paddingBytes}
 use Rattle.keys.specs.Keys.{onKeypair, keypairAt}
-use Rattle.header.specs.declared.Header.{Header}
-use Rattle.header.specs.Header.{onKdf}
 use Rattle.section.specs.declared.Entry.{Entry}
 use Rattle.section.specs.declared.Entry.the-variants as entry
 use Rattle.section.specs.declared.Kind.the-variants.{Plain, Encrypted}
@@ -120,16 +118,3 @@ encryptedAt s c cipher =
     onEnding (endAt e) section-read.Refused
     (section-read.Section (encryptedOf p (presentOf tag)))))
     (section-read.Refused (fault Crypto (c .at))))
-
--- after a magic of 15 bytes and the cipher name `none`, a string of 8, the KDF name begins at 23
-abbrev pub kdfNamePlace : ℕ
-kdfNamePlace = 23
-
--- the section begins where the header says; cipher `none` with a KDF not `none`: 3, at the KDF name
-unfoldable pub sectionAt : List ℕ → Header → SectionRead
-sectionAt s h =
-    cond (isNone (h .cipher))
-    (onKdf (h .kdf)
-    (plainAt s (record { at = h .section; end = length s }) (h .algorithm) (h .point))
-    (section-read.Refused (fault Crypto kdfNamePlace)))
-    (encryptedAt s (record { at = h .section; end = length s }) (h .cipher))

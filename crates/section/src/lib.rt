@@ -1,6 +1,6 @@
 // The container's section: plain, with its keypair, comment and padding, or encrypted, with its tag.
 ghost use mathlib.Core.Path.{_≡_};
-ghost use Rattle.section.specs.Section.{checkintsAt, samePublic, entryAt, paddingAt, contentAt, plainAt, encryptedOf, presentOf, encryptedAt, sectionAt};
+ghost use Rattle.section.specs.Section.{checkintsAt, samePublic, entryAt, paddingAt, contentAt, plainAt, encryptedOf, presentOf, encryptedAt};
 use fields::Cursor;
 use fields::Ending;
 use fields::Fault;
@@ -8,11 +8,9 @@ use fields::Field;
 use fields::Part;
 use fields::Refusal;
 use fields::Uint32;
-use header::Header;
 use keys::Keypair;
 use names::Algorithm;
 use names::Cipher;
-use names::Kdf;
 
 pub enum Kind {
     Plain,
@@ -173,7 +171,7 @@ fn read_content(c: Cursor, image: &[u8], algorithm: Algorithm, point: Part) -> S
 }
 
 // A plain section and the image's end; what is wrong within the section comes first.
-fn read_plain(c: Cursor, image: &[u8], algorithm: Algorithm, point: Part) -> SectionRead
+pub fn read_plain(c: Cursor, image: &[u8], algorithm: Algorithm, point: Part) -> SectionRead
     ensures { λ r. ⌜ r ≡ plainAt (now (image .entry)) c algorithm point ⌝ }
 {
     match c.string(image) {
@@ -231,7 +229,7 @@ fn present(tag: Part) -> Part
 }
 
 // The ciphertext and, outside its string, the tag of a cipher that has one.
-fn read_encrypted(c: Cursor, image: &[u8], cipher: Cipher) -> SectionRead
+pub fn read_encrypted(c: Cursor, image: &[u8], cipher: Cipher) -> SectionRead
     ensures { λ r. ⌜ r ≡ encryptedAt (now (image .entry)) c cipher ⌝ }
 {
     let at = c.at;
@@ -254,30 +252,4 @@ fn read_encrypted(c: Cursor, image: &[u8], cipher: Cipher) -> SectionRead
             }
         }
     }
-}
-
-// The section that goes on from a header. A plain one needs the KDF `none`, whose name begins at 23 after
-// the cipher's.
-pub fn read_section(image: &[u8], header: Header) -> SectionRead
-    ensures { λ r. ⌜ r ≡ sectionAt (now (image .entry)) header ⌝ }
-{
-    let at = header.section;
-    let end = image.len();
-    let c = Cursor { at: at, end: end };
-    let cipher = header.cipher;
-    let kdf = header.kdf;
-    let algorithm = header.algorithm;
-    let point = header.point;
-    if cipher.is_none() {
-        match kdf {
-            Kdf::None => return read_plain(c, image, algorithm, point),
-            Kdf::Bcrypt => {
-                return SectionRead::Refused(Fault {
-                    why: Refusal::Crypto,
-                    at: 23,
-                });
-            }
-        }
-    }
-    read_encrypted(c, image, cipher)
 }

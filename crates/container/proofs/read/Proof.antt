@@ -5,7 +5,6 @@ use Rattle.container.proofs.read.Tie as tie
 use Rattle.container.proofs.read.Reads as reads
 use Rattle.container.proofs.read.Lts as lts
 use Rattle.header.proofs.read_header.Reads as read-header-reads
-use Rattle.section.proofs.read_section.Reads as read-section-reads
 
 read-header-requires : tie.Need-read-header-requires
 read-header-requires c κs = search needs

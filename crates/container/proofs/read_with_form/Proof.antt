@@ -1,0 +1,48 @@
+use mathlib.Core.Path.{sym, _∙_, ap}
+use denote.Ref.{now}
+use Rattle.container.specs.declared.FormRead.the-variants as form-read
+use Rattle.container.specs.FormLaws.{form-scalar}
+use Rattle.container.specs.Form.{formReadAt}
+use borrow.Author.Needs.{needs}
+use Rattle.container.proofs.read_with_form.Statement.{statement}
+use Rattle.container.proofs.read_with_form.Tie as tie
+use Rattle.container.proofs.read_with_form.Reads as reads
+use Rattle.container.proofs.read_with_form.Lts as lts
+use Rattle.container.proofs.read.Reads as read-reads
+use Rattle.container.proofs.scalar_in_form.Reads as scalar-in-form-reads
+
+read-requires : tie.Need-read-requires
+read-requires c κs = search needs
+
+enum-known-f : tie.Need-enum-known-f
+enum-known-f c = search needs
+
+enum-known-fields : tie.Need-enum-known-fields
+enum-known-fields c = search needs
+
+scalar-in-form-requires : tie.Need-scalar-in-form-requires
+scalar-in-form-requires c κs = search needs
+
+returns : tie.Need-returns
+unfolding formReadAt
+returns c = rw (← c .before .before .before .read .ensures, c .before .f .given .1)
+
+returns-2 : tie.Need-returns-2
+unfolding formReadAt
+returns-2 c = let start = c .before .before .before .before .before in
+    let record′ = c .before .before .fields .given .0 .0 in
+    let accepted = sym (c .before .before .before .before .read .ensures) ∙ c .before .before .fields .given .1 in
+    let form = form-scalar (now (start .before .args .image)) (λ i. start .shared-slice-known .given i .fits) record′ accepted in
+    rw (← c .before .before .before .before .read .ensures, c .before .before .fields .given .1)
+    (ap (form-read.Record record′) (c .scalar-in-form .ensures ∙ sym form))
+
+pub read-with-form-spec : {M : Type 1} → statement M
+read-with-form-spec =
+    tie.close
+    (tie.spec
+    read-requires
+    enum-known-f
+    enum-known-fields
+    scalar-in-form-requires
+    returns
+    returns-2)
