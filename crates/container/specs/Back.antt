@@ -1,7 +1,7 @@
 -- Reading back what the format writes gives its fields, for plain and for encrypted images.
 use Prim.Native.Nat.{ℕ, _%_, _≤_, _<_, _^_}
 use native.Mathlib.Omega.{arith}
-use mathlib.Core.Path.{_≡_, refl, sym, _∙_, ap}
+use mathlib.Core.Path.{_≡_, refl, _∙_, ap}
 use mathlib.Core.Bool.{Bool, true, false}
 use mathlib.Core.List.{List, [], _++_, append-nil}
 use lib.ListN.{length}
@@ -14,10 +14,9 @@ use Rattle.names.specs.declared.Kdf.{Kdf}
 use Rattle.names.specs.declared.Kdf.the-variants as kdf
 use Rattle.names.specs.Ciphers.{isNone, blockSize, tagLength}
 use Rattle.format.specs.Format.{OptionsFit, publicLength, pointTag, standing, short, blob, content, section, header, plainImage, encryptedImage}
-use Rattle.header.specs.Header.{headerAt}
 use Rattle.header.specs.Back.{HeaderBack, header-back}
 use Rattle.section.specs.declared.Kind.the-variants.{Plain, Encrypted}
-use Rattle.section.specs.Back.{KeyFits, PlainBack, plain-back, EncryptedBack, encrypted-back}
+use Rattle.section.specs.Back.{KeyFits, PlainBack, plain-back, encrypted-back}
 use Rattle.container.specs.declared.Fields.{Fields}
 use Rattle.container.specs.declared.ImageRead.the-variants as read
 use Rattle.container.specs.Container.{sectionAt, readAt}

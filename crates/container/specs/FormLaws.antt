@@ -1,12 +1,12 @@
 -- The form by the scalar alone: for an accepted image, writing its record again gives it back exactly where the scalar stands by
 -- the writer's rule.
-use Prim.Native.Nat.{ℕ, _<_, _^_}
+use Prim.Native.Nat.{ℕ}
 use native.Mathlib.Omega.{arith}
 use mathlib.Core.Path.{_≡_, refl, sym, _∙_, ap}
 use mathlib.Core.Bool.{Bool, true, false, cond, not}
 use mathlib.Core.List.{List}
 use lib.Dec.{leb}
-use lib.ListN.{length, getD}
+use lib.ListN.{getD}
 use Rattle.fields.specs.Bytes.{AllBytes, sameBytes, same-true, same-self}
 use Rattle.fields.specs.Fields.{viewOf}
 use Rattle.fields.specs.Place.{clash, by-bool}
@@ -14,8 +14,8 @@ use Rattle.names.specs.declared.Algorithm.{Algorithm}
 use Rattle.names.specs.declared.Algorithm.the-variants.{Ed25519, Ecdsa}
 use Rattle.format.specs.Format.{standing, mayStand, needsLeadingZero, plainImage}
 use Rattle.format.specs.Laws.{key-small, standing-same}
-use Rattle.keys.specs.Keys.{onAlgorithm, afterZero}
-use Rattle.section.specs.declared.Kind.the-variants.{Plain, Encrypted}
+use Rattle.keys.specs.Keys.{onAlgorithm}
+use Rattle.section.specs.declared.Kind.the-variants.{Plain}
 use Rattle.container.specs.declared.Fields.{Fields}
 use Rattle.container.specs.declared.ImageRead.the-variants as read
 use Rattle.container.specs.Container.{readAt}

@@ -7,7 +7,6 @@ use lib.ListN.{length}
 use Rattle.fields.specs.Bytes.{string, AllBytes}
 use Rattle.fields.specs.Fields.{fault, viewOf}
 use Rattle.fields.specs.Place.{clash, by-bool}
-use Rattle.fields.specs.Rest.{rest}
 use Rattle.fields.specs.declared.Cursor.{Cursor}
 use Rattle.fields.specs.declared.Fault.{Fault}
 use Rattle.fields.specs.declared.Refusal.the-variants.{Crypto}
@@ -24,7 +23,6 @@ use Rattle.header.specs.declared.HeaderRead.{HeaderRead}
 use Rattle.header.specs.declared.HeaderRead.the-variants as header-read
 use Rattle.header.specs.Header.{onKdf, headerAt}
 use Rattle.header.specs.Read.{HeaderText, header-text}
-use Rattle.section.specs.declared.Kind.{Kind}
 use Rattle.section.specs.declared.Kind.the-variants.{Plain, Encrypted}
 use Rattle.section.specs.declared.Section.{Section}
 use Rattle.section.specs.declared.SectionRead.{SectionRead}

@@ -37,10 +37,7 @@ fn read_section(image: &[u8], header: Header) -> SectionRead
 {
     let at = header.section;
     let end = image.len();
-    let c = Cursor {
-        at: at,
-        end: end,
-    };
+    let c = Cursor { at: at, end: end };
     let cipher = header.cipher;
     let kdf = header.kdf;
     let algorithm = header.algorithm;

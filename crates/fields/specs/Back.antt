@@ -16,7 +16,6 @@ use Rattle.fields.specs.declared.Ending.the-variants as ending
 use Rattle.fields.specs.Bytes.{uint32, string}
 use Rattle.fields.specs.Fields.{numberAt, part, moved, uint32At, bytesAt, stringAt, fixedAt, endAt, viewOf}
 use Rattle.fields.specs.Room.{Room, room-is}
-use Rattle.fields.specs.Place.{bytes-place}
 use Rattle.fields.specs.Rest.{rest, Good, rest-four, room-of, rest-back, digits-number, length-string}
 
 -- the answer w has the bytes b, and t is what is left after it

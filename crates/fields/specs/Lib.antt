@@ -1,5 +1,6 @@
 pub mod Bytes
 pub mod Refusals
+pub mod Determined
 pub mod Fields
 pub mod Room
 pub mod Place

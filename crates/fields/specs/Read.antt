@@ -1,8 +1,7 @@
 -- Inversion: a field that was read stands at its place as the bytes that it is written as, and then comes what is left.
 use Prim.Native.Nat.{ℕ, _+_, _-_, _≤_, _<_, _^_}
 use native.Mathlib.Omega.{arith}
-use mathlib.Core.Path.{_≡_, refl, sym, _∙_, ap}
-use mathlib.Core.Bool.{true, false, cond}
+use mathlib.Core.Path.{_≡_, sym, _∙_, ap}
 use mathlib.Core.List.{List, [], _++_, append-assoc}
 use borrow.Author.Tests.{ltb-false}
 use lib.Dec.{ltb}
@@ -12,12 +11,10 @@ use Rattle.fields.specs.declared.Part.{Part}
 use Rattle.fields.specs.declared.Uint32.the-variants as answer
 use Rattle.fields.specs.declared.Field.the-variants as field
 use Rattle.fields.specs.declared.Ending.the-variants as ending
-use Rattle.fields.specs.declared.Refusal.the-variants.{TrailingData}
 use Rattle.fields.specs.Bytes.{uint32, string, AllBytes}
 use Rattle.fields.specs.Fields.{number4, part, moved, uint32At, bytesAt, stringAt, endAt, viewOf}
-use Rattle.fields.specs.Room.{Room}
 use Rattle.fields.specs.Place.{clash, by-bool, uint32-place, bytes-place, string-place, StringPlace}
-use Rattle.fields.specs.Rest.{rest, Good, rest-split, rest-four, rest-end, length-part, view-length, number-at-fits, number-at-digits}
+use Rattle.fields.specs.Rest.{rest, rest-split, rest-four, rest-end, view-length, number-at-fits, number-at-digits}
 
 -- the same place
 cursor-is : (c d : Cursor) → c .at ≡ d .at → c .end ≡ d .end → c ≡ d

@@ -1,7 +1,6 @@
 -- The header's parts end where the image does: each place that is handed on has the image's end.
 use Prim.Native.Nat.{ℕ, _≤_}
 use mathlib.Core.Path.{_≡_, refl, sym, _∙_, ap}
-use mathlib.Core.Bool.{true, false}
 use mathlib.Core.List.{List}
 use borrow.Author.Tests.{ltb-false, eqb-true}
 use lib.Dec.{eqb, ltb}

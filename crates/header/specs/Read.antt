@@ -7,9 +7,9 @@ use mathlib.Core.List.{List, [], _++_, append-nil}
 use lib.ListN.{length}
 use lib.Seq.{slice}
 use Rattle.fields.specs.Bytes.{uint32, string, AllBytes, length-zero}
-use Rattle.fields.specs.Fields.{absent, whole, within, uint32At, viewOf}
-use Rattle.fields.specs.Place.{clash, by-uint32, string-place}
-use Rattle.fields.specs.Rest.{rest, rest-whole, rest-within, view-absent, view-length}
+use Rattle.fields.specs.Fields.{whole, within, viewOf}
+use Rattle.fields.specs.Place.{clash, by-uint32}
+use Rattle.fields.specs.Rest.{rest, rest-whole, rest-within, view-absent}
 use Rattle.fields.specs.Read.{bytes-read, string-read, uint32-read, end-read}
 use Rattle.fields.specs.declared.Cursor.{Cursor}
 use Rattle.fields.specs.declared.Fault.{Fault}

@@ -1,12 +1,11 @@
 -- Reading back: a public key, a blob or a keypair that stands at a place as the format writes it is read there, with its bytes.
-use Prim.Native.Nat.{ℕ, _+_, _*_, _≤_, _<_, _^_}
+use Prim.Native.Nat.{ℕ, _+_, _*_, _≤_, _<_}
 use native.Mathlib.Nat.{add-zero}
 use native.Mathlib.Omega.{arith}
 use mathlib.Core.Path.{_≡_, refl, sym, _∙_, ap}
 use mathlib.Core.Bool.{Bool, true, false}
 use mathlib.Core.List.{List, [], _∷_, _++_, append-nil}
 use borrow.Author.Tests.{eq-eqb, ne-eqb, eqb-true}
-use lib.Dec.{eqb}
 use lib.ListN.{length, getD, length-append}
 use Rattle.fields.specs.Bytes.{string, same-self}
 use Rattle.fields.specs.Fields.{part, stringAt, viewOf}

@@ -5,19 +5,18 @@ use native.Mathlib.Nat.{add-zero}
 use native.Mathlib.Omega.{arith}
 use mathlib.Core.Path.{_≡_, refl, sym, _∙_, ap}
 use mathlib.Core.Bool.{Bool, true, false}
-use mathlib.Core.List.{List, [], _∷_, _++_, append-nil}
-use borrow.Author.Tests.{eq-eqb, ne-eqb, eqb-true, eqb-false}
+use mathlib.Core.List.{List, _∷_, _++_, append-nil}
+use borrow.Author.Tests.{eq-eqb, ne-eqb, eqb-true}
 use lib.Dec.{eqb}
 use lib.ListN.{length, getD}
 use Rattle.fields.specs.Bytes.{string, AllBytes, sameBytes, same-true}
 use Rattle.fields.specs.Fields.{part, onField, stringAt, fixedAt, endAt, viewOf}
-use Rattle.fields.specs.Place.{clash, by-field, by-bool, by-ending, fixed-place, string-place, Placed}
+use Rattle.fields.specs.Place.{clash, by-field, by-bool, by-ending, fixed-place}
 use Rattle.fields.specs.Rest.{rest, view-byte, view-cons, view-split, view-length}
 use Rattle.fields.specs.Read.{StringRead, string-read, length-byte, end-read}
 use Rattle.fields.specs.declared.Cursor.{Cursor}
 use Rattle.fields.specs.declared.Fault.{Fault}
 use Rattle.fields.specs.declared.Part.{Part}
-use Rattle.fields.specs.declared.Field.{Field}
 use Rattle.fields.specs.declared.Field.the-variants as field
 use Rattle.names.specs.declared.Algorithm.{Algorithm}
 use Rattle.names.specs.declared.Algorithm.the-variants.{Ed25519, Ecdsa}
@@ -27,14 +26,13 @@ use Rattle.names.specs.declared.Curve.{Curve}
 use Rattle.names.specs.declared.CurveName.{CurveName}
 use Rattle.names.specs.declared.CurveName.the-variants as curve-name
 use Rattle.names.specs.Algorithms.{algorithmName, algorithmNamed, curveName, curveNamed, sizeOf, sameAlgorithm, curve-read, algorithm-read, algorithm-same, size-small}
-use Rattle.format.specs.Format.{curveField, blob, publicLength, privateLength, pointTag, privateField, standing, mayStand}
+use Rattle.format.specs.Format.{blob, publicLength, privateLength, pointTag, privateField, standing, mayStand}
 use Rattle.format.specs.Laws.{blob-then}
 use Rattle.keys.specs.declared.EcdsaPublic.{EcdsaPublic}
 use Rattle.keys.specs.declared.EcdsaPublic.the-variants as ecdsa
 use Rattle.keys.specs.declared.PublicKey.{PublicKey}
 use Rattle.keys.specs.declared.PublicKey.the-variants as public
 use Rattle.keys.specs.declared.Blob.the-variants as key
-use Rattle.keys.specs.declared.Keypair.{Keypair}
 use Rattle.keys.specs.declared.Keypair.the-variants as keypair
 use Rattle.keys.specs.Keys.{onAlgorithm, pointAt, scalarAt, ecdsaPublicAt, ecdsaKeyAt, publicKeyAt, blobAt, ed25519PairAt, ecdsaPairAt, keypairAt, afterZero}
 

@@ -1,8 +1,8 @@
 -- Reading back: a section that ends an image as the format writes it is read, with its fields.
-use Prim.Native.Nat.{ℕ, _+_, _-_, _%_, _≤_, _<_, _^_}
+use Prim.Native.Nat.{ℕ, _+_, _-_, _%_, _<_, _^_}
 use native.Mathlib.Omega.{arith}
 use mathlib.Core.Path.{_≡_, refl, sym, _∙_, ap}
-use mathlib.Core.Bool.{Bool, true, false}
+use mathlib.Core.Bool.{Bool, true}
 use mathlib.Core.List.{List, [], _++_, append-nil}
 use borrow.Author.Tests.{eq-eqb, eqb-true, lt-ltb}
 use lib.Dec.{eqb}
@@ -13,7 +13,7 @@ use Rattle.fields.specs.Fields.{part, absent, within, viewOf}
 use Rattle.fields.specs.Room.{view-in}
 use Rattle.fields.specs.Place.{by-bool}
 use Rattle.fields.specs.Rest.{rest, Good, rest-within, view-absent}
-use Rattle.fields.specs.Back.{FieldBack, Uint32Back, short-of, bytes-back, string-back, uint32-back, end-back}
+use Rattle.fields.specs.Back.{Uint32Back, short-of, bytes-back, string-back, uint32-back, end-back}
 use Rattle.fields.specs.declared.Cursor.{Cursor}
 use Rattle.fields.specs.declared.Part.{Part}
 use Rattle.fields.specs.declared.Ending.the-variants as ending

@@ -2,21 +2,20 @@
 use Prim.Native.Nat.{ℕ, _+_, _-_, _%_, _≤_, _<_, _^_}
 use native.Mathlib.Omega.{arith}
 use mathlib.Core.Path.{_≡_, refl, sym, _∙_, ap}
-use mathlib.Core.Bool.{Bool, true, false}
-use mathlib.Core.List.{List, [], _++_, append-nil}
+use mathlib.Core.Bool.{Bool, true}
+use mathlib.Core.List.{List, _++_, append-nil}
 use borrow.Author.Tests.{eqb-true, ltb-true}
 use lib.Dec.{eqb, ltb}
 use lib.ListN.{length, take, length-append}
 use lib.Seq.{length-slice, length-take-le}
-use Rattle.fields.specs.Bytes.{uint32, string, AllBytes, sameBytes, same-true, both-true, length-zero}
+use Rattle.fields.specs.Bytes.{uint32, string, AllBytes, sameBytes, same-true, both-true}
 use Rattle.fields.specs.Fields.{part, absent, within, uint32At, bytesAt, stringAt, endAt, viewOf}
 use Rattle.fields.specs.Place.{clash, by-field, by-uint32, by-ending, by-bool, bytes-place}
-use Rattle.fields.specs.Rest.{rest, Good, rest-within, view-absent, view-length}
+use Rattle.fields.specs.Rest.{rest, Good, rest-within, view-length}
 use Rattle.fields.specs.Read.{StringRead, uint32-read, bytes-read, string-read, end-read}
 use Rattle.fields.specs.declared.Cursor.{Cursor}
 use Rattle.fields.specs.declared.Fault.{Fault}
 use Rattle.fields.specs.declared.Part.{Part}
-use Rattle.fields.specs.declared.Field.the-variants as field
 use Rattle.fields.specs.declared.Uint32.the-variants as answer
 use Rattle.fields.specs.declared.Ending.the-variants as ending
 use Rattle.names.specs.declared.Algorithm.{Algorithm}
@@ -24,7 +23,7 @@ use Rattle.names.specs.declared.Cipher.{Cipher}
 use Rattle.names.specs.Algorithms.{sameAlgorithm, algorithm-same}
 use Rattle.names.specs.Ciphers.{blockSize, tagLength}
 use Rattle.utf8.specs.Utf8.{utf8}
-use Rattle.format.specs.Format.{publicLength, privateLength, pointTag, privateField, standing, mayStand, blob, content, section, short, paddingBytes}
+use Rattle.format.specs.Format.{privateField, standing, blob, content, section, short, paddingBytes}
 use Rattle.format.specs.Laws.{content-then}
 use Rattle.keys.specs.declared.Keypair.{Keypair}
 use Rattle.keys.specs.declared.Keypair.the-variants as keypair

@@ -2,9 +2,6 @@ use Rattle.keys.specs.Keys.{afterZero}
 use borrow.Author.Needs.{needs}
 use Rattle.container.proofs.after_zero.Statement.{statement}
 use Rattle.container.proofs.after_zero.Tie as tie
-use Rattle.container.proofs.after_zero.Reads as reads
-use Rattle.container.proofs.after_zero.Lts as lts
-use Rattle.container.proofs.byte.Reads as byte-reads
 
 byte-requires : tie.Need-byte-requires
 byte-requires c κs = search needs

@@ -1,9 +1,6 @@
 use borrow.Author.Needs.{needs}
 use Rattle.container.proofs.needs_leading_zero.Statement.{statement}
 use Rattle.container.proofs.needs_leading_zero.Tie as tie
-use Rattle.container.proofs.needs_leading_zero.Reads as reads
-use Rattle.container.proofs.needs_leading_zero.Lts as lts
-use Rattle.container.proofs.byte.Reads as byte-reads
 
 byte-requires : tie.Need-byte-requires
 byte-requires c κs = search needs

@@ -2,9 +2,6 @@ use Rattle.container.specs.Container.{readAt}
 use borrow.Author.Needs.{needs}
 use Rattle.container.proofs.read.Statement.{statement}
 use Rattle.container.proofs.read.Tie as tie
-use Rattle.container.proofs.read.Reads as reads
-use Rattle.container.proofs.read.Lts as lts
-use Rattle.header.proofs.read_header.Reads as read-header-reads
 
 read-header-requires : tie.Need-read-header-requires
 read-header-requires c κs = search needs

@@ -2,11 +2,6 @@ use Rattle.container.specs.Container.{sectionAt}
 use borrow.Author.Needs.{needs}
 use Rattle.container.proofs.read_section.Statement.{statement}
 use Rattle.container.proofs.read_section.Tie as tie
-use Rattle.container.proofs.read_section.Reads as reads
-use Rattle.container.proofs.read_section.Lts as lts
-use Rattle.names.proofs.Cipher.is_none.Reads as is-none-reads
-use Rattle.section.proofs.read_encrypted.Reads as read-encrypted-reads
-use Rattle.section.proofs.read_plain.Reads as read-plain-reads
 
 is-none-requires : tie.Need-is-none-requires
 is-none-requires c κs = search needs

@@ -6,10 +6,6 @@ use Rattle.container.specs.Form.{formReadAt}
 use borrow.Author.Needs.{needs}
 use Rattle.container.proofs.read_with_form.Statement.{statement}
 use Rattle.container.proofs.read_with_form.Tie as tie
-use Rattle.container.proofs.read_with_form.Reads as reads
-use Rattle.container.proofs.read_with_form.Lts as lts
-use Rattle.container.proofs.read.Reads as read-reads
-use Rattle.container.proofs.scalar_in_form.Reads as scalar-in-form-reads
 
 read-requires : tie.Need-read-requires
 read-requires c κs = search needs

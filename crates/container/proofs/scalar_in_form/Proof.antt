@@ -2,11 +2,6 @@ use Rattle.container.specs.Form.{scalarInForm}
 use borrow.Author.Needs.{needs}
 use Rattle.container.proofs.scalar_in_form.Statement.{statement}
 use Rattle.container.proofs.scalar_in_form.Tie as tie
-use Rattle.container.proofs.scalar_in_form.Reads as reads
-use Rattle.container.proofs.scalar_in_form.Lts as lts
-use Rattle.container.proofs.after_zero.Reads as after-zero-reads
-use Rattle.container.proofs.needs_leading_zero.Reads as needs-leading-zero-reads
-use Rattle.fields.proofs.view.Reads as view-reads
 
 enum-told : tie.Need-enum-told
 enum-told c = search needs

@@ -2,9 +2,6 @@ use Rattle.fields.specs.Bytes.{same-is}
 use borrow.Author.Needs.{needs}
 use Rattle.fields.proofs.same.Statement.{statement}
 use Rattle.fields.proofs.same.Tie as tie
-use Rattle.fields.proofs.same.Reads as reads
-use Rattle.fields.proofs.same.Lts as lts
-use Rattle.check.proofs.same.Reads as same-reads
 
 same-requires : tie.Need-same-requires
 same-requires c κs = search needs

@@ -1,6 +1,6 @@
 use native.Mathlib.Omega.{arith}
 use native.Mathlib.Nat.{add-sub-cancel-left, add-comm, add-zero}
-use mathlib.Core.Path.{_≡_, refl, sym}
+use mathlib.Core.Path.{refl, sym}
 use Prim.Native.Nat.{_+_, _≤_}
 use lib.ListN.{length}
 use denote.Ref.{now}
@@ -8,8 +8,6 @@ use Rattle.fields.specs.Room.{view-in, view-out, start-in, take-drop}
 use borrow.Author.Needs.{needs}
 use Rattle.fields.proofs.view.Statement.{statement}
 use Rattle.fields.proofs.view.Tie as tie
-use Rattle.fields.proofs.view.Reads as reads
-use Rattle.fields.proofs.view.Lts as lts
 
 slice-aggregate-result : tie.Need-slice-aggregate-result
 slice-aggregate-result c = search needs

@@ -5,11 +5,6 @@ use Rattle.header.specs.Header.{bcryptAt}
 use borrow.Author.Needs.{needs}
 use Rattle.header.proofs.bcrypt_options.Statement.{statement}
 use Rattle.header.proofs.bcrypt_options.Tie as tie
-use Rattle.header.proofs.bcrypt_options.Reads as reads
-use Rattle.header.proofs.bcrypt_options.Lts as lts
-use Rattle.fields.proofs.Cursor.finish.Reads as finish-reads
-use Rattle.fields.proofs.Cursor.string.Reads as string-reads
-use Rattle.fields.proofs.Cursor.uint32.Reads as uint32-reads
 
 string-requires : tie.Need-string-requires
 string-requires c κs = search needs

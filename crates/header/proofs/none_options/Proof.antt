@@ -3,9 +3,6 @@ use Rattle.header.specs.Header.{noneAt}
 use borrow.Author.Needs.{needs}
 use Rattle.header.proofs.none_options.Statement.{statement}
 use Rattle.header.proofs.none_options.Tie as tie
-use Rattle.header.proofs.none_options.Reads as reads
-use Rattle.header.proofs.none_options.Lts as lts
-use Rattle.fields.proofs.Cursor.string.Reads as string-reads
 
 string-requires : tie.Need-string-requires
 string-requires c κs = search needs

@@ -5,10 +5,6 @@ use Rattle.header.specs.Header.{blobFieldAt}
 use borrow.Author.Needs.{needs}
 use Rattle.header.proofs.read_blob_field.Statement.{statement}
 use Rattle.header.proofs.read_blob_field.Tie as tie
-use Rattle.header.proofs.read_blob_field.Reads as reads
-use Rattle.header.proofs.read_blob_field.Lts as lts
-use Rattle.fields.proofs.Cursor.string.Reads as string-reads
-use Rattle.keys.proofs.read_blob.Reads as read-blob-reads
 
 string-requires : tie.Need-string-requires
 string-requires c κs = search needs

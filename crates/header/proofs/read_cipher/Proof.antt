@@ -3,12 +3,6 @@ use Rattle.header.specs.Header.{cipherAt}
 use borrow.Author.Needs.{needs}
 use Rattle.header.proofs.read_cipher.Statement.{statement}
 use Rattle.header.proofs.read_cipher.Tie as tie
-use Rattle.header.proofs.read_cipher.Reads as reads
-use Rattle.header.proofs.read_cipher.Lts as lts
-use Rattle.fields.proofs.Cursor.string.Reads as string-reads
-use Rattle.fields.proofs.view.Reads as view-reads
-use Rattle.header.proofs.read_magic.Reads as read-magic-reads
-use Rattle.names.proofs.cipher_named.Reads as cipher-named-reads
 
 returns : tie.Need-returns
 unfolding cipherAt

@@ -3,9 +3,6 @@ use Rattle.header.specs.Header.{countAt}
 use borrow.Author.Needs.{needs}
 use Rattle.header.proofs.read_count.Statement.{statement}
 use Rattle.header.proofs.read_count.Tie as tie
-use Rattle.header.proofs.read_count.Reads as reads
-use Rattle.header.proofs.read_count.Lts as lts
-use Rattle.fields.proofs.Cursor.uint32.Reads as uint32-reads
 
 uint32-requires : tie.Need-uint32-requires
 uint32-requires c κs = search needs

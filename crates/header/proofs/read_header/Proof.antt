@@ -2,12 +2,6 @@ use Rattle.header.specs.Header.{headerAt}
 use borrow.Author.Needs.{needs}
 use Rattle.header.proofs.read_header.Statement.{statement}
 use Rattle.header.proofs.read_header.Tie as tie
-use Rattle.header.proofs.read_header.Reads as reads
-use Rattle.header.proofs.read_header.Lts as lts
-use Rattle.header.proofs.read_blob_field.Reads as read-blob-field-reads
-use Rattle.header.proofs.read_cipher.Reads as read-cipher-reads
-use Rattle.header.proofs.read_count.Reads as read-count-reads
-use Rattle.header.proofs.read_kdf.Reads as read-kdf-reads
 
 read-cipher-requires : tie.Need-read-cipher-requires
 read-cipher-requires c κs = search needs

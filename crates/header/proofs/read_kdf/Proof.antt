@@ -2,13 +2,6 @@ use Rattle.header.specs.Header.{kdfAt}
 use borrow.Author.Needs.{needs}
 use Rattle.header.proofs.read_kdf.Statement.{statement}
 use Rattle.header.proofs.read_kdf.Tie as tie
-use Rattle.header.proofs.read_kdf.Reads as reads
-use Rattle.header.proofs.read_kdf.Lts as lts
-use Rattle.fields.proofs.Cursor.string.Reads as string-reads
-use Rattle.fields.proofs.view.Reads as view-reads
-use Rattle.header.proofs.bcrypt_options.Reads as bcrypt-options-reads
-use Rattle.header.proofs.none_options.Reads as none-options-reads
-use Rattle.names.proofs.kdf_named.Reads as kdf-named-reads
 
 string-requires : tie.Need-string-requires
 string-requires c κs = search needs

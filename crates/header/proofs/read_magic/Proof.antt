@@ -3,11 +3,6 @@ use Rattle.header.specs.Header.{magicAt}
 use borrow.Author.Needs.{needs}
 use Rattle.header.proofs.read_magic.Statement.{statement}
 use Rattle.header.proofs.read_magic.Tie as tie
-use Rattle.header.proofs.read_magic.Reads as reads
-use Rattle.header.proofs.read_magic.Lts as lts
-use Rattle.fields.proofs.Cursor.bytes.Reads as bytes-reads
-use Rattle.fields.proofs.same.Reads as same-reads
-use Rattle.fields.proofs.view.Reads as view-reads
 
 bytes-requires : tie.Need-bytes-requires
 bytes-requires c κs = search needs

@@ -2,10 +2,6 @@ use Rattle.keys.specs.Keys.{blobAt}
 use borrow.Author.Needs.{needs}
 use Rattle.keys.proofs.read_blob.Statement.{statement}
 use Rattle.keys.proofs.read_blob.Tie as tie
-use Rattle.keys.proofs.read_blob.Reads as reads
-use Rattle.keys.proofs.read_blob.Lts as lts
-use Rattle.fields.proofs.Cursor.finish.Reads as finish-reads
-use Rattle.keys.proofs.read_public_key.Reads as read-public-key-reads
 
 read-public-key-requires : tie.Need-read-public-key-requires
 read-public-key-requires c κs = search needs

@@ -4,10 +4,6 @@ use borrow.Author.Tests.{eq-eqb, ne-eqb}
 use borrow.Author.Needs.{needs}
 use Rattle.keys.proofs.read_ecdsa_key.Statement.{statement}
 use Rattle.keys.proofs.read_ecdsa_key.Tie as tie
-use Rattle.keys.proofs.read_ecdsa_key.Reads as reads
-use Rattle.keys.proofs.read_ecdsa_key.Lts as lts
-use Rattle.keys.proofs.read_ecdsa_public.Reads as read-ecdsa-public-reads
-use Rattle.names.proofs.Algorithm.code.Reads as code-reads
 
 read-ecdsa-public-requires : tie.Need-read-ecdsa-public-requires
 read-ecdsa-public-requires c κs = search needs

@@ -4,12 +4,6 @@ use borrow.Author.Tests.{eq-eqb, ne-eqb}
 use borrow.Author.Needs.{needs}
 use Rattle.keys.proofs.read_ecdsa_pair.Statement.{statement}
 use Rattle.keys.proofs.read_ecdsa_pair.Tie as tie
-use Rattle.keys.proofs.read_ecdsa_pair.Reads as reads
-use Rattle.keys.proofs.read_ecdsa_pair.Lts as lts
-use Rattle.keys.proofs.read_ecdsa_public.Reads as read-ecdsa-public-reads
-use Rattle.keys.proofs.read_scalar.Reads as read-scalar-reads
-use Rattle.names.proofs.Algorithm.code.Reads as code-reads
-use Rattle.names.proofs.Curve.size.Reads as size-reads
 
 read-ecdsa-public-requires : tie.Need-read-ecdsa-public-requires
 read-ecdsa-public-requires c κs = search needs

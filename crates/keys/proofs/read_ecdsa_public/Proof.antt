@@ -2,12 +2,6 @@ use Rattle.keys.specs.Keys.{ecdsaPublicAt}
 use borrow.Author.Needs.{needs}
 use Rattle.keys.proofs.read_ecdsa_public.Statement.{statement}
 use Rattle.keys.proofs.read_ecdsa_public.Tie as tie
-use Rattle.keys.proofs.read_ecdsa_public.Reads as reads
-use Rattle.keys.proofs.read_ecdsa_public.Lts as lts
-use Rattle.fields.proofs.Cursor.string.Reads as string-reads
-use Rattle.fields.proofs.view.Reads as view-reads
-use Rattle.keys.proofs.read_point.Reads as read-point-reads
-use Rattle.names.proofs.curve_named.Reads as curve-named-reads
 
 string-requires : tie.Need-string-requires
 string-requires c κs = search needs

@@ -5,11 +5,6 @@ use Rattle.keys.specs.Keys.{ed25519PairAt}
 use borrow.Author.Needs.{needs}
 use Rattle.keys.proofs.read_ed25519_pair.Statement.{statement}
 use Rattle.keys.proofs.read_ed25519_pair.Tie as tie
-use Rattle.keys.proofs.read_ed25519_pair.Reads as reads
-use Rattle.keys.proofs.read_ed25519_pair.Lts as lts
-use Rattle.fields.proofs.Cursor.fixed.Reads as fixed-reads
-use Rattle.fields.proofs.same.Reads as same-reads
-use Rattle.fields.proofs.view.Reads as view-reads
 
 fixed-requires : tie.Need-fixed-requires
 fixed-requires c κs = search needs

@@ -2,13 +2,6 @@ use Rattle.keys.specs.Keys.{keypairAt}
 use borrow.Author.Needs.{needs}
 use Rattle.keys.proofs.read_keypair.Statement.{statement}
 use Rattle.keys.proofs.read_keypair.Tie as tie
-use Rattle.keys.proofs.read_keypair.Reads as reads
-use Rattle.keys.proofs.read_keypair.Lts as lts
-use Rattle.fields.proofs.Cursor.string.Reads as string-reads
-use Rattle.fields.proofs.view.Reads as view-reads
-use Rattle.keys.proofs.read_ecdsa_pair.Reads as read-ecdsa-pair-reads
-use Rattle.keys.proofs.read_ed25519_pair.Reads as read-ed25519-pair-reads
-use Rattle.names.proofs.algorithm_named.Reads as algorithm-named-reads
 
 string-requires : tie.Need-string-requires
 string-requires c κs = search needs

@@ -1,5 +1,4 @@
 use native.Mathlib.Omega.{arith}
-use Prim.Native.Nat.{_+_, _*_}
 use mathlib.Core.Path.{sym, _∙_}
 use Rattle.fields.specs.Place.{fixed-place, string-place}
 use borrow.Author.Tests.{eq-eqb, ne-eqb}
@@ -7,10 +6,6 @@ use Rattle.keys.specs.Keys.{pointAt}
 use borrow.Author.Needs.{needs}
 use Rattle.keys.proofs.read_point.Statement.{statement}
 use Rattle.keys.proofs.read_point.Tie as tie
-use Rattle.keys.proofs.read_point.Reads as reads
-use Rattle.keys.proofs.read_point.Lts as lts
-use Rattle.fields.proofs.Cursor.fixed.Reads as fixed-reads
-use Rattle.names.proofs.Curve.point_length.Reads as point-length-reads
 
 point-length-requires : tie.Need-point-length-requires
 point-length-requires c κs = search needs

@@ -2,13 +2,6 @@ use Rattle.keys.specs.Keys.{publicKeyAt}
 use borrow.Author.Needs.{needs}
 use Rattle.keys.proofs.read_public_key.Statement.{statement}
 use Rattle.keys.proofs.read_public_key.Tie as tie
-use Rattle.keys.proofs.read_public_key.Reads as reads
-use Rattle.keys.proofs.read_public_key.Lts as lts
-use Rattle.fields.proofs.Cursor.fixed.Reads as fixed-reads
-use Rattle.fields.proofs.Cursor.string.Reads as string-reads
-use Rattle.fields.proofs.view.Reads as view-reads
-use Rattle.keys.proofs.read_ecdsa_key.Reads as read-ecdsa-key-reads
-use Rattle.names.proofs.algorithm_named.Reads as algorithm-named-reads
 
 string-requires : tie.Need-string-requires
 string-requires c κs = search needs

@@ -8,10 +8,6 @@ use Rattle.keys.specs.Keys.{scalarAt}
 use borrow.Author.Needs.{needs}
 use Rattle.keys.proofs.read_scalar.Statement.{statement}
 use Rattle.keys.proofs.read_scalar.Tie as tie
-use Rattle.keys.proofs.read_scalar.Reads as reads
-use Rattle.keys.proofs.read_scalar.Lts as lts
-use Rattle.fields.proofs.Cursor.fixed.Reads as fixed-reads
-use Rattle.fields.proofs.Cursor.string.Reads as string-reads
 
 -- the string is within the image
 placed :

@@ -1,10 +1,6 @@
 use borrow.Author.Needs.{needs}
 use Rattle.names.proofs.cbc_named.Statement.{statement}
 use Rattle.names.proofs.cbc_named.Tie as tie
-use Rattle.names.proofs.cbc_named.Reads as reads
-use Rattle.names.proofs.cbc_named.Lts as lts
-use Rattle.fields.proofs.same.Reads as same-reads
-use Rattle.names.proofs.ctr_named.Reads as ctr-named-reads
 
 slice-aggregate-same : tie.Need-slice-aggregate-same
 slice-aggregate-same c = search needs

@@ -2,10 +2,6 @@ use Rattle.names.specs.Ciphers.{cipherNamed}
 use borrow.Author.Needs.{needs}
 use Rattle.names.proofs.cipher_named.Statement.{statement}
 use Rattle.names.proofs.cipher_named.Tie as tie
-use Rattle.names.proofs.cipher_named.Reads as reads
-use Rattle.names.proofs.cipher_named.Lts as lts
-use Rattle.fields.proofs.same.Reads as same-reads
-use Rattle.names.proofs.cbc_named.Reads as cbc-named-reads
 
 slice-aggregate-same : tie.Need-slice-aggregate-same
 slice-aggregate-same c = search needs

@@ -2,9 +2,6 @@ use Rattle.names.specs.Algorithms.{curveNamed}
 use borrow.Author.Needs.{needs}
 use Rattle.names.proofs.curve_named.Statement.{statement}
 use Rattle.names.proofs.curve_named.Tie as tie
-use Rattle.names.proofs.curve_named.Reads as reads
-use Rattle.names.proofs.curve_named.Lts as lts
-use Rattle.fields.proofs.same.Reads as same-reads
 
 slice-aggregate-same : tie.Need-slice-aggregate-same
 slice-aggregate-same c = search needs

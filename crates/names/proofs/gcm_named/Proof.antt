@@ -1,9 +1,6 @@
 use borrow.Author.Needs.{needs}
 use Rattle.names.proofs.gcm_named.Statement.{statement}
 use Rattle.names.proofs.gcm_named.Tie as tie
-use Rattle.names.proofs.gcm_named.Reads as reads
-use Rattle.names.proofs.gcm_named.Lts as lts
-use Rattle.fields.proofs.same.Reads as same-reads
 
 slice-aggregate-same : tie.Need-slice-aggregate-same
 slice-aggregate-same c = search needs

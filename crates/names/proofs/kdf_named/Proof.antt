@@ -2,9 +2,6 @@ use Rattle.names.specs.Ciphers.{kdfNamed}
 use borrow.Author.Needs.{needs}
 use Rattle.names.proofs.kdf_named.Statement.{statement}
 use Rattle.names.proofs.kdf_named.Tie as tie
-use Rattle.names.proofs.kdf_named.Reads as reads
-use Rattle.names.proofs.kdf_named.Lts as lts
-use Rattle.fields.proofs.same.Reads as same-reads
 
 slice-aggregate-same : tie.Need-slice-aggregate-same
 slice-aggregate-same c = search needs

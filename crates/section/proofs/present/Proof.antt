@@ -2,8 +2,6 @@ use borrow.Author.Tests.{eq-eqb, ne-eqb}
 use Rattle.section.specs.Section.{presentOf}
 use Rattle.section.proofs.present.Statement.{statement}
 use Rattle.section.proofs.present.Tie as tie
-use Rattle.section.proofs.present.Reads as reads
-use Rattle.section.proofs.present.Lts as lts
 
 returns : tie.Need-returns
 unfolding presentOf

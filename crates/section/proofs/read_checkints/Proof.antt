@@ -3,9 +3,6 @@ use Rattle.section.specs.Section.{checkintsAt}
 use borrow.Author.Needs.{needs}
 use Rattle.section.proofs.read_checkints.Statement.{statement}
 use Rattle.section.proofs.read_checkints.Tie as tie
-use Rattle.section.proofs.read_checkints.Reads as reads
-use Rattle.section.proofs.read_checkints.Lts as lts
-use Rattle.fields.proofs.Cursor.uint32.Reads as uint32-reads
 
 uint32-requires : tie.Need-uint32-requires
 uint32-requires c κs = search needs

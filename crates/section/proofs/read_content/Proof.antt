@@ -3,12 +3,6 @@ use Rattle.section.specs.Section.{contentAt}
 use borrow.Author.Needs.{needs}
 use Rattle.section.proofs.read_content.Statement.{statement}
 use Rattle.section.proofs.read_content.Tie as tie
-use Rattle.section.proofs.read_content.Reads as reads
-use Rattle.section.proofs.read_content.Lts as lts
-use Rattle.fields.proofs.Cursor.remaining.Reads as remaining-reads
-use Rattle.section.proofs.read_checkints.Reads as read-checkints-reads
-use Rattle.section.proofs.read_entry.Reads as read-entry-reads
-use Rattle.section.proofs.read_padding.Reads as read-padding-reads
 
 remaining-requires : tie.Need-remaining-requires
 remaining-requires c κs = search needs

@@ -6,15 +6,6 @@ use Rattle.section.specs.Section.{encryptedAt}
 use borrow.Author.Needs.{needs}
 use Rattle.section.proofs.read_encrypted.Statement.{statement}
 use Rattle.section.proofs.read_encrypted.Tie as tie
-use Rattle.section.proofs.read_encrypted.Reads as reads
-use Rattle.section.proofs.read_encrypted.Lts as lts
-use Rattle.fields.proofs.Cursor.bytes.Reads as bytes-reads
-use Rattle.fields.proofs.Cursor.finish.Reads as finish-reads
-use Rattle.fields.proofs.Cursor.string.Reads as string-reads
-use Rattle.names.proofs.Cipher.block_size.Reads as block-size-reads
-use Rattle.names.proofs.Cipher.tag_length.Reads as tag-length-reads
-use Rattle.section.proofs.encrypted.Reads as encrypted-reads
-use Rattle.section.proofs.present.Reads as present-reads
 
 string-requires : tie.Need-string-requires
 string-requires c κs = search needs

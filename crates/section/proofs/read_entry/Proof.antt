@@ -2,13 +2,6 @@ use Rattle.section.specs.Section.{entryAt}
 use borrow.Author.Needs.{needs}
 use Rattle.section.proofs.read_entry.Statement.{statement}
 use Rattle.section.proofs.read_entry.Tie as tie
-use Rattle.section.proofs.read_entry.Reads as reads
-use Rattle.section.proofs.read_entry.Lts as lts
-use Rattle.fields.proofs.Cursor.string.Reads as string-reads
-use Rattle.fields.proofs.view.Reads as view-reads
-use Rattle.keys.proofs.read_keypair.Reads as read-keypair-reads
-use Rattle.section.proofs.same_public.Reads as same-public-reads
-use Rattle.utf8.proofs.is_utf8.Reads as is-utf8-reads
 
 read-keypair-requires : tie.Need-read-keypair-requires
 read-keypair-requires c κs = search needs

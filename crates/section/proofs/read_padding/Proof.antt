@@ -7,11 +7,6 @@ use Rattle.section.specs.Section.{paddingAt}
 use borrow.Author.Needs.{needs}
 use Rattle.section.proofs.read_padding.Statement.{statement}
 use Rattle.section.proofs.read_padding.Tie as tie
-use Rattle.section.proofs.read_padding.Reads as reads
-use Rattle.section.proofs.read_padding.Lts as lts
-use Rattle.fields.proofs.Cursor.remaining.Reads as remaining-reads
-use Rattle.fields.proofs.same.Reads as same-reads
-use Rattle.fields.proofs.view.Reads as view-reads
 
 remaining-requires : tie.Need-remaining-requires
 remaining-requires c κs = search needs

@@ -5,11 +5,6 @@ use Rattle.section.specs.Section.{plainAt}
 use borrow.Author.Needs.{needs}
 use Rattle.section.proofs.read_plain.Statement.{statement}
 use Rattle.section.proofs.read_plain.Tie as tie
-use Rattle.section.proofs.read_plain.Reads as reads
-use Rattle.section.proofs.read_plain.Lts as lts
-use Rattle.fields.proofs.Cursor.finish.Reads as finish-reads
-use Rattle.fields.proofs.Cursor.string.Reads as string-reads
-use Rattle.section.proofs.read_content.Reads as read-content-reads
 
 string-requires : tie.Need-string-requires
 string-requires c κs = search needs

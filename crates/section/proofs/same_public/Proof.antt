@@ -4,11 +4,6 @@ use borrow.Author.Tests.{eq-eqb, ne-eqb}
 use borrow.Author.Needs.{needs}
 use Rattle.section.proofs.same_public.Statement.{statement}
 use Rattle.section.proofs.same_public.Tie as tie
-use Rattle.section.proofs.same_public.Reads as reads
-use Rattle.section.proofs.same_public.Lts as lts
-use Rattle.fields.proofs.same.Reads as same-reads
-use Rattle.fields.proofs.view.Reads as view-reads
-use Rattle.names.proofs.Algorithm.code.Reads as code-reads
 
 code-requires : tie.Need-code-requires
 code-requires c κs = search needs

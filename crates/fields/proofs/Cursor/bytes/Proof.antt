@@ -5,9 +5,6 @@ use Rattle.fields.specs.Room.{room-fits}
 use borrow.Author.Needs.{needs}
 use Rattle.fields.proofs.Cursor.bytes.Statement.{statement}
 use Rattle.fields.proofs.Cursor.bytes.Tie as tie
-use Rattle.fields.proofs.Cursor.bytes.Reads as reads
-use Rattle.fields.proofs.Cursor.bytes.Lts as lts
-use Rattle.fields.proofs.Cursor.has.Reads as has-reads
 
 has-requires : tie.Need-has-requires
 has-requires c κs = search needs

@@ -3,8 +3,6 @@ use Rattle.fields.specs.Fields.{endAt}
 use borrow.Author.Needs.{needs}
 use Rattle.fields.proofs.Cursor.finish.Statement.{statement}
 use Rattle.fields.proofs.Cursor.finish.Tie as tie
-use Rattle.fields.proofs.Cursor.finish.Reads as reads
-use Rattle.fields.proofs.Cursor.finish.Lts as lts
 
 sub-t5 : tie.Need-sub-t5
 sub-t5 c = search needs

@@ -8,9 +8,6 @@ use Rattle.fields.specs.Place.{Placed, string-place}
 use borrow.Author.Needs.{needs}
 use Rattle.fields.proofs.Cursor.fixed.Statement.{statement}
 use Rattle.fields.proofs.Cursor.fixed.Tie as tie
-use Rattle.fields.proofs.Cursor.fixed.Reads as reads
-use Rattle.fields.proofs.Cursor.fixed.Lts as lts
-use Rattle.fields.proofs.Cursor.string.Reads as string-reads
 
 -- the string is within the image
 placed :

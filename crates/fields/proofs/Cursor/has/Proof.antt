@@ -3,8 +3,6 @@ use mathlib.Core.Path.{sym}
 use Rattle.fields.specs.Room.{room-is, room-short, room-out}
 use Rattle.fields.proofs.Cursor.has.Statement.{statement}
 use Rattle.fields.proofs.Cursor.has.Tie as tie
-use Rattle.fields.proofs.Cursor.has.Reads as reads
-use Rattle.fields.proofs.Cursor.has.Lts as lts
 
 returns : tie.Need-returns
 returns c = sym (room-out _ _ _ (c .if1 .taken))

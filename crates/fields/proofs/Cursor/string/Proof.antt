@@ -2,10 +2,6 @@ use Rattle.fields.specs.Fields.{stringAt}
 use borrow.Author.Needs.{needs}
 use Rattle.fields.proofs.Cursor.string.Statement.{statement}
 use Rattle.fields.proofs.Cursor.string.Tie as tie
-use Rattle.fields.proofs.Cursor.string.Reads as reads
-use Rattle.fields.proofs.Cursor.string.Lts as lts
-use Rattle.fields.proofs.Cursor.bytes.Reads as bytes-reads
-use Rattle.fields.proofs.Cursor.uint32.Reads as uint32-reads
 
 uint32-requires : tie.Need-uint32-requires
 uint32-requires c κs = search needs

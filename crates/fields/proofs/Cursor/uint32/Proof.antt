@@ -6,10 +6,6 @@ use Rattle.fields.specs.Room.{Room, room-fits}
 use borrow.Author.Needs.{needs}
 use Rattle.fields.proofs.Cursor.uint32.Statement.{statement}
 use Rattle.fields.proofs.Cursor.uint32.Tie as tie
-use Rattle.fields.proofs.Cursor.uint32.Reads as reads
-use Rattle.fields.proofs.Cursor.uint32.Lts as lts
-use Rattle.fields.proofs.Cursor.has.Reads as has-reads
-use Rattle.fields.proofs.joined.Reads as joined-reads
 
 -- the test says that there are four bytes
 room : (c : tie.Then1) → Room (now (c .before .before .before .args .image)) (c .before .before .before .args .self) 4

@@ -1,8 +1,6 @@
 use borrow.Author.Needs.{needs}
 use Rattle.names.proofs.Curve.point_length.Statement.{statement}
 use Rattle.names.proofs.Curve.point_length.Tie as tie
-use Rattle.names.proofs.Curve.point_length.Reads as reads
-use Rattle.names.proofs.Curve.point_length.Lts as lts
 
 enum-told : tie.Need-enum-told
 enum-told c = search needs
