@@ -1,3 +1,4 @@
+-- `container::byte` meets its contract: past the end `getD` is 0. Assumes nothing.
 use mathlib.Core.Path.{sym}
 use denote.Ref.{now}
 use lib.ListN.{List·getD-eq-default}

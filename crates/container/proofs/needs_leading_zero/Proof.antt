@@ -1,3 +1,4 @@
+-- `container::needs_leading_zero` meets its contract: the first byte is the one that is compared. Assumes nothing.
 use borrow.Author.Needs.{needs}
 use Rattle.container.proofs.needs_leading_zero.Statement.{statement}
 use Rattle.container.proofs.needs_leading_zero.Tie as tie

@@ -1,3 +1,4 @@
+-- `container::read` meets its contract: each return is the case of `readAt` that the two halves pick. Assumes nothing.
 use Rattle.container.specs.Container.{readAt}
 use borrow.Author.Needs.{needs}
 use Rattle.container.proofs.read.Statement.{statement}

@@ -1,3 +1,4 @@
+-- `container::read_section` meets its contract: cipher and KDF pick the case of `sectionAt`. Assumes nothing.
 use Rattle.container.specs.Container.{sectionAt}
 use borrow.Author.Needs.{needs}
 use Rattle.container.proofs.read_section.Statement.{statement}

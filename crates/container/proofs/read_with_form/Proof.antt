@@ -1,3 +1,4 @@
+-- `container::read_with_form` meets its contract. Rests on `form-scalar`: for an accepted image the scalar alone says whether it is in the form. Assumes nothing.
 use mathlib.Core.Path.{sym, _∙_, ap}
 use denote.Ref.{now}
 use Rattle.container.specs.declared.FormRead.the-variants as form-read

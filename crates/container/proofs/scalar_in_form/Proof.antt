@@ -1,3 +1,4 @@
+-- `container::scalar_in_form` meets its contract: kind, algorithm and the two tests pick the case of `scalarInForm`. Assumes nothing.
 use Rattle.container.specs.Form.{scalarInForm}
 use borrow.Author.Needs.{needs}
 use Rattle.container.proofs.scalar_in_form.Statement.{statement}

@@ -1,3 +1,4 @@
+-- `fields::same` meets its contract: a test that is true just where the lists are equal is `sameBytes`. Assumes nothing.
 use Rattle.fields.specs.Bytes.{same-is}
 use borrow.Author.Needs.{needs}
 use Rattle.fields.proofs.same.Statement.{statement}

@@ -1,3 +1,4 @@
+-- `fields::view` meets its contract: the part is within the image or it isn't, and either way begins where `viewStart` says. Assumes nothing.
 use native.Mathlib.Omega.{arith}
 use native.Mathlib.Nat.{add-sub-cancel-left, add-comm, add-zero}
 use mathlib.Core.Path.{refl, sym}

@@ -1,3 +1,4 @@
+-- `header::bcrypt_options` meets its contract: each return is the case of `bcryptAt` that the answers on the way pick; the options lie within the image. Assumes nothing.
 use native.Mathlib.Omega.{arith}
 use mathlib.Core.Path.{sym, _∙_}
 use Rattle.fields.specs.Place.{string-place}

@@ -1,3 +1,4 @@
+-- `header::none_options` meets its contract: the options are empty or they aren't. Assumes nothing.
 use borrow.Author.Tests.{eq-eqb, ne-eqb}
 use Rattle.header.specs.Header.{noneAt}
 use borrow.Author.Needs.{needs}

@@ -1,3 +1,4 @@
+-- `header::read_blob_field` meets its contract: each return is the case of `blobFieldAt` that the answers on the way pick; the blob lies within the image. Assumes nothing.
 use native.Mathlib.Omega.{arith}
 use mathlib.Core.Path.{sym, _∙_}
 use Rattle.fields.specs.Place.{string-place}

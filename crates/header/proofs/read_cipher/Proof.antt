@@ -1,3 +1,4 @@
+-- `header::read_cipher` meets its contract: each return is the case of `cipherAt` that the limit and the answers on the way pick. Assumes nothing.
 use borrow.Author.Tests.{le-ltb, lt-ltb}
 use Rattle.header.specs.Header.{cipherAt}
 use borrow.Author.Needs.{needs}

@@ -1,3 +1,4 @@
+-- `header::read_count` meets its contract: the count is 1 or it isn't. Assumes nothing.
 use borrow.Author.Tests.{eq-eqb, ne-eqb}
 use Rattle.header.specs.Header.{countAt}
 use borrow.Author.Needs.{needs}

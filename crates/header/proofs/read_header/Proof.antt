@@ -1,3 +1,4 @@
+-- `header::read_header` meets its contract: each return is the case of `headerAt` that the four answers pick. Assumes nothing.
 use Rattle.header.specs.Header.{headerAt}
 use borrow.Author.Needs.{needs}
 use Rattle.header.proofs.read_header.Statement.{statement}

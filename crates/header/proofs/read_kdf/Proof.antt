@@ -1,3 +1,4 @@
+-- `header::read_kdf` meets its contract: each return is the case of `kdfAt` that the answers on the way pick. Assumes nothing.
 use Rattle.header.specs.Header.{kdfAt}
 use borrow.Author.Needs.{needs}
 use Rattle.header.proofs.read_kdf.Statement.{statement}

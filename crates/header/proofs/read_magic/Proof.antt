@@ -1,3 +1,4 @@
+-- `header::read_magic` meets its contract: the 15 bytes are the magic or they aren't. Assumes nothing.
 use Rattle.format.specs.Format.{magic}
 use Rattle.header.specs.Header.{magicAt}
 use borrow.Author.Needs.{needs}

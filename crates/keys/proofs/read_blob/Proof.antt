@@ -1,3 +1,4 @@
+-- `keys::read_blob` meets its contract: each return is the case of `blobAt` that the answers on the way pick. Assumes nothing.
 use Rattle.keys.specs.Keys.{blobAt}
 use borrow.Author.Needs.{needs}
 use Rattle.keys.proofs.read_blob.Statement.{statement}

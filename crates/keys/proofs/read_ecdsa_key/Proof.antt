@@ -1,3 +1,4 @@
+-- `keys::read_ecdsa_key` meets its contract: the codes are equal where `sameAlgorithm` is true. Assumes nothing.
 use Rattle.keys.specs.Keys.{ecdsaKeyAt}
 use Rattle.names.specs.Algorithms.{sameAlgorithm}
 use borrow.Author.Tests.{eq-eqb, ne-eqb}

@@ -1,3 +1,4 @@
+-- `keys::read_ecdsa_pair` meets its contract: the scalar is read at the curve string's size, and then the codes are compared as `sameAlgorithm` does. Assumes nothing.
 use Rattle.keys.specs.Keys.{ecdsaPairAt}
 use Rattle.names.specs.Algorithms.{sameAlgorithm}
 use borrow.Author.Tests.{eq-eqb, ne-eqb}

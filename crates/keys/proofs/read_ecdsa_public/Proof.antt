@@ -1,3 +1,4 @@
+-- `keys::read_ecdsa_public` meets its contract: each return is the case of `ecdsaPublicAt` that the answers on the way pick. Assumes nothing.
 use Rattle.keys.specs.Keys.{ecdsaPublicAt}
 use borrow.Author.Needs.{needs}
 use Rattle.keys.proofs.read_ecdsa_public.Statement.{statement}

@@ -1,3 +1,4 @@
+-- `keys::read_ed25519_pair` meets its contract: each return is the case of `ed25519PairAt` that the answers on the way pick; the string of 64 lies within the image. Assumes nothing.
 use native.Mathlib.Omega.{arith}
 use mathlib.Core.Path.{sym, _∙_}
 use Rattle.fields.specs.Place.{fixed-place, string-place}

@@ -1,3 +1,4 @@
+-- `keys::read_keypair` meets its contract: each return is the case of `keypairAt` that the answers on the way pick. Assumes nothing.
 use Rattle.keys.specs.Keys.{keypairAt}
 use borrow.Author.Needs.{needs}
 use Rattle.keys.proofs.read_keypair.Statement.{statement}

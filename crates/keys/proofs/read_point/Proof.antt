@@ -1,3 +1,4 @@
+-- `keys::read_point` meets its contract: each return is the case of `pointAt` that the field and its first byte pick. That byte is within the image by the field's place. Assumes nothing.
 use native.Mathlib.Omega.{arith}
 use mathlib.Core.Path.{sym, _∙_}
 use Rattle.fields.specs.Place.{fixed-place, string-place}

@@ -1,3 +1,4 @@
+-- `keys::read_public_key` meets its contract: each return is the case of `publicKeyAt` that the answers on the way pick. Assumes nothing.
 use Rattle.keys.specs.Keys.{publicKeyAt}
 use borrow.Author.Needs.{needs}
 use Rattle.keys.proofs.read_public_key.Statement.{statement}

@@ -1,3 +1,4 @@
+-- `keys::read_scalar` meets its contract: the two tests together are `size + 1`, at any size; the string's place keeps reads and sums in bounds. Assumes nothing.
 use native.Mathlib.Omega.{arith}
 use Prim.Native.Nat.{_+_}
 use mathlib.Core.Path.{sym, _∙_}

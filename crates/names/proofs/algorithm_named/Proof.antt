@@ -1,3 +1,4 @@
+-- `names::algorithm_named` meets its contract: each test is a row of the table. Assumes nothing.
 use Rattle.names.specs.Algorithms.{algorithmNamed}
 use borrow.Author.Needs.{needs}
 use Rattle.names.proofs.algorithm_named.Statement.{statement}

@@ -1,3 +1,4 @@
+-- `names::cbc_named` meets its contract: each test is a row of the table, and `ctr_named` has the rows after it. Assumes nothing.
 use borrow.Author.Needs.{needs}
 use Rattle.names.proofs.cbc_named.Statement.{statement}
 use Rattle.names.proofs.cbc_named.Tie as tie

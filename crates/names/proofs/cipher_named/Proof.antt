@@ -1,3 +1,4 @@
+-- `names::cipher_named` meets its contract: each test is a row of the table, and `cbc_named` has the rows after it. Assumes nothing.
 use Rattle.names.specs.Ciphers.{cipherNamed}
 use borrow.Author.Needs.{needs}
 use Rattle.names.proofs.cipher_named.Statement.{statement}

@@ -1,3 +1,4 @@
+-- `names::ctr_named` meets its contract: each test is a row of the table, and `gcm_named` has the rows after it. Assumes nothing.
 use borrow.Author.Needs.{needs}
 use Rattle.names.proofs.ctr_named.Statement.{statement}
 use Rattle.names.proofs.ctr_named.Tie as tie

@@ -1,3 +1,4 @@
+-- `names::curve_named` meets its contract: each test is a row of the table. Assumes nothing.
 use Rattle.names.specs.Algorithms.{curveNamed}
 use borrow.Author.Needs.{needs}
 use Rattle.names.proofs.curve_named.Statement.{statement}

@@ -1,3 +1,4 @@
+-- `names::gcm_named` meets its contract: each test is a row of the table. Assumes nothing.
 use borrow.Author.Needs.{needs}
 use Rattle.names.proofs.gcm_named.Statement.{statement}
 use Rattle.names.proofs.gcm_named.Tie as tie

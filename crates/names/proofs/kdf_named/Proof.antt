@@ -1,3 +1,4 @@
+-- `names::kdf_named` meets its contract: each test is a row of the table. Assumes nothing.
 use Rattle.names.specs.Ciphers.{kdfNamed}
 use borrow.Author.Needs.{needs}
 use Rattle.names.proofs.kdf_named.Statement.{statement}

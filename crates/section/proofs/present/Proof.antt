@@ -1,3 +1,4 @@
+-- `section::present` meets its contract: the tag's length is 0 or it isn't. Assumes nothing.
 use borrow.Author.Tests.{eq-eqb, ne-eqb}
 use Rattle.section.specs.Section.{presentOf}
 use Rattle.section.proofs.present.Statement.{statement}

@@ -1,3 +1,4 @@
+-- `section::read_checkints` meets its contract: each return is the case of `checkintsAt` that the two numbers pick. Assumes nothing.
 use borrow.Author.Tests.{eq-eqb, ne-eqb}
 use Rattle.section.specs.Section.{checkintsAt}
 use borrow.Author.Needs.{needs}

@@ -1,3 +1,4 @@
+-- `section::read_content` meets its contract: each return is the case of `contentAt` that the answers on the way pick. Assumes nothing.
 use borrow.Author.Tests.{eq-eqb, ne-eqb}
 use Rattle.section.specs.Section.{contentAt}
 use borrow.Author.Needs.{needs}

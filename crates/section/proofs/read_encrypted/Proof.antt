@@ -1,3 +1,4 @@
+-- `section::read_encrypted` meets its contract: each return is the case of `encryptedAt` that the answers on the way pick; a block is not empty. Assumes nothing.
 use mathlib.Core.Path.{ap}
 use Rattle.names.specs.Ciphers.{row}
 use Rattle.section.specs.declared.SectionRead.the-variants as section-read

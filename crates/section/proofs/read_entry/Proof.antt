@@ -1,3 +1,4 @@
+-- `section::read_entry` meets its contract: each return is the case of `entryAt` that the answers on the way pick. Assumes nothing.
 use Rattle.section.specs.Section.{entryAt}
 use borrow.Author.Needs.{needs}
 use Rattle.section.proofs.read_entry.Statement.{statement}

@@ -1,3 +1,4 @@
+-- `section::read_padding` meets its contract: what remains is below 8, so that many of the seven padding bytes are there to hold it to. Assumes nothing.
 use native.Mathlib.Omega.{arith}
 use mathlib.Core.Path.{sym}
 use lib.Seq.{length-take-le}

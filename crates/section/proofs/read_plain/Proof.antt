@@ -1,3 +1,4 @@
+-- `section::read_plain` meets its contract: each return is the case of `plainAt` that the answers on the way pick; the section lies within the image. Assumes nothing.
 use native.Mathlib.Omega.{arith}
 use mathlib.Core.Path.{sym, _∙_}
 use Rattle.fields.specs.Place.{string-place}

@@ -1,3 +1,4 @@
+-- `section::same_public` meets its contract: the codes are compared as `sameAlgorithm` does, then the bytes. Assumes nothing.
 use Rattle.names.specs.Algorithms.{sameAlgorithm}
 use Rattle.section.specs.Section.{samePublic}
 use borrow.Author.Tests.{eq-eqb, ne-eqb}

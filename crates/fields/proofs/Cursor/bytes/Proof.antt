@@ -1,3 +1,4 @@
+-- `fields::Cursor::bytes` meets its contract: `has` decides as `bytesAt` does, and room within the image keeps the sum from wrapping. Assumes nothing.
 use native.Mathlib.Omega.{arith}
 use mathlib.Core.Path.{sym, _∙_}
 use Rattle.fields.specs.Fields.{bytesAt}

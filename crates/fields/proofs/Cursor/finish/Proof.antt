@@ -1,3 +1,4 @@
+-- `fields::Cursor::finish` meets its contract: the test is `endAt`'s. Assumes nothing.
 use borrow.Author.Tests.{lt-ltb, le-ltb}
 use Rattle.fields.specs.Fields.{endAt}
 use borrow.Author.Needs.{needs}

@@ -1,3 +1,4 @@
+-- `fields::Cursor::fixed` meets its contract: each return is the case of `fixedAt` that the string and the two tests pick. The string's place keeps the sum from wrapping. Assumes nothing.
 use native.Mathlib.Omega.{arith}
 use mathlib.Core.Path.{sym, _∙_}
 use Prim.Native.Nat.{_+_}

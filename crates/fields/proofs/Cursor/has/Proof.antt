@@ -1,3 +1,4 @@
+-- `fields::Cursor::has` meets its contract: each test that fails leaves no room, and all three passed are the room. Rests on the laws of `Room`. Assumes nothing.
 use native.Mathlib.Omega.{arith}
 use mathlib.Core.Path.{sym}
 use Rattle.fields.specs.Room.{room-is, room-short, room-out}

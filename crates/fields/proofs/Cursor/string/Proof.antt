@@ -1,3 +1,4 @@
+-- `fields::Cursor::string` meets its contract: each return is the case of `stringAt` that the two answers pick. Assumes nothing.
 use Rattle.fields.specs.Fields.{stringAt}
 use borrow.Author.Needs.{needs}
 use Rattle.fields.proofs.Cursor.string.Statement.{statement}

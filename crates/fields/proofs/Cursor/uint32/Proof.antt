@@ -1,3 +1,4 @@
+-- `fields::Cursor::uint32` meets its contract: `has` says that four bytes are there, which the reads and the sums rest on. Assumes nothing.
 use native.Mathlib.Omega.{arith}
 use mathlib.Core.Path.{sym, _∙_}
 use denote.Ref.{now}

@@ -1,3 +1,4 @@
+-- `names::Curve::point_length` meets its contract, by cases on the curve. Assumes nothing.
 use borrow.Author.Needs.{needs}
 use Rattle.names.proofs.Curve.point_length.Statement.{statement}
 use Rattle.names.proofs.Curve.point_length.Tie as tie

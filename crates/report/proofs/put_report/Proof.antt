@@ -1,0 +1,72 @@
+-- `report::put_report` meets its contract: by what was read, the lines of that summary are put.
+-- Rests on that reading with the form finds what the summary is made of.
+use mathlib.Core.Path.{_≡_, refl}
+use mathlib.Core.List.{List}
+use Prim.Native.Nat.{ℕ}
+use borrow.Author.Needs.{needs}
+use lib.ListN.{length}
+use Rattle.container.specs.declared.FormRead.{FormRead}
+use Rattle.container.specs.declared.FormRead.the-variants as form-read
+use Rattle.container.specs.declared.ImageRead.{ImageRead}
+use Rattle.container.specs.declared.ImageRead.the-variants as read
+use Rattle.container.specs.Container.{onRead, readAt}
+use Rattle.container.specs.Form.{formOf, formReadAt}
+use Rattle.report.specs.Report.{Summary, accepted, refused, summaryOf}
+use Rattle.report.proofs.put_report.Statement.{statement}
+use Rattle.report.proofs.put_report.Tie as tie
+
+-- the summary of what reading with the form finds
+abbrev found : List ℕ → FormRead → Summary
+found s (form-read.Refused f) = refused f
+found s (form-read.Record f form) = accepted (length s) f form
+
+summary-found : (s : List ℕ) → summaryOf s ≡ found s (formReadAt s)
+unfolding summaryOf formReadAt
+summary-found s = go (readAt s)
+  where
+    go :
+        (r : ImageRead)
+        → onRead r refused (λ f. accepted (length s) f (formOf s f)) ≡ found s (onRead r form-read.Refused (λ f. form-read.Record f (formOf s f)))
+    go (read.Refused f) = refl
+    go (read.Record f) = refl
+
+read-with-form-requires : tie.Need-read-with-form-requires
+read-with-form-requires c κs = tt
+
+enum-known-f : tie.Need-enum-known-f
+enum-known-f c = search needs
+
+put-refused-requires : tie.Need-put-refused-requires
+put-refused-requires c κs = tt
+
+enum-known-f-2 : tie.Need-enum-known-f-2
+enum-known-f-2 c = search needs
+
+put-accepted-requires : tie.Need-put-accepted-requires
+put-accepted-requires c κs = tt
+
+same-length : tie.Need-same-length
+same-length c = search needs
+
+returns : tie.Need-returns
+returns c = rw (summary-found, ← c .before .before .before .before .before .before .before .read-with-form .ensures, c .before .before .before .before .before .f .given .1) (c .before .before .put-refused .ensures)
+
+same-length-2 : tie.Need-same-length-2
+same-length-2 c = search needs
+
+returns-2 : tie.Need-returns-2
+returns-2 c = rw (summary-found, ← c .before .before .before .before .before .before .before .read-with-form .ensures, c .before .before .before .before .before .f2 .given .1) (c .before .before .put-accepted .ensures)
+
+pub put-report-spec : {M : Type 1} → statement M
+put-report-spec =
+    tie.close
+    (tie.spec
+    read-with-form-requires
+    enum-known-f
+    put-refused-requires
+    enum-known-f-2
+    put-accepted-requires
+    same-length
+    returns
+    same-length-2
+    returns-2)

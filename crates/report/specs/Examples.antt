@@ -1,0 +1,61 @@
+-- Document 01, 'Views and the inspection program': its examples, and the limit for every input.
+use Prim.Native.Nat.{ℕ, _<_}
+use Prim.Native.String.{String}
+use mathlib.Core.Path.{_≡_, refl}
+use mathlib.Core.Bool.{true}
+use mathlib.Core.List.{List, [], _∷_, _++_}
+use borrow.Author.Tests.{lt-ltb}
+use lib.ListN.{length}
+use Rattle.fields.specs.Bytes.{ascii}
+use Rattle.fields.specs.Fields.{hasRoom, bytesAt}
+use Rattle.names.specs.declared.Algorithm.the-variants.{Ed25519, Ecdsa}
+use Rattle.names.specs.declared.Cipher.the-variants as cipher
+use Rattle.names.specs.declared.Curve.the-variants.{Nistp256}
+use Rattle.names.specs.declared.Kdf.the-variants as kdf
+use Rattle.header.specs.Header.{magicAt, cipherAt, headerAt}
+use Rattle.container.specs.Container.{readAt}
+use Rattle.buffer.specs.Decimal.{digitsOf, digits, decimal}
+use Rattle.report.specs.Report.{Plain, Encrypted, Refused, lineFeed, line, lines, summaryOf, reportOf}
+
+-- lines as they are printed
+abbrev pub printed : List String → List ℕ
+printed [] = []
+printed (text ∷ more) = ascii text ++ lineFeed ++ printed more
+
+-- an Ed25519 image with comment `oven7`, 234 bytes
+pub oven7 :
+    lines (Plain Ed25519 cipher.None kdf.None 5 0 234 true)
+    ≡ printed
+    ("kind plain" ∷ "algorithm ssh-ed25519" ∷ "cipher none" ∷ "kdf none" ∷ "comment 5" ∷ "padding 0" ∷ "image 234" ∷ "form yes" ∷ [])
+unfolding lines line decimal digits digitsOf
+oven7 = refl
+
+-- an encrypted one with a tag
+pub sealed :
+    lines (Encrypted (Ecdsa Nistp256) cipher.Aes256Gcm kdf.Bcrypt 160 16 1405)
+    ≡ printed
+    ("kind encrypted"
+    ∷ "algorithm ecdsa-sha2-nistp256"
+    ∷ "cipher aes256-gcm@openssh.com"
+    ∷ "kdf bcrypt"
+    ∷ "ciphertext 160"
+    ∷ "tag 16"
+    ∷ "image 1405"
+    ∷ [])
+unfolding lines line decimal digits digitsOf
+sealed = refl
+
+-- two bytes left over
+pub left-over : lines (Refused 6 2) ≡ printed ("refused 6 2" ∷ [])
+unfolding lines decimal digits digitsOf
+left-over = refl
+
+-- empty input
+pub nothing : reportOf [] ≡ printed ("refused 1 0" ∷ [])
+unfolding reportOf summaryOf readAt headerAt cipherAt magicAt bytesAt hasRoom lines decimal digits digitsOf
+nothing = refl
+
+-- input above the limit
+pub above : (s : List ℕ) → 65535 < length s → reportOf s ≡ printed ("refused 11 0" ∷ [])
+unfolding reportOf summaryOf readAt headerAt cipherAt lines decimal digits digitsOf
+above s h = rw (lt-ltb 65535 (length s) h)

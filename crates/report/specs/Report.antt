@@ -1,0 +1,96 @@
+-- Document 01, 'Views and the inspection program': the program reads standard input and prints no private byte. What it prints of an
+-- image is its summary in lines; what the summary holds is its kind, its names, its lengths and its form, or the refusal.
+use Prim.Native.Nat.{ℕ, _≤_}
+use mathlib.Core.Path.{_≡_, ap}
+use mathlib.Core.Bool.{Bool, true, false, cond}
+use mathlib.Core.List.{List, [], _∷_}
+use lib.ListN.{length}
+use Rattle.fields.specs.Bytes.{ascii, join}
+use Rattle.fields.specs.Fields.{fault}
+use Rattle.fields.specs.Refusals.{numberOf, countOf}
+use Rattle.fields.specs.declared.Fault.{Fault}
+use Rattle.fields.specs.declared.Refusal.the-variants.{Room}
+use Rattle.names.specs.declared.Algorithm.{Algorithm}
+use Rattle.names.specs.declared.Cipher.{Cipher}
+use Rattle.names.specs.declared.Kdf.{Kdf}
+use Rattle.names.specs.Algorithms.{algorithmName}
+use Rattle.names.specs.Ciphers.{cipherName, kdfName}
+use Rattle.container.specs.declared.Fields.{Fields}
+use Rattle.container.specs.Container.{onRead, readAt}
+use Rattle.container.specs.Form.{onKind, formOf}
+use Rattle.buffer.specs.Decimal.{decimal}
+use Rattle.buffer.specs.Puts.{fits}
+use Rattle.buffer.specs.Runs.{isRun}
+use Rattle.report.specs.declared.Reported.{Reported}
+use Rattle.report.specs.declared.Reported.the-variants as reported
+
+-- Comment, padding, ciphertext, tag and image are lengths in bytes. `form` says whether the image is in the writer's form.
+pub data Summary : Type 0 where
+  Plain : (algorithm : Algorithm) (cipher : Cipher) (kdf : Kdf) (comment padding image : ℕ) (form : Bool) → Summary
+  Encrypted : (algorithm : Algorithm) (cipher : Cipher) (kdf : Kdf) (ciphertext tag image : ℕ) → Summary
+  Refused : (number count : ℕ) → Summary
+
+-- the summary of an accepted image: its length, its record and its form
+unfoldable pub accepted : ℕ → Fields → Bool → Summary
+accepted image f form =
+    onKind (f .section .kind)
+    (Plain (f .header .algorithm) (f .header .cipher) (f .header .kdf) (f .section .comment .length) (f .section .padding) image form)
+    (Encrypted (f .header .algorithm) (f .header .cipher) (f .header .kdf) (f .section .ciphertext .length) (f .section .tag .length) image)
+
+-- the summary of a refused one
+abbrev pub refused : Fault → Summary
+refused f = Refused (numberOf (f .why)) (countOf (f .why))
+
+unfoldable pub summaryOf : List ℕ → Summary
+summaryOf s = onRead (readAt s) refused (λ f. accepted (length s) f (formOf s f))
+
+abbrev pub lineFeed : List ℕ
+lineFeed = 10 ∷ []
+
+-- a label, a value, a line feed
+unfoldable pub line : List ℕ → List ℕ → List ℕ
+line label value = join (label ∷ value ∷ lineFeed ∷ [])
+
+abbrev pub formName : Bool → List ℕ
+formName true = ascii "yes"
+formName false = ascii "no"
+
+unfoldable pub lines : Summary → List ℕ
+lines (Plain algorithm cipher kdf comment padding image form) =
+    join
+    (line (ascii "kind ") (ascii "plain")
+    ∷ line (ascii "algorithm ") (algorithmName algorithm)
+    ∷ line (ascii "cipher ") (cipherName cipher)
+    ∷ line (ascii "kdf ") (kdfName kdf)
+    ∷ line (ascii "comment ") (decimal comment)
+    ∷ line (ascii "padding ") (decimal padding)
+    ∷ line (ascii "image ") (decimal image)
+    ∷ line (ascii "form ") (formName form)
+    ∷ [])
+lines (Encrypted algorithm cipher kdf ciphertext tag image) =
+    join
+    (line (ascii "kind ") (ascii "encrypted")
+    ∷ line (ascii "algorithm ") (algorithmName algorithm)
+    ∷ line (ascii "cipher ") (cipherName cipher)
+    ∷ line (ascii "kdf ") (kdfName kdf)
+    ∷ line (ascii "ciphertext ") (decimal ciphertext)
+    ∷ line (ascii "tag ") (decimal tag)
+    ∷ line (ascii "image ") (decimal image)
+    ∷ [])
+lines (Refused number count) = join (ascii "refused " ∷ decimal number ∷ ascii " " ∷ decimal count ∷ lineFeed ∷ [])
+
+unfoldable pub reportOf : List ℕ → List ℕ
+reportOf s = lines (summaryOf s)
+
+-- what putting a summary's lines at the start of a text answers, r, and leaves, out, where there is room. 256 bytes are enough.
+abbrev pub isText : List ℕ → Summary → ℕ → List ℕ → Type 0
+isText old x r out = (length (lines x) ≤ 256) × isRun old 0 (lines x) r out
+
+-- what writing it to the start of a buffer replies: its length, or 9 where the buffer is shorter
+unfoldable pub reportedAt : List ℕ → List ℕ → Reported
+reportedAt s old = cond (fits old 0 (reportOf s)) (reported.Length (length (reportOf s))) (reported.Refused (fault Room 0))
+
+-- the claim: images that are alike in kind, names, lengths and form, or in the refusal, have the same report
+pub report-public : (s t : List ℕ) → summaryOf s ≡ summaryOf t → reportOf s ≡ reportOf t
+unfolding reportOf
+report-public s t e = ap lines e

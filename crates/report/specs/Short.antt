@@ -1,0 +1,81 @@
+-- A report whose numbers fit 64 bits has at most 256 bytes, so that a lent buffer of 256 bytes is always enough.
+use Prim.Native.Nat.{ℕ, _+_, _≤_, _<_, _^_}
+use native.Mathlib.Omega.{arith}
+use mathlib.Core.Path.{_≡_}
+use mathlib.Core.Bool.{Bool, true, false}
+use mathlib.Core.List.{List}
+use lib.ListN.{length, length-append}
+use Rattle.names.specs.declared.Algorithm.{Algorithm}
+use Rattle.names.specs.declared.Algorithm.the-variants.{Ed25519, Ecdsa}
+use Rattle.names.specs.declared.Cipher.{Cipher}
+use Rattle.names.specs.declared.Cipher.the-variants as cipher
+use Rattle.names.specs.declared.Curve.the-variants.{Nistp256, Nistp384, Nistp521}
+use Rattle.names.specs.declared.Kdf.{Kdf}
+use Rattle.names.specs.declared.Kdf.the-variants as kdf
+use Rattle.names.specs.Algorithms.{algorithmName}
+use Rattle.names.specs.Ciphers.{cipherName, kdfName}
+use Rattle.buffer.specs.Decimal.{decimal-short}
+use Rattle.report.specs.Report.{Summary, Plain, Encrypted, Refused, line, formName, lines}
+
+-- each number of a summary fits 64 bits
+abbrev pub Fits : Summary → Type 0
+Fits (Plain a c k comment padding image form) = (comment < 2 ^ 64) × (padding < 2 ^ 64) × (image < 2 ^ 64)
+Fits (Encrypted a c k ciphertext tag image) = (ciphertext < 2 ^ 64) × (tag < 2 ^ 64) × (image < 2 ^ 64)
+Fits (Refused number count) = (number < 2 ^ 64) × (count < 2 ^ 64)
+
+line-length : (label value : List ℕ) → length (line label value) ≡ length label + length value + 1
+unfolding line
+line-length label value = simp length-append (omega arith)
+
+algorithm-short : (a : Algorithm) → length (algorithmName a) ≤ 19
+algorithm-short Ed25519 = omega arith
+algorithm-short (Ecdsa Nistp256) = omega arith
+algorithm-short (Ecdsa Nistp384) = omega arith
+algorithm-short (Ecdsa Nistp521) = omega arith
+
+cipher-short : (c : Cipher) → length (cipherName c) ≤ 22
+cipher-short cipher.None = omega arith
+cipher-short cipher.TripleDesCbc = omega arith
+cipher-short cipher.Aes128Cbc = omega arith
+cipher-short cipher.Aes192Cbc = omega arith
+cipher-short cipher.Aes256Cbc = omega arith
+cipher-short cipher.Aes128Ctr = omega arith
+cipher-short cipher.Aes192Ctr = omega arith
+cipher-short cipher.Aes256Ctr = omega arith
+cipher-short cipher.Aes128Gcm = omega arith
+cipher-short cipher.Aes256Gcm = omega arith
+
+kdf-short : (k : Kdf) → length (kdfName k) ≤ 6
+kdf-short kdf.None = omega arith
+kdf-short kdf.Bcrypt = omega arith
+
+form-short : (b : Bool) → length (formName b) ≤ 3
+form-short true = omega arith
+form-short false = omega arith
+
+pub lines-short : (x : Summary) → Fits x → length (lines x) ≤ 256
+unfolding lines
+lines-short (Plain a c k comment padding image form) h =
+    simp (length-append, line-length)
+    (omega (
+      arith,
+      algorithm-short a,
+      cipher-short c,
+      kdf-short k,
+      decimal-short comment (h .0),
+      decimal-short padding (h .1),
+      decimal-short image (h .2),
+      form-short form,
+    ))
+lines-short (Encrypted a c k ciphertext tag image) h =
+    simp (length-append, line-length)
+    (omega (
+      arith,
+      algorithm-short a,
+      cipher-short c,
+      kdf-short k,
+      decimal-short ciphertext (h .0),
+      decimal-short tag (h .1),
+      decimal-short image (h .2),
+    ))
+lines-short (Refused number count) h = simp length-append (omega (arith, decimal-short number (h .0), decimal-short count (h .1)))

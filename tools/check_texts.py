@@ -1,0 +1,72 @@
+#!/usr/bin/env python3
+"""What the gate holds the texts to, beside the proofs: every public function of a library has a contract that asks nothing
+and a theorem NAME-determined, every proof and specification file says at its top what it is, and nothing names a place
+outside the project. It reads text and proves nothing."""
+import os
+import re
+import sys
+
+OUTSIDE = re.compile(r"\.\./shared|/work/|/opt/rattle|https?://[^\s)]*(debian|pypi|crates\.io)")
+CODE = (".rt", ".antt", ".py", ".sh", ".md", ".edit", ".txt")
+
+
+def without_comments(text):
+    return re.sub(r"//[^\n]*", "", text)
+
+
+def public_functions(text):
+    """The name of each `pub fn`, with the clauses that stand between its parameters and its body."""
+    for m in re.finditer(r'\bpub (?:extern "C" )?fn (\w+)', text):
+        head = text[m.end():text.index("\n{", m.end()) if "\n{" in text[m.end():] else len(text)]
+        body = re.search(r"\n\s*\{\n", text[m.end():])
+        yield m.group(1), text[m.end():m.end() + body.start()] if body else head
+
+
+def proofs_of(crate):
+    found = ""
+    for base, _, files in os.walk(os.path.join("crates", crate, "proofs")):
+        for name in files:
+            if name.endswith(".antt"):
+                found += open(os.path.join(base, name), encoding="utf-8").read()
+    return found
+
+
+def contracts():
+    for crate in sorted(os.listdir("crates")):
+        source = os.path.join("crates", crate, "src", "lib.rt")
+        if not os.path.exists(source):
+            continue
+        proofs = proofs_of(crate)
+        for name, clauses in public_functions(without_comments(open(source, encoding="utf-8").read())):
+            if "ensures" not in clauses:
+                yield f"{crate}::{name} has no ensures"
+            if "requires" in clauses:
+                yield f"{crate}::{name} asks its caller"
+            if not re.search(r"(?<![\w-])%s-determined :" % name.replace("_", "-"), proofs):
+                yield f"{crate}::{name} has no theorem {name.replace('_', '-')}-determined"
+
+
+def texts():
+    for base, folders, files in os.walk("."):
+        folders[:] = [f for f in folders if f not in (".git", "target", "__pycache__")]
+        for name in files:
+            path = os.path.join(base, name)
+            if not name.endswith(CODE) and name not in ("inspect", "run", "NOTICE"):
+                continue
+            text = open(path, encoding="utf-8").read()
+            if OUTSIDE.search(text) and not path.endswith("check_texts.py"):
+                yield f"{path} names a place outside the project"
+            if name.endswith(".antt") and not name == "Lib.antt" and not text.startswith("-- "):
+                yield f"{path} does not say at its top what it is"
+
+
+def main():
+    wrong = list(contracts()) + list(texts())
+    for line in wrong:
+        print(line)
+    print("texts: %s" % ("%d faults" % len(wrong) if wrong else "ok"))
+    return 1 if wrong else 0
+
+
+if __name__ == "__main__":
+    sys.exit(main())
