@@ -1,16 +1,18 @@
 #!/usr/bin/env python3
 """The inputs of docs/DIFFERENCES.md: an image for each id, held against the model, OpenSSH and the document's own rows.
 
-    python3 tools/differences.py                a line for each id; exit 1 if one answers otherwise than the document says
+    python3 tools/differences.py                a line for each id; exit 1 if one is not as the document says
     python3 tools/differences.py --write DIR    also writes each as DIR/D1.bin and, with its armour on, DIR/D1.key
 
-Without ssh-keygen the OpenSSH half is left out, and it says so. The images are the same each time. Their keys are
-throw-away ones: the Ed25519 pair is RFC 8032's first test, the ECDSA scalars come from images.py, and the files of
-other kinds and the encrypted ones are those of the corpus.
+Without OpenSSH 9.2 its half is left out, and the script says so: the document speaks of no other version. The images
+are the same each time. Their keys are throw-away ones: the Ed25519 pair is RFC 8032's first test, the ECDSA scalars
+come from images.py, and what OpenSSH must have written itself is the corpus's, but for the one file below that has a
+cipher of OpenSSH's which document 01 lacks.
 """
 import base64
 import pathlib
 import shutil
+import subprocess
 import sys
 from typing import NamedTuple
 
@@ -22,6 +24,7 @@ from images import Field, bcrypt_options, changed, encrypted, join, keypair_fiel
 from images import put_all, put_length, scalar_of, spot, stream
 
 DOCUMENT = pathlib.Path(__file__).resolve().parent.parent / "docs" / "DIFFERENCES.md"
+OPENSSH = "OpenSSH_9.2"
 P256, P521 = 1, 3
 
 # The field's prime and the base point of FIPS 186-4's curves, y² = x³ - 3x + b.
@@ -207,13 +210,20 @@ def said_here(image):
     return f"{answer.number} at {answer.at}"
 
 
+def has_openssh():
+    """Whether the OpenSSH here is the document's. ssh-keygen doesn't tell its version, ssh does."""
+    if shutil.which("ssh-keygen") is None or shutil.which("ssh") is None:
+        return False
+    return OPENSSH in subprocess.run(["ssh", "-V"], capture_output=True, text=True).stderr
+
+
 def said_by_openssh(image, passphrase):
     return "refuses" if blob_by_ssh_keygen(image, passphrase) is None else "reads"
 
 
 def said_by_document():
     """What the document's rows say of each id: this reader and OpenSSH, the third and fourth columns."""
-    rows = [line.split("|") for line in DOCUMENT.read_text().splitlines() if line.startswith("| D")]
+    rows = [line.split("|") for line in DOCUMENT.read_text(encoding="utf-8").splitlines() if line.startswith("| D")]
     return [(row[1].strip(), row[3].strip(), row[4].strip()) for row in rows]
 
 
@@ -246,10 +256,10 @@ def main():
     cases = list(differences())
     if words:
         write(cases, pathlib.Path(words[1]))
-    with_openssh = shutil.which("ssh-keygen") is not None
+    with_openssh = has_openssh()
     differing = compare(cases, with_openssh)
     if not with_openssh:
-        print("no ssh-keygen here: OpenSSH's half was left out")
+        print(f"no ssh-keygen of {OPENSSH} here: OpenSSH's half was left out")
     if said_by_document() != [(case.id, case.here, case.openssh) for case in cases]:
         print("DIFFERS: the rows of docs/DIFFERENCES.md")
         differing += 1

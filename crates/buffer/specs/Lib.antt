@@ -1,3 +1,4 @@
 pub mod Puts
 pub mod Runs
 pub mod Decimal
+pub mod Determined

@@ -85,6 +85,16 @@ copied old at new out i h e p = (
   p ∙ ap (paste old at new) e ∙ rw (take-length new) (sym (placed-fits old at new h)),
 )
 
+-- what is put at the start of a buffer is what the buffer then begins with
+pub begins :
+    (old new : List ℕ) (r : ℕ) (out : List ℕ) → length new ≤ length old → isPut old 0 new r out
+    → (r ≡ length new) × (take r out ≡ new) × (length out ≡ length old)
+begins old new r out h p =
+    let fit : 0 + length new ≤ length old = omega arith in
+    let e : r ≡ 0 + length new = p .0 ∙ next-fits old 0 new fit in
+    let s : out ≡ splice old 0 new = p .1 ∙ placed-fits old 0 new fit in
+    (omega arith, rw (e, s) (take-splice old 0 new fit), rw s (splice-length old 0 new fit))
+
 -- nothing put
 pub splice-nil : (old : List ℕ) (at : ℕ) → splice old at [] ≡ old
 unfolding splice

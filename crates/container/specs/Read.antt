@@ -25,11 +25,10 @@ use Rattle.header.specs.Header.{onKdf, headerAt}
 use Rattle.header.specs.Read.{HeaderText, header-text}
 use Rattle.section.specs.declared.Kind.the-variants.{Plain, Encrypted}
 use Rattle.section.specs.declared.Section.{Section}
-use Rattle.section.specs.declared.SectionRead.{SectionRead}
 use Rattle.section.specs.declared.SectionRead.the-variants as section-read
 use Rattle.section.specs.Section.{plainAt, encryptedAt}
 use Rattle.section.specs.Back.{KeyFits}
-use Rattle.section.specs.Read.{PlainRead, plain-read, EncryptedRead, encrypted-read}
+use Rattle.section.specs.Read.{by-section, PlainRead, plain-read, EncryptedRead, encrypted-read}
 use Rattle.container.specs.declared.Fields.{Fields}
 use Rattle.container.specs.declared.ImageRead.the-variants as read
 use Rattle.container.specs.Container.{kdfNamePlace, sectionAt, readAt}
@@ -39,10 +38,6 @@ use Rattle.container.specs.Back.{SealFits}
 by-header : {P : Type 0} (w : HeaderRead) → ((f : Fault) → w ≡ header-read.Refused f → P) → ((h : Header) → w ≡ header-read.Header h → P) → P
 by-header (header-read.Refused f) refused accepted = refused f refl
 by-header (header-read.Header h) refused accepted = accepted h refl
-
-by-section : {P : Type 0} (w : SectionRead) → ((f : Fault) → w ≡ section-read.Refused f → P) → ((x : Section) → w ≡ section-read.Section x → P) → P
-by-section (section-read.Refused f) refused accepted = refused f refl
-by-section (section-read.Section x) refused accepted = accepted x refl
 
 -- the two reads of an accepted image
 pub halves : (s : List ℕ) (f : Fields) → readAt s ≡ read.Record f → (headerAt s ≡ header-read.Header (f .header)) × (sectionAt s (f .header) ≡ section-read.Section (f .section))

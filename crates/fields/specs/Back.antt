@@ -29,6 +29,20 @@ pub record FieldBack (s : List ℕ) (w : Field) (b t : List ℕ) : Type 0 where
   pub good : Good s next
   pub more : rest s next ≡ t
 
+-- another reader that answers the same
+pub also : {s : List ℕ} {w v : Field} {b t : List ℕ} → (a : FieldBack s w b t) → v ≡ field.Part (a .place) (a .next) → FieldBack s v b t
+also a read =
+    record {
+      place = a .place;
+      next = a .next;
+      read = read;
+      seen = a .seen;
+      size = a .size;
+      inside = a .inside;
+      good = a .good;
+      more = a .more;
+    }
+
 pub record Uint32Back (s : List ℕ) (w : Uint32) (n : ℕ) (t : List ℕ) : Type 0 where
   pub next : Cursor
   pub read : w ≡ answer.Value n next
@@ -77,31 +91,13 @@ module _ (s : List ℕ) (c : Cursor) (good : Good s c) (b t : List ℕ) (short :
   string-back =
       let u = uint32-back s c good (length b) (b ++ t) short (e ∙ append-assoc (uint32 (length b)) b t) in
       let k = bytes-back s (u .next) (u .good) b t (u .more) in
-      record {
-        place = k .place;
-        next = k .next;
-        read = rw (u .read, k .read);
-        seen = k .seen;
-        size = k .size;
-        inside = k .inside;
-        good = k .good;
-        more = k .more;
-      }
+      also k (rw (u .read, k .read))
 
   pub fixed-back : (k : ℕ) → length b ≡ k → FieldBack s (fixedAt s c k) b t
   unfolding fixedAt
   fixed-back k l =
       let a = string-back in
-      record {
-        place = a .place;
-        next = a .next;
-        read = rw (a .read, le-ltb (a .place .length) k (omega arith), le-ltb k (a .place .length) (omega arith));
-        seen = a .seen;
-        size = a .size;
-        inside = a .inside;
-        good = a .good;
-        more = a .more;
-      }
+      also a (rw (a .read, le-ltb (a .place .length) k (omega arith), le-ltb k (a .place .length) (omega arith)))
 
 -- where nothing is left, the end is clean
 pub end-back : (s : List ℕ) (c : Cursor) → Good s c → rest s c ≡ [] → endAt c ≡ ending.Clean

@@ -11,7 +11,7 @@ use Rattle.fields.specs.Bytes.{uint32, string, same-self}
 use Rattle.fields.specs.Fields.{absent, whole, within, bytesAt, viewOf}
 use Rattle.fields.specs.Place.{string-place}
 use Rattle.fields.specs.Rest.{rest, Good, rest-whole, rest-within, view-absent, length-string}
-use Rattle.fields.specs.Back.{FieldBack, Uint32Back, short-of, bytes-back, string-back, uint32-back, end-back}
+use Rattle.fields.specs.Back.{FieldBack, also, Uint32Back, short-of, bytes-back, string-back, uint32-back, end-back}
 use Rattle.fields.specs.declared.Cursor.{Cursor}
 use Rattle.fields.specs.declared.Part.{Part}
 use Rattle.fields.specs.declared.Field.the-variants as field
@@ -44,16 +44,7 @@ unfolding magicAt
 magic-back s t e =
     let k = bytes-back s (whole s) (omega arith) magic t (rest-whole s ∙ e) in
     let read : bytesAt s (whole s) 15 ≡ field.Part (k .place) (k .next) = rw length-magic at (k .read) in
-    record {
-      place = k .place;
-      next = k .next;
-      read = rw (read, k .seen, same-self magic);
-      seen = k .seen;
-      size = k .size;
-      inside = k .inside;
-      good = k .good;
-      more = k .more;
-    }
+    also k (rw (read, k .seen, same-self magic))
 
 record CipherBack (s : List ℕ) (w : CipherField) (cipher : Cipher) (t : List ℕ) : Type 0 where
   pub next : Cursor

@@ -11,7 +11,7 @@ use Rattle.fields.specs.Bytes.{string, same-self}
 use Rattle.fields.specs.Fields.{part, stringAt, viewOf}
 use Rattle.fields.specs.Place.{clash}
 use Rattle.fields.specs.Rest.{rest, Good, view-byte, view-two}
-use Rattle.fields.specs.Back.{FieldBack, string-back, fixed-back, end-back}
+use Rattle.fields.specs.Back.{FieldBack, also, string-back, fixed-back, end-back}
 use Rattle.fields.specs.declared.Cursor.{Cursor}
 use Rattle.fields.specs.declared.Part.{Part}
 use Rattle.names.specs.declared.Algorithm.{Algorithm}
@@ -43,16 +43,7 @@ module _ (s : List ℕ) (c : Cursor) (good : Good s c) (k : Curve) (x t : List �
   point-back e =
       let a = fixed-back s c good x t (omega (arith, size-small k)) e (1 + 2 * sizeOf k) l in
       let first = first-byte s (a .place) x (a .seen) (a .size) (a .inside) (omega arith) ∙ four in
-      record {
-        place = a .place;
-        next = a .next;
-        read = rw (a .read, eq-eqb _ _ first);
-        seen = a .seen;
-        size = a .size;
-        inside = a .inside;
-        good = a .good;
-        more = a .more;
-      }
+      also a (rw (a .read, eq-eqb _ _ first))
 
 -- a scalar, at any size, with or without a zero before it
 module _ (s : List ℕ) (c : Cursor) (good : Good s c) (size : ℕ) (small : size < 100) (x t : List ℕ) (l : length x ≡ size) where
@@ -61,16 +52,7 @@ module _ (s : List ℕ) (c : Cursor) (good : Good s c) (size : ℕ) (small : siz
   scalar-back false e =
       let a = string-back s c good x t (omega arith) e in
       let f = fixed-back s c good x t (omega arith) e size l in
-      record {
-        place = f .place;
-        next = f .next;
-        read = rw (a .read, ne-eqb (a .place .length) (size + 1) (omega (arith, a .size))) (f .read);
-        seen = f .seen;
-        size = f .size;
-        inside = f .inside;
-        good = f .good;
-        more = f .more;
-      }
+      also f (rw (a .read, ne-eqb (a .place .length) (size + 1) (omega (arith, a .size))) (f .read))
   scalar-back true e =
       let b : List ℕ = 0 ∷ x in
       let a = string-back s c good b t (omega arith) e in

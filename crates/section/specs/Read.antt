@@ -49,7 +49,7 @@ by-entry : {P : Type 0} (w : Entry) → ((f : Fault) → w ≡ entry.Refused f �
 by-entry (entry.Refused f) refused key = refused f refl
 by-entry (entry.Key x m c) refused key = key x m c refl
 
-by-section : {P : Type 0} (w : SectionRead) → ((f : Fault) → w ≡ section-read.Refused f → P) → ((x : Section) → w ≡ section-read.Section x → P) → P
+pub by-section : {P : Type 0} (w : SectionRead) → ((f : Fault) → w ≡ section-read.Refused f → P) → ((x : Section) → w ≡ section-read.Section x → P) → P
 by-section (section-read.Refused f) refused read = refused f refl
 by-section (section-read.Section x) refused read = read x refl
 
