@@ -11,25 +11,19 @@ use names::Kdf;
 use report::Reported;
 use section::Kind;
 
-// Texts are put together in a buffer, each number after a space.
-fn number(out: &mut [u8], at: usize, n: usize) -> usize {
-    let next = buffer::put(out, at, b" ");
-    buffer::put_decimal(out, next, n)
+fn word(w: &[u8]) {
+    io::write_all(STDOUT_FILENO, w);
 }
 
-fn place(out: &mut [u8], at: usize, part: Part) -> usize {
-    let next = number(out, at, part.start);
-    number(out, next, part.length)
+// A number after a space.
+fn number(n: usize) {
+    word(b" ");
+    io::print_decimal(STDOUT_FILENO, n as u64);
 }
 
-fn zeros(out: &mut [u8], at: usize, n: usize) -> usize {
-    let mut next = at;
-    let mut left = n;
-    while 0 < left {
-        next = number(out, next, 0);
-        left -= 1;
-    }
-    next
+fn place(part: Part) {
+    number(part.start);
+    number(part.length);
 }
 
 fn kind_code(kind: Kind) -> usize {
@@ -62,44 +56,50 @@ fn cipher_code(cipher: Cipher) -> usize {
 }
 
 // A refusal: number, count and place, and 0 for every field and view.
-fn put_refused(out: &mut [u8], f: Fault) -> usize {
+fn say_refused(f: Fault) {
     let why = f.why;
-    let a = buffer::put(out, 0, b"read");
-    let b = number(out, a, why.number() as usize);
-    let c = number(out, b, why.count());
-    let d = number(out, c, f.at);
-    let e = zeros(out, d, 22);
-    let g = buffer::put(out, e, b"\nviews");
-    zeros(out, g, 7)
+    word(b"read");
+    number(why.number() as usize);
+    number(why.count());
+    number(f.at);
+    word(b" 0 0 0 0 0 0 0 0 0 0 0 0 0 0 0 0 0 0 0 0 0 0\nviews 0 0 0 0 0 0 0\n");
 }
 
-// The record's names and numbers.
-fn put_names(out: &mut [u8], f: Fields) -> usize {
+// The record's kind and names, and then its numbers.
+fn say_names(f: Fields) {
     let header = f.header;
     let section = f.section;
+    let kind = section.kind;
     let algorithm = header.algorithm;
-    let a = buffer::put(out, 0, b"read 0 0 0");
-    let b = number(out, a, kind_code(section.kind));
-    let c = number(out, b, algorithm.code() as usize);
-    let d = number(out, c, cipher_code(header.cipher));
-    let e = number(out, d, kdf_code(header.kdf));
-    let g = number(out, e, header.rounds as usize);
-    let h = number(out, g, section.checkint as usize);
-    let i = number(out, h, section.padding);
-    number(out, i, header.section)
+    let cipher = header.cipher;
+    let kdf = header.kdf;
+    word(b"read 0 0 0");
+    number(kind_code(kind));
+    number(algorithm.code() as usize);
+    number(cipher_code(cipher));
+    number(kdf_code(kdf));
+}
+
+fn say_numbers(f: Fields) {
+    let header = f.header;
+    let section = f.section;
+    number(header.rounds as usize);
+    number(section.checkint as usize);
+    number(section.padding);
+    number(header.section);
 }
 
 // The places of its fields.
-fn put_places(out: &mut [u8], at: usize, f: Fields) -> usize {
+fn say_places(f: Fields) {
     let header = f.header;
     let section = f.section;
-    let a = place(out, at, header.blob);
-    let b = place(out, a, header.point);
-    let c = place(out, b, section.scalar);
-    let d = place(out, c, section.comment);
-    let e = place(out, d, header.salt);
-    let g = place(out, e, section.ciphertext);
-    place(out, g, section.tag)
+    place(header.blob);
+    place(header.point);
+    place(section.scalar);
+    place(section.comment);
+    place(header.salt);
+    place(section.ciphertext);
+    place(section.tag);
 }
 
 fn wide(x: u8) -> usize
@@ -108,60 +108,51 @@ fn wide(x: u8) -> usize
     x as usize
 }
 
-// The sum of a view's bytes, after a space.
-fn sum(out: &mut [u8], at: usize, view: &[u8]) -> usize {
-    let mut total: usize = 0;
+fn total(view: &[u8]) -> usize {
+    let mut sum: usize = 0;
     let mut i: usize = 0;
     while i < view.len() {
-        total = std::num::wrapping_add_usize(total, wide(view[i]));
+        sum = std::num::wrapping_add_usize(sum, wide(view[i]));
         i += 1;
     }
-    number(out, at, total)
+    sum
 }
 
-fn put_views(out: &mut [u8], at: usize, image: &[u8], f: Fields) -> usize {
-    let a = buffer::put(out, at, b"\nviews");
-    let b = sum(out, a, container::blob(image, f));
-    let c = sum(out, b, container::point(image, f));
-    let d = sum(out, c, container::scalar(image, f));
-    let e = sum(out, d, container::comment(image, f));
-    let g = sum(out, e, container::salt(image, f));
-    let h = sum(out, g, container::ciphertext(image, f));
-    sum(out, h, container::tag(image, f))
+// The sum of the bytes of each view.
+fn say_views(image: &[u8], f: Fields) {
+    word(b"\nviews");
+    number(total(container::blob(image, f)));
+    number(total(container::point(image, f)));
+    number(total(container::scalar(image, f)));
+    number(total(container::comment(image, f)));
+    number(total(container::salt(image, f)));
+    number(total(container::ciphertext(image, f)));
+    number(total(container::tag(image, f)));
+    word(b"\n");
 }
 
-fn put_record(out: &mut [u8], image: &[u8], f: Fields) -> usize {
-    let a = put_names(out, f);
-    let b = put_places(out, a, f);
-    put_views(out, b, image, f)
-}
-
-fn put_read(out: &mut [u8], image: &[u8]) -> usize {
+fn say_read(image: &[u8]) {
     match container::read(image) {
-        ImageRead::Refused(f) => put_refused(out, f),
-        ImageRead::Record(f) => put_record(out, image, f),
+        ImageRead::Refused(f) => say_refused(f),
+        ImageRead::Record(f) => {
+            say_names(f);
+            say_numbers(f);
+            say_places(f);
+            say_views(image, f);
+        }
     }
 }
 
-// All that is said of an image, the report last.
-fn say(image: &[u8]) {
-    let mut text = [0u8; 1024];
-    let a = put_read(&mut text, image);
-    let b = buffer::put(&mut text, a, b"\n");
-    let mut lines = [0u8; 256];
-    match report::write_report(image, &mut lines) {
+fn say_report(image: &[u8]) {
+    let mut text = [0u8; 256];
+    match report::write_report(image, &mut text) {
         Reported::Refused(_) => {}
         Reported::Length(n) => {
-            let said = Part {
+            let lines = Part {
                 start: 0,
                 length: n,
             };
-            let c = buffer::put(&mut text, b, fields::view(&lines, said));
-            let whole = Part {
-                start: 0,
-                length: c,
-            };
-            io::write_all(STDOUT_FILENO, fields::view(&text, whole));
+            word(fields::view(&text, lines));
         }
     }
 }
@@ -188,11 +179,13 @@ fn one(fd: i32) -> bool {
     }
     let mut buf = [0u8; 65536];
     let n = fill(fd, &mut buf, length_of(&head));
-    let image = Part {
+    let whole = Part {
         start: 0,
         length: n,
     };
-    say(fields::view(&buf, image));
+    let image = fields::view(&buf, whole);
+    say_read(image);
+    say_report(image);
     true
 }
 

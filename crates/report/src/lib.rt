@@ -8,7 +8,7 @@ ghost use Rattle.fields.specs.Refusals.{numberOf, countOf};
 ghost use Rattle.names.specs.Algorithms.{algorithmName};
 ghost use Rattle.names.specs.Ciphers.{cipherName, kdfName};
 ghost use Rattle.buffer.specs.Decimal.{decimal};
-ghost use Rattle.buffer.specs.Puts.{placed, isPut};
+ghost use Rattle.buffer.specs.Puts.{placed};
 ghost use Rattle.buffer.specs.Runs.{isRun};
 ghost use Rattle.report.specs.Report.{Plain, Encrypted, Refused, accepted, summaryOf, line, formName, isText, reportOf, reportedAt};
 use container::Fields;
@@ -27,6 +27,15 @@ pub enum Reported {
     Refused(Fault),
 }
 
+// A line: a label, a value and a line feed.
+fn put_line(out: &mut [u8], at: usize, label: &[u8], value: &[u8]) -> usize
+    ensures { λ r. ⌜ isRun (now (out .entry)) at (line (now (label .entry)) (now (value .entry))) r (now (out .exit)) ⌝ }
+{
+    let a = buffer::put(out, at, label);
+    let b = buffer::put(out, a, value);
+    buffer::put(out, b, b"\n")
+}
+
 // A line whose value is a number.
 fn put_number(out: &mut [u8], at: usize, label: &[u8], n: usize) -> usize
     ensures { λ r. ⌜ isRun (now (out .entry)) at (line (now (label .entry)) (decimal n)) r (now (out .exit)) ⌝ }
@@ -37,51 +46,51 @@ fn put_number(out: &mut [u8], at: usize, label: &[u8], n: usize) -> usize
 }
 
 fn put_algorithm(out: &mut [u8], at: usize, algorithm: Algorithm) -> usize
-    ensures { λ r. ⌜ isPut (now (out .entry)) at (line (ascii "algorithm ") (algorithmName algorithm)) r (now (out .exit)) ⌝ }
+    ensures { λ r. ⌜ isRun (now (out .entry)) at (line (ascii "algorithm ") (algorithmName algorithm)) r (now (out .exit)) ⌝ }
 {
     match algorithm {
-        Algorithm::Ed25519 => buffer::put(out, at, b"algorithm ssh-ed25519\n"),
+        Algorithm::Ed25519 => put_line(out, at, b"algorithm ", b"ssh-ed25519"),
         Algorithm::Ecdsa(curve) => match curve {
-            Curve::Nistp256 => buffer::put(out, at, b"algorithm ecdsa-sha2-nistp256\n"),
-            Curve::Nistp384 => buffer::put(out, at, b"algorithm ecdsa-sha2-nistp384\n"),
-            Curve::Nistp521 => buffer::put(out, at, b"algorithm ecdsa-sha2-nistp521\n"),
+            Curve::Nistp256 => put_line(out, at, b"algorithm ", b"ecdsa-sha2-nistp256"),
+            Curve::Nistp384 => put_line(out, at, b"algorithm ", b"ecdsa-sha2-nistp384"),
+            Curve::Nistp521 => put_line(out, at, b"algorithm ", b"ecdsa-sha2-nistp521"),
         },
     }
 }
 
 fn put_cipher(out: &mut [u8], at: usize, cipher: Cipher) -> usize
-    ensures { λ r. ⌜ isPut (now (out .entry)) at (line (ascii "cipher ") (cipherName cipher)) r (now (out .exit)) ⌝ }
+    ensures { λ r. ⌜ isRun (now (out .entry)) at (line (ascii "cipher ") (cipherName cipher)) r (now (out .exit)) ⌝ }
 {
     match cipher {
-        Cipher::None => buffer::put(out, at, b"cipher none\n"),
-        Cipher::TripleDesCbc => buffer::put(out, at, b"cipher 3des-cbc\n"),
-        Cipher::Aes128Cbc => buffer::put(out, at, b"cipher aes128-cbc\n"),
-        Cipher::Aes192Cbc => buffer::put(out, at, b"cipher aes192-cbc\n"),
-        Cipher::Aes256Cbc => buffer::put(out, at, b"cipher aes256-cbc\n"),
-        Cipher::Aes128Ctr => buffer::put(out, at, b"cipher aes128-ctr\n"),
-        Cipher::Aes192Ctr => buffer::put(out, at, b"cipher aes192-ctr\n"),
-        Cipher::Aes256Ctr => buffer::put(out, at, b"cipher aes256-ctr\n"),
-        Cipher::Aes128Gcm => buffer::put(out, at, b"cipher aes128-gcm@openssh.com\n"),
-        Cipher::Aes256Gcm => buffer::put(out, at, b"cipher aes256-gcm@openssh.com\n"),
+        Cipher::None => put_line(out, at, b"cipher ", b"none"),
+        Cipher::TripleDesCbc => put_line(out, at, b"cipher ", b"3des-cbc"),
+        Cipher::Aes128Cbc => put_line(out, at, b"cipher ", b"aes128-cbc"),
+        Cipher::Aes192Cbc => put_line(out, at, b"cipher ", b"aes192-cbc"),
+        Cipher::Aes256Cbc => put_line(out, at, b"cipher ", b"aes256-cbc"),
+        Cipher::Aes128Ctr => put_line(out, at, b"cipher ", b"aes128-ctr"),
+        Cipher::Aes192Ctr => put_line(out, at, b"cipher ", b"aes192-ctr"),
+        Cipher::Aes256Ctr => put_line(out, at, b"cipher ", b"aes256-ctr"),
+        Cipher::Aes128Gcm => put_line(out, at, b"cipher ", b"aes128-gcm@openssh.com"),
+        Cipher::Aes256Gcm => put_line(out, at, b"cipher ", b"aes256-gcm@openssh.com"),
     }
 }
 
 fn put_kdf(out: &mut [u8], at: usize, kdf: Kdf) -> usize
-    ensures { λ r. ⌜ isPut (now (out .entry)) at (line (ascii "kdf ") (kdfName kdf)) r (now (out .exit)) ⌝ }
+    ensures { λ r. ⌜ isRun (now (out .entry)) at (line (ascii "kdf ") (kdfName kdf)) r (now (out .exit)) ⌝ }
 {
     match kdf {
-        Kdf::None => buffer::put(out, at, b"kdf none\n"),
-        Kdf::Bcrypt => buffer::put(out, at, b"kdf bcrypt\n"),
+        Kdf::None => put_line(out, at, b"kdf ", b"none"),
+        Kdf::Bcrypt => put_line(out, at, b"kdf ", b"bcrypt"),
     }
 }
 
 fn put_form(out: &mut [u8], at: usize, form: bool) -> usize
-    ensures { λ r. ⌜ isPut (now (out .entry)) at (line (ascii "form ") (formName form)) r (now (out .exit)) ⌝ }
+    ensures { λ r. ⌜ isRun (now (out .entry)) at (line (ascii "form ") (formName form)) r (now (out .exit)) ⌝ }
 {
     if form {
-        return buffer::put(out, at, b"form yes\n");
+        return put_line(out, at, b"form ", b"yes");
     }
-    buffer::put(out, at, b"form no\n")
+    put_line(out, at, b"form ", b"no")
 }
 
 fn put_plain(
@@ -97,7 +106,7 @@ fn put_plain(
     let algorithm = header.algorithm;
     let cipher = header.cipher;
     let kdf = header.kdf;
-    let a = buffer::put(out, 0, b"kind plain\n");
+    let a = put_line(out, 0, b"kind ", b"plain");
     let b = put_algorithm(out, a, algorithm);
     let c = put_cipher(out, b, cipher);
     let d = put_kdf(out, c, kdf);
@@ -119,7 +128,7 @@ fn put_encrypted(
     let algorithm = header.algorithm;
     let cipher = header.cipher;
     let kdf = header.kdf;
-    let a = buffer::put(out, 0, b"kind encrypted\n");
+    let a = put_line(out, 0, b"kind ", b"encrypted");
     let b = put_algorithm(out, a, algorithm);
     let c = put_cipher(out, b, cipher);
     let d = put_kdf(out, c, kdf);

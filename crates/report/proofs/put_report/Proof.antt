@@ -31,19 +31,19 @@ summary-found s = go (readAt s)
     go (read.Record f) = refl
 
 read-with-form-requires : tie.Need-read-with-form-requires
-read-with-form-requires c κs = search needs
+read-with-form-requires c κs = tt
 
 enum-known-f : tie.Need-enum-known-f
 enum-known-f c = search needs
 
 put-refused-requires : tie.Need-put-refused-requires
-put-refused-requires c κs = search needs
+put-refused-requires c κs = tt
 
 enum-known-f-2 : tie.Need-enum-known-f-2
 enum-known-f-2 c = search needs
 
 put-accepted-requires : tie.Need-put-accepted-requires
-put-accepted-requires c κs = search needs
+put-accepted-requires c κs = tt
 
 same-length : tie.Need-same-length
 same-length c = search needs

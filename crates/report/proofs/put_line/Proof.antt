@@ -1,0 +1,36 @@
+-- `report::put_line` meets its contract: three puts, one after the other, are one put of label, value and line feed.
+-- Rests on the laws of runs.
+use mathlib.Core.Path.{refl}
+use Rattle.buffer.specs.Runs.{start, step, finish}
+use Rattle.report.specs.Report.{line}
+use borrow.Author.Needs.{needs}
+use Rattle.report.proofs.put_line.Statement.{statement}
+use Rattle.report.proofs.put_line.Tie as tie
+
+put-requires : tie.Need-put-requires
+put-requires c κs = tt
+
+put-requires-2 : tie.Need-put-requires-2
+put-requires-2 c κs = tt
+
+slice-aggregate-put : tie.Need-slice-aggregate-put
+slice-aggregate-put c = refl
+
+put-requires-3 : tie.Need-put-requires-3
+put-requires-3 c κs = tt
+
+same-length : tie.Need-same-length
+same-length c = search needs
+
+returns : tie.Need-returns
+unfolding line
+returns c room =
+    let third = c .before .before in
+    let second = third .before .before .before .before .before in
+    let first = second .before .before .before .before in
+    finish (step (step (step (start room) (first .put .ensures)) (second .put2 .ensures)) (third .put3 .ensures))
+
+pub put-line-spec : {M : Type 1} → statement M
+put-line-spec =
+    tie.close
+    (tie.spec put-requires put-requires-2 slice-aggregate-put put-requires-3 same-length returns)
