@@ -73,6 +73,26 @@ pub run :
     → Left old a fields (x ∷ more) at out → isRun out at x r out′ → Left old a fields more r out′
 run l p = step l (p (next-room l))
 
+pub join-append : (xs ys : List (List ℕ)) → join (xs ++ ys) ≡ join xs ++ join ys
+join-append [] ys = refl
+join-append (x ∷ xs) ys = ap (λ (l : List ℕ). x ++ l) (join-append xs ys) ∙ sym (append-assoc x (join xs) (join ys))
+
+-- a run of several fields within a run
+pub runs :
+    {old : List ℕ} {a : ℕ} {fields : List (List ℕ)} (xs : List (List ℕ)) {more : List (List ℕ)} {at : ℕ} {out : List ℕ} {r : ℕ} {out′ : List ℕ}
+    → Left old a fields (xs ++ more) at out → isRun out at (join xs) r out′ → Left old a fields more r out′
+runs {old} {a} {fields} xs {more} {at} {out} l p =
+    let whole : l .done ++ (join xs ++ join more) ≡ join fields = rw (← join-append xs more) (l .whole) in
+    let one : Left old a fields (join xs ∷ more) at out =
+    record { done = l .done; whole = whole; place = l .place; left = l .left; room = l .room } in
+    run one p
+
+-- all that are left
+pub last-runs :
+    {old : List ℕ} {a : ℕ} {fields : List (List ℕ)} {xs : List (List ℕ)} {at : ℕ} {out : List ℕ} {r : ℕ} {out′ : List ℕ}
+    → Left old a fields xs at out → isRun out at (join xs) r out′ → Left old a fields [] r out′
+last-runs {old} {a} {fields} {xs} {at} {out} l p = runs xs (rw append-nil l) p
+
 -- ---- what stands in a buffer already
 
 -- from `at` on, `old` holds `fields` and nothing more

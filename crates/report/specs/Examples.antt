@@ -15,7 +15,7 @@ use Rattle.names.specs.declared.Kdf.the-variants as kdf
 use Rattle.header.specs.Header.{magicAt, cipherAt, headerAt}
 use Rattle.container.specs.Container.{readAt}
 use Rattle.buffer.specs.Decimal.{digitsOf, digits, decimal}
-use Rattle.report.specs.Report.{Plain, Encrypted, Refused, lineFeed, line, lines, summaryOf, reportOf}
+use Rattle.report.specs.Report.{Plain, Encrypted, Refused, lineFeed, line, names, lines, summaryOf, reportOf}
 
 -- lines as they are printed
 abbrev pub printed : List String → List ℕ
@@ -27,7 +27,7 @@ pub oven7 :
     lines (Plain Ed25519 cipher.None kdf.None 5 0 234 true)
     ≡ printed
     ("kind plain" ∷ "algorithm ssh-ed25519" ∷ "cipher none" ∷ "kdf none" ∷ "comment 5" ∷ "padding 0" ∷ "image 234" ∷ "form yes" ∷ [])
-unfolding lines line decimal digits digitsOf
+unfolding lines names line decimal digits digitsOf
 oven7 = refl
 
 -- an encrypted one with a tag
@@ -42,7 +42,7 @@ pub sealed :
     ∷ "tag 16"
     ∷ "image 1405"
     ∷ [])
-unfolding lines line decimal digits digitsOf
+unfolding lines names line decimal digits digitsOf
 sealed = refl
 
 -- two bytes left over

@@ -3,7 +3,7 @@
 use Prim.Native.Nat.{ℕ, _≤_}
 use mathlib.Core.Path.{_≡_, ap}
 use mathlib.Core.Bool.{Bool, true, false, cond}
-use mathlib.Core.List.{List, [], _∷_}
+use mathlib.Core.List.{List, [], _∷_, _++_}
 use lib.ListN.{length}
 use Rattle.fields.specs.Bytes.{ascii, join}
 use Rattle.fields.specs.Fields.{fault}
@@ -15,7 +15,8 @@ use Rattle.names.specs.declared.Cipher.{Cipher}
 use Rattle.names.specs.declared.Kdf.{Kdf}
 use Rattle.names.specs.Algorithms.{algorithmName}
 use Rattle.names.specs.Ciphers.{cipherName, kdfName}
-use Rattle.container.specs.declared.Fields.{Fields}
+use Rattle.header.specs.declared.Header.{Header}
+use Rattle.section.specs.declared.Section.{Section}
 use Rattle.container.specs.Container.{onRead, readAt}
 use Rattle.container.specs.Form.{onKind, formOf}
 use Rattle.buffer.specs.Decimal.{decimal}
@@ -30,19 +31,19 @@ pub data Summary : Type 0 where
   Encrypted : (algorithm : Algorithm) (cipher : Cipher) (kdf : Kdf) (ciphertext tag image : ℕ) → Summary
   Refused : (number count : ℕ) → Summary
 
--- the summary of an accepted image: its length, its record and its form
-unfoldable pub accepted : ℕ → Fields → Bool → Summary
-accepted image f form =
-    onKind (f .section .kind)
-    (Plain (f .header .algorithm) (f .header .cipher) (f .header .kdf) (f .section .comment .length) (f .section .padding) image form)
-    (Encrypted (f .header .algorithm) (f .header .cipher) (f .header .kdf) (f .section .ciphertext .length) (f .section .tag .length) image)
+-- the summary of an accepted image: its record, its length and its form
+unfoldable pub accepted : Header → Section → ℕ → Bool → Summary
+accepted h x image form =
+    onKind (x .kind)
+    (Plain (h .algorithm) (h .cipher) (h .kdf) (x .comment .length) (x .padding) image form)
+    (Encrypted (h .algorithm) (h .cipher) (h .kdf) (x .ciphertext .length) (x .tag .length) image)
 
 -- the summary of a refused one
 abbrev pub refused : Fault → Summary
 refused f = Refused (numberOf (f .why)) (countOf (f .why))
 
 unfoldable pub summaryOf : List ℕ → Summary
-summaryOf s = onRead (readAt s) refused (λ f. accepted (length s) f (formOf s f))
+summaryOf s = onRead (readAt s) refused (λ f. accepted (f .header) (f .section) (length s) (formOf s f))
 
 abbrev pub lineFeed : List ℕ
 lineFeed = 10 ∷ []
@@ -50,6 +51,14 @@ lineFeed = 10 ∷ []
 -- a label, a value, a line feed
 unfoldable pub line : List ℕ → List ℕ → List ℕ
 line label value = join (label ∷ value ∷ lineFeed ∷ [])
+
+-- the three lines after the kind, of every accepted image
+unfoldable pub names : Algorithm → Cipher → Kdf → List (List ℕ)
+names algorithm cipher kdf =
+    line (ascii "algorithm ") (algorithmName algorithm)
+    ∷ line (ascii "cipher ") (cipherName cipher)
+    ∷ line (ascii "kdf ") (kdfName kdf)
+    ∷ []
 
 abbrev pub formName : Bool → List ℕ
 formName true = ascii "yes"
@@ -59,32 +68,24 @@ unfoldable pub lines : Summary → List ℕ
 lines (Plain algorithm cipher kdf comment padding image form) =
     join
     (line (ascii "kind ") (ascii "plain")
-    ∷ line (ascii "algorithm ") (algorithmName algorithm)
-    ∷ line (ascii "cipher ") (cipherName cipher)
-    ∷ line (ascii "kdf ") (kdfName kdf)
-    ∷ line (ascii "comment ") (decimal comment)
+    ∷ names algorithm cipher kdf
+    ++ (line (ascii "comment ") (decimal comment)
     ∷ line (ascii "padding ") (decimal padding)
     ∷ line (ascii "image ") (decimal image)
     ∷ line (ascii "form ") (formName form)
-    ∷ [])
+    ∷ []))
 lines (Encrypted algorithm cipher kdf ciphertext tag image) =
     join
     (line (ascii "kind ") (ascii "encrypted")
-    ∷ line (ascii "algorithm ") (algorithmName algorithm)
-    ∷ line (ascii "cipher ") (cipherName cipher)
-    ∷ line (ascii "kdf ") (kdfName kdf)
-    ∷ line (ascii "ciphertext ") (decimal ciphertext)
+    ∷ names algorithm cipher kdf
+    ++ (line (ascii "ciphertext ") (decimal ciphertext)
     ∷ line (ascii "tag ") (decimal tag)
     ∷ line (ascii "image ") (decimal image)
-    ∷ [])
+    ∷ []))
 lines (Refused number count) = join (ascii "refused " ∷ decimal number ∷ ascii " " ∷ decimal count ∷ lineFeed ∷ [])
 
 unfoldable pub reportOf : List ℕ → List ℕ
 reportOf s = lines (summaryOf s)
-
--- what putting a summary's lines at the start of a text answers, r, and leaves, out, where there is room. 256 bytes are enough.
-abbrev pub isText : List ℕ → Summary → ℕ → List ℕ → Type 0
-isText old x r out = (length (lines x) ≤ 256) × isRun old 0 (lines x) r out
 
 -- what writing it to the start of a buffer replies: its length, or 9 where the buffer is shorter
 unfoldable pub reportedAt : List ℕ → List ℕ → Reported
@@ -94,3 +95,18 @@ reportedAt s old = cond (fits old 0 (reportOf s)) (reported.Length (length (repo
 pub report-public : (s t : List ℕ) → summaryOf s ≡ summaryOf t → reportOf s ≡ reportOf t
 unfolding reportOf
 report-public s t e = ap lines e
+
+-- ---- what the code's helpers go by
+
+-- every name, each once; the code says where each stands
+abbrev pub nameTable : List ℕ
+nameTable =
+    join
+    (ascii "none bcrypt 3des-cbc aes128-cbc aes192-cbc aes256-cbc aes128-ctr aes192-ctr aes256-ctr "
+    ∷ ascii "aes128-gcm@openssh.com aes256-gcm@openssh.com ssh-ed25519 ecdsa-sha2-nistp256 ecdsa-sha2-nistp384 "
+    ∷ ascii "ecdsa-sha2-nistp521"
+    ∷ [])
+
+-- what putting a summary's lines at the start of a text answers, r, and leaves, out, where there is room. 256 bytes are enough.
+abbrev pub isText : List ℕ → Summary → ℕ → List ℕ → Type 0
+isText old x r out = (length (lines x) ≤ 256) × isRun old 0 (lines x) r out

@@ -5,6 +5,7 @@ use mathlib.Core.Path.{_≡_}
 use mathlib.Core.Bool.{Bool, true, false}
 use mathlib.Core.List.{List}
 use lib.ListN.{length, length-append}
+use Rattle.fields.specs.Bytes.{join}
 use Rattle.names.specs.declared.Algorithm.{Algorithm}
 use Rattle.names.specs.declared.Algorithm.the-variants.{Ed25519, Ecdsa}
 use Rattle.names.specs.declared.Cipher.{Cipher}
@@ -15,13 +16,8 @@ use Rattle.names.specs.declared.Kdf.the-variants as kdf
 use Rattle.names.specs.Algorithms.{algorithmName}
 use Rattle.names.specs.Ciphers.{cipherName, kdfName}
 use Rattle.buffer.specs.Decimal.{decimal-short}
-use Rattle.report.specs.Report.{Summary, Plain, Encrypted, Refused, line, formName, lines}
-
--- each number of a summary fits 64 bits
-abbrev pub Fits : Summary → Type 0
-Fits (Plain a c k comment padding image form) = (comment < 2 ^ 64) × (padding < 2 ^ 64) × (image < 2 ^ 64)
-Fits (Encrypted a c k ciphertext tag image) = (ciphertext < 2 ^ 64) × (tag < 2 ^ 64) × (image < 2 ^ 64)
-Fits (Refused number count) = (number < 2 ^ 64) × (count < 2 ^ 64)
+use Rattle.buffer.specs.Runs.{join-append}
+use Rattle.report.specs.Report.{Summary, Plain, Encrypted, Refused, line, names, formName, lines}
 
 line-length : (label value : List ℕ) → length (line label value) ≡ length label + length value + 1
 unfolding line
@@ -53,29 +49,22 @@ form-short : (b : Bool) → length (formName b) ≤ 3
 form-short true = omega arith
 form-short false = omega arith
 
+names-short : (a : Algorithm) (c : Cipher) (k : Kdf) → length (join (names a c k)) ≤ 71
+unfolding names
+names-short a c k = simp (length-append, line-length) (omega (arith, algorithm-short a, cipher-short c, kdf-short k))
+
+-- each number of a summary fits 64 bits
+abbrev pub Fits : Summary → Type 0
+Fits (Plain a c k comment padding image form) = (comment < 2 ^ 64) × (padding < 2 ^ 64) × (image < 2 ^ 64)
+Fits (Encrypted a c k ciphertext tag image) = (ciphertext < 2 ^ 64) × (tag < 2 ^ 64) × (image < 2 ^ 64)
+Fits (Refused number count) = (number < 2 ^ 64) × (count < 2 ^ 64)
+
 pub lines-short : (x : Summary) → Fits x → length (lines x) ≤ 256
 unfolding lines
 lines-short (Plain a c k comment padding image form) h =
-    simp (length-append, line-length)
-    (omega (
-      arith,
-      algorithm-short a,
-      cipher-short c,
-      kdf-short k,
-      decimal-short comment (h .0),
-      decimal-short padding (h .1),
-      decimal-short image (h .2),
-      form-short form,
-    ))
+    simp (length-append, line-length, join-append)
+    (omega (arith, names-short a c k, decimal-short comment (h .0), decimal-short padding (h .1), decimal-short image (h .2), form-short form))
 lines-short (Encrypted a c k ciphertext tag image) h =
-    simp (length-append, line-length)
-    (omega (
-      arith,
-      algorithm-short a,
-      cipher-short c,
-      kdf-short k,
-      decimal-short ciphertext (h .0),
-      decimal-short tag (h .1),
-      decimal-short image (h .2),
-    ))
+    simp (length-append, line-length, join-append)
+    (omega (arith, names-short a c k, decimal-short ciphertext (h .0), decimal-short tag (h .1), decimal-short image (h .2)))
 lines-short (Refused number count) h = simp length-append (omega (arith, decimal-short number (h .0), decimal-short count (h .1)))

@@ -1,19 +1,20 @@
 // The inspection's lines: what an image is, by its kind, names, lengths and form, or how it is refused.
-// No byte of a key is among them.
+// What writes them is handed those, and no byte of the image.
 ghost use mathlib.Core.Path.{_≡_};
 ghost use Prim.Native.Nat.{_≤_};
 ghost use lib.ListN.{length};
-ghost use Rattle.fields.specs.Bytes.{ascii};
+ghost use Rattle.fields.specs.Bytes.{ascii, join};
+ghost use Rattle.fields.specs.Fields.{part, viewOf};
 ghost use Rattle.fields.specs.Refusals.{numberOf, countOf};
 ghost use Rattle.names.specs.Algorithms.{algorithmName};
 ghost use Rattle.names.specs.Ciphers.{cipherName, kdfName};
 ghost use Rattle.buffer.specs.Decimal.{decimal};
-ghost use Rattle.buffer.specs.Puts.{placed};
+ghost use Rattle.buffer.specs.Puts.{placed, isPut};
 ghost use Rattle.buffer.specs.Runs.{isRun};
-ghost use Rattle.report.specs.Report.{Plain, Encrypted, Refused, accepted, summaryOf, line, formName, isText, reportOf, reportedAt};
-use container::Fields;
+ghost use Rattle.report.specs.Report.{Plain, Encrypted, Refused, accepted, summaryOf, line, names, formName, nameTable, isText, reportOf, reportedAt};
 use container::FormRead;
 use fields::Fault;
+use fields::Part;
 use fields::Refusal;
 use header::Header;
 use names::Algorithm;
@@ -21,19 +22,11 @@ use names::Cipher;
 use names::Curve;
 use names::Kdf;
 use section::Kind;
+use section::Section;
 
 pub enum Reported {
     Length(usize),
     Refused(Fault),
-}
-
-// A line: a label, a value and a line feed.
-fn put_line(out: &mut [u8], at: usize, label: &[u8], value: &[u8]) -> usize
-    ensures { λ r. ⌜ isRun (now (out .entry)) at (line (now (label .entry)) (now (value .entry))) r (now (out .exit)) ⌝ }
-{
-    let a = buffer::put(out, at, label);
-    let b = buffer::put(out, a, value);
-    buffer::put(out, b, b"\n")
 }
 
 // A line whose value is a number.
@@ -45,98 +38,126 @@ fn put_number(out: &mut [u8], at: usize, label: &[u8], n: usize) -> usize
     buffer::put(out, b, b"\n")
 }
 
-fn put_algorithm(out: &mut [u8], at: usize, algorithm: Algorithm) -> usize
-    ensures { λ r. ⌜ isRun (now (out .entry)) at (line (ascii "algorithm ") (algorithmName algorithm)) r (now (out .exit)) ⌝ }
+// Where a name stands in the table of `put_name`.
+fn named(start: usize, length: usize) -> Part
+    ensures { λ r. ⌜ r ≡ part start length ⌝ }
+{
+    Part {
+        start: start,
+        length: length,
+    }
+}
+
+fn algorithm_name(algorithm: Algorithm) -> Part
+    ensures { λ r. ⌜ viewOf nameTable r ≡ algorithmName algorithm ⌝ }
 {
     match algorithm {
-        Algorithm::Ed25519 => put_line(out, at, b"algorithm ", b"ssh-ed25519"),
+        Algorithm::Ed25519 => named(133, 11),
         Algorithm::Ecdsa(curve) => match curve {
-            Curve::Nistp256 => put_line(out, at, b"algorithm ", b"ecdsa-sha2-nistp256"),
-            Curve::Nistp384 => put_line(out, at, b"algorithm ", b"ecdsa-sha2-nistp384"),
-            Curve::Nistp521 => put_line(out, at, b"algorithm ", b"ecdsa-sha2-nistp521"),
+            Curve::Nistp256 => named(145, 19),
+            Curve::Nistp384 => named(165, 19),
+            Curve::Nistp521 => named(185, 19),
         },
     }
 }
 
-fn put_cipher(out: &mut [u8], at: usize, cipher: Cipher) -> usize
-    ensures { λ r. ⌜ isRun (now (out .entry)) at (line (ascii "cipher ") (cipherName cipher)) r (now (out .exit)) ⌝ }
+fn cipher_name(cipher: Cipher) -> Part
+    ensures { λ r. ⌜ viewOf nameTable r ≡ cipherName cipher ⌝ }
 {
     match cipher {
-        Cipher::None => put_line(out, at, b"cipher ", b"none"),
-        Cipher::TripleDesCbc => put_line(out, at, b"cipher ", b"3des-cbc"),
-        Cipher::Aes128Cbc => put_line(out, at, b"cipher ", b"aes128-cbc"),
-        Cipher::Aes192Cbc => put_line(out, at, b"cipher ", b"aes192-cbc"),
-        Cipher::Aes256Cbc => put_line(out, at, b"cipher ", b"aes256-cbc"),
-        Cipher::Aes128Ctr => put_line(out, at, b"cipher ", b"aes128-ctr"),
-        Cipher::Aes192Ctr => put_line(out, at, b"cipher ", b"aes192-ctr"),
-        Cipher::Aes256Ctr => put_line(out, at, b"cipher ", b"aes256-ctr"),
-        Cipher::Aes128Gcm => put_line(out, at, b"cipher ", b"aes128-gcm@openssh.com"),
-        Cipher::Aes256Gcm => put_line(out, at, b"cipher ", b"aes256-gcm@openssh.com"),
+        Cipher::None => named(0, 4),
+        Cipher::TripleDesCbc => named(12, 8),
+        Cipher::Aes128Cbc => named(21, 10),
+        Cipher::Aes192Cbc => named(32, 10),
+        Cipher::Aes256Cbc => named(43, 10),
+        Cipher::Aes128Ctr => named(54, 10),
+        Cipher::Aes192Ctr => named(65, 10),
+        Cipher::Aes256Ctr => named(76, 10),
+        Cipher::Aes128Gcm => named(87, 22),
+        Cipher::Aes256Gcm => named(110, 22),
     }
 }
 
-fn put_kdf(out: &mut [u8], at: usize, kdf: Kdf) -> usize
-    ensures { λ r. ⌜ isRun (now (out .entry)) at (line (ascii "kdf ") (kdfName kdf)) r (now (out .exit)) ⌝ }
+fn kdf_name(kdf: Kdf) -> Part
+    ensures { λ r. ⌜ viewOf nameTable r ≡ kdfName kdf ⌝ }
 {
     match kdf {
-        Kdf::None => put_line(out, at, b"kdf ", b"none"),
-        Kdf::Bcrypt => put_line(out, at, b"kdf ", b"bcrypt"),
+        Kdf::None => named(0, 4),
+        Kdf::Bcrypt => named(5, 6),
     }
+}
+
+// A line whose value is a name.
+fn put_name(out: &mut [u8], at: usize, label: &[u8], name: Part) -> usize
+    ensures { λ r. ⌜ isRun (now (out .entry)) at (line (now (label .entry)) (viewOf nameTable name)) r (now (out .exit)) ⌝ }
+{
+    let table =
+        b"none bcrypt 3des-cbc aes128-cbc aes192-cbc aes256-cbc aes128-ctr aes192-ctr aes256-ctr \
+        aes128-gcm@openssh.com aes256-gcm@openssh.com ssh-ed25519 ecdsa-sha2-nistp256 ecdsa-sha2-nistp384 \
+        ecdsa-sha2-nistp521";
+    let a = buffer::put(out, at, label);
+    let b = buffer::put(out, a, fields::view(table, name));
+    buffer::put(out, b, b"\n")
+}
+
+fn put_names(out: &mut [u8], at: usize, algorithm: Algorithm, cipher: Cipher, kdf: Kdf) -> usize
+    ensures { λ r. ⌜ isRun (now (out .entry)) at (join (names algorithm cipher kdf)) r (now (out .exit)) ⌝ }
+{
+    let a = put_name(out, at, b"algorithm ", algorithm_name(algorithm));
+    let b = put_name(out, a, b"cipher ", cipher_name(cipher));
+    put_name(out, b, b"kdf ", kdf_name(kdf))
 }
 
 fn put_form(out: &mut [u8], at: usize, form: bool) -> usize
-    ensures { λ r. ⌜ isRun (now (out .entry)) at (line (ascii "form ") (formName form)) r (now (out .exit)) ⌝ }
+    ensures { λ r. ⌜ isPut (now (out .entry)) at (line (ascii "form ") (formName form)) r (now (out .exit)) ⌝ }
 {
     if form {
-        return put_line(out, at, b"form ", b"yes");
+        return buffer::put(out, at, b"form yes\n");
     }
-    put_line(out, at, b"form ", b"no")
+    buffer::put(out, at, b"form no\n")
 }
 
+// The lines of a plain image, at the start of a text. Comment, padding and image are lengths.
 fn put_plain(
     out: &mut [u8],
-    header: Header,
+    algorithm: Algorithm,
+    cipher: Cipher,
+    kdf: Kdf,
     comment: usize,
     padding: usize,
     image: usize,
     form: bool,
 ) -> usize
-    ensures { λ r. ⌜ isText (now (out .entry)) (Plain (header .algorithm) (header .cipher) (header .kdf) comment padding image form) r (now (out .exit)) ⌝ }
+    ensures { λ r. ⌜ isText (now (out .entry)) (Plain algorithm cipher kdf comment padding image form) r (now (out .exit)) ⌝ }
 {
-    let algorithm = header.algorithm;
-    let cipher = header.cipher;
-    let kdf = header.kdf;
-    let a = put_line(out, 0, b"kind ", b"plain");
-    let b = put_algorithm(out, a, algorithm);
-    let c = put_cipher(out, b, cipher);
-    let d = put_kdf(out, c, kdf);
-    let e = put_number(out, d, b"comment ", comment);
-    let f = put_number(out, e, b"padding ", padding);
-    let g = put_number(out, f, b"image ", image);
-    put_form(out, g, form)
+    let a = buffer::put(out, 0, b"kind plain\n");
+    let b = put_names(out, a, algorithm, cipher, kdf);
+    let c = put_number(out, b, b"comment ", comment);
+    let d = put_number(out, c, b"padding ", padding);
+    let e = put_number(out, d, b"image ", image);
+    put_form(out, e, form)
 }
 
+// The lines of an encrypted image, at the start of a text. Ciphertext, tag and image are lengths.
 fn put_encrypted(
     out: &mut [u8],
-    header: Header,
+    algorithm: Algorithm,
+    cipher: Cipher,
+    kdf: Kdf,
     ciphertext: usize,
     tag: usize,
     image: usize,
 ) -> usize
-    ensures { λ r. ⌜ isText (now (out .entry)) (Encrypted (header .algorithm) (header .cipher) (header .kdf) ciphertext tag image) r (now (out .exit)) ⌝ }
+    ensures { λ r. ⌜ isText (now (out .entry)) (Encrypted algorithm cipher kdf ciphertext tag image) r (now (out .exit)) ⌝ }
 {
-    let algorithm = header.algorithm;
-    let cipher = header.cipher;
-    let kdf = header.kdf;
-    let a = put_line(out, 0, b"kind ", b"encrypted");
-    let b = put_algorithm(out, a, algorithm);
-    let c = put_cipher(out, b, cipher);
-    let d = put_kdf(out, c, kdf);
-    let e = put_number(out, d, b"ciphertext ", ciphertext);
-    let f = put_number(out, e, b"tag ", tag);
-    put_number(out, f, b"image ", image)
+    let a = buffer::put(out, 0, b"kind encrypted\n");
+    let b = put_names(out, a, algorithm, cipher, kdf);
+    let c = put_number(out, b, b"ciphertext ", ciphertext);
+    let d = put_number(out, c, b"tag ", tag);
+    put_number(out, d, b"image ", image)
 }
 
+// The line of a refused image, at the start of a text.
 fn put_refused(out: &mut [u8], why: Refusal) -> usize
     ensures { λ r. ⌜ isText (now (out .entry)) (Refused (numberOf why) (countOf why)) r (now (out .exit)) ⌝ }
 {
@@ -148,22 +169,40 @@ fn put_refused(out: &mut [u8], why: Refusal) -> usize
     buffer::put(out, d, b"\n")
 }
 
-// The lines of an accepted image of a length.
-fn put_accepted(out: &mut [u8], image: usize, f: Fields, form: bool) -> usize
-    ensures { λ r. ⌜ isText (now (out .entry)) (accepted image f form) r (now (out .exit)) ⌝ }
+fn put_accepted(out: &mut [u8], header: Header, section: Section, image: usize, form: bool) -> usize
+    ensures { λ r. ⌜ isText (now (out .entry)) (accepted header section image form) r (now (out .exit)) ⌝ }
 {
-    let header = f.header;
-    let section = f.section;
+    let algorithm = header.algorithm;
+    let cipher = header.cipher;
+    let kdf = header.kdf;
     let kind = section.kind;
     match kind {
         Kind::Plain => {
             let comment = section.comment;
-            put_plain(out, header, comment.length, section.padding, image, form)
+            let padding = section.padding;
+            put_plain(
+                out,
+                algorithm,
+                cipher,
+                kdf,
+                comment.length,
+                padding,
+                image,
+                form,
+            )
         }
         Kind::Encrypted => {
             let ciphertext = section.ciphertext;
             let tag = section.tag;
-            put_encrypted(out, header, ciphertext.length, tag.length, image)
+            put_encrypted(
+                out,
+                algorithm,
+                cipher,
+                kdf,
+                ciphertext.length,
+                tag.length,
+                image,
+            )
         }
     }
 }
@@ -176,7 +215,7 @@ fn put_report(out: &mut [u8], image: &[u8]) -> usize
             let why = f.why;
             put_refused(out, why)
         }
-        FormRead::Record(f, form) => put_accepted(out, image.len(), f, form),
+        FormRead::Record(f, form) => put_accepted(out, f.header, f.section, image.len(), form),
     }
 }
 

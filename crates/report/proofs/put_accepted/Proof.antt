@@ -8,13 +8,13 @@ enum-told : tie.Need-enum-told
 enum-told c = search needs
 
 put-plain-requires : tie.Need-put-plain-requires
-put-plain-requires c κs = tt
+put-plain-requires c κs = search needs
 
 enum-told-2 : tie.Need-enum-told-2
 enum-told-2 c = search needs
 
 put-encrypted-requires : tie.Need-put-encrypted-requires
-put-encrypted-requires c κs = tt
+put-encrypted-requires c κs = search needs
 
 same-length : tie.Need-same-length
 same-length c = search needs

@@ -1,6 +1,5 @@
 -- `report::put_number` meets its contract: three puts, one after the other, are one put of label, number and line feed.
 -- Rests on the laws of runs.
-use mathlib.Core.Path.{refl}
 use Rattle.buffer.specs.Runs.{start, step, finish}
 use Rattle.report.specs.Report.{line}
 use borrow.Author.Needs.{needs}
@@ -8,16 +7,16 @@ use Rattle.report.proofs.put_number.Statement.{statement}
 use Rattle.report.proofs.put_number.Tie as tie
 
 put-requires : tie.Need-put-requires
-put-requires c κs = tt
+put-requires c κs = search needs
 
 put-decimal-requires : tie.Need-put-decimal-requires
-put-decimal-requires c κs = tt
+put-decimal-requires c κs = search needs
 
 slice-aggregate-put : tie.Need-slice-aggregate-put
-slice-aggregate-put c = refl
+slice-aggregate-put c = search needs
 
 put-requires-2 : tie.Need-put-requires-2
-put-requires-2 c κs = tt
+put-requires-2 c κs = search needs
 
 same-length : tie.Need-same-length
 same-length c = search needs

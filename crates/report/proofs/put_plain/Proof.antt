@@ -1,87 +1,72 @@
 -- `report::put_plain` meets its contract: eight lines, put one after the other, are one put of them all.
 -- Rests on the laws of runs, and on `lines-short`.
-use mathlib.Core.Path.{refl}
 use native.Mathlib.Omega.{arith}
-use Rattle.buffer.specs.Runs.{start, run, finish}
-use Rattle.report.specs.Report.{Plain, lines}
+use Rattle.buffer.specs.Runs.{start, step, run, runs, finish}
+use Rattle.report.specs.Report.{Plain, line, names, lines}
 use Rattle.report.specs.Short.{lines-short}
 use borrow.Author.Needs.{needs}
 use Rattle.report.proofs.put_plain.Statement.{statement}
 use Rattle.report.proofs.put_plain.Tie as tie
 
-slice-aggregate-put-line : tie.Need-slice-aggregate-put-line
-slice-aggregate-put-line c = refl
+slice-aggregate-put : tie.Need-slice-aggregate-put
+slice-aggregate-put c = search needs
 
-slice-aggregate-put-line-2 : tie.Need-slice-aggregate-put-line-2
-slice-aggregate-put-line-2 c = refl
+put-requires : tie.Need-put-requires
+put-requires c κs = search needs
 
-put-line-requires : tie.Need-put-line-requires
-put-line-requires c κs = tt
-
-put-algorithm-requires : tie.Need-put-algorithm-requires
-put-algorithm-requires c κs = tt
-
-put-cipher-requires : tie.Need-put-cipher-requires
-put-cipher-requires c κs = tt
-
-put-kdf-requires : tie.Need-put-kdf-requires
-put-kdf-requires c κs = tt
+put-names-requires : tie.Need-put-names-requires
+put-names-requires c κs = search needs
 
 slice-aggregate-put-number : tie.Need-slice-aggregate-put-number
-slice-aggregate-put-number c = refl
+slice-aggregate-put-number c = search needs
 
 put-number-requires : tie.Need-put-number-requires
-put-number-requires c κs = tt
+put-number-requires c κs = search needs
 
 slice-aggregate-put-number-2 : tie.Need-slice-aggregate-put-number-2
-slice-aggregate-put-number-2 c = refl
+slice-aggregate-put-number-2 c = search needs
 
 put-number-requires-2 : tie.Need-put-number-requires-2
-put-number-requires-2 c κs = tt
+put-number-requires-2 c κs = search needs
 
 slice-aggregate-put-number-3 : tie.Need-slice-aggregate-put-number-3
-slice-aggregate-put-number-3 c = refl
+slice-aggregate-put-number-3 c = search needs
 
 put-number-requires-3 : tie.Need-put-number-requires-3
-put-number-requires-3 c κs = tt
+put-number-requires-3 c κs = search needs
 
 put-form-requires : tie.Need-put-form-requires
-put-form-requires c κs = tt
+put-form-requires c κs = search needs
 
 same-length : tie.Need-same-length
 same-length c = search needs
 
 returns : tie.Need-returns
-unfolding lines
+unfolding lines line
 returns c =
     let form = c .before .before in
     let image = form .before .before .before .before in
     let padding = image .before .before .before .before .before in
     let comment = padding .before .before .before .before .before in
-    let kdf = comment .before .before .before .before .before in
-    let cipher = kdf .before .before .before .before in
-    let algorithm = cipher .before .before .before .before in
-    let kind = algorithm .before .before .before .before in
-    let begin = kind .before .before .before .before .before in
+    let named = comment .before .before .before .before .before in
+    let kind = named .before .before .before .before in
+    let begin = kind .before .before .before .before in
     let a = begin .args in
-    let h = a .header in (
-      lines-short (Plain (h .algorithm) (h .cipher) (h .kdf) (a .comment) (a .padding) (a .image) (a .form)) (omega (arith, begin .fits), omega (arith, begin .fits), omega (arith, begin .fits)),
+    let fit = begin .fits in (
+      lines-short (Plain (a .algorithm) (a .cipher) (a .kdf) (a .comment) (a .padding) (a .image) (a .form)) (omega (arith, fit), omega (arith, fit), omega (arith, fit)),
       λ room.
-          let named = run (run (run (run (start room) (kind .put-line .ensures)) (algorithm .put-algorithm .ensures)) (cipher .put-cipher .ensures)) (kdf .put-kdf .ensures) in
-          let counted = run (run (run named (comment .put-number .ensures)) (padding .put-number2 .ensures)) (image .put-number3 .ensures) in
-          finish (run counted (form .put-form .ensures)),
+          let four = runs (names (a .algorithm) (a .cipher) (a .kdf)) (step (start room) (kind .put .ensures)) (named .put-names .ensures) in
+          let seven = run (run (run four (comment .put-number .ensures)) (padding .put-number2 .ensures)) (image .put-number3 .ensures) in
+          finish (step seven (form .put-form .ensures)),
     )
 
 pub put-plain-spec : {M : Type 1} → statement M
 put-plain-spec =
     tie.close
     (tie.spec
-    slice-aggregate-put-line
-    slice-aggregate-put-line-2
-    put-line-requires
-    put-algorithm-requires
-    put-cipher-requires
-    put-kdf-requires
+    slice-aggregate-put
+    put-requires
+    put-names-requires
     slice-aggregate-put-number
     put-number-requires
     slice-aggregate-put-number-2

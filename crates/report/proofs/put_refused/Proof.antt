@@ -1,6 +1,5 @@
 -- `report::put_refused` meets its contract: five puts, one after the other, are one put of the line.
 -- Rests on the laws of runs, and on `lines-short`.
-use mathlib.Core.Path.{refl}
 use native.Mathlib.Omega.{arith}
 use Rattle.buffer.specs.Runs.{start, step, finish}
 use Rattle.report.specs.Report.{Refused, lines}
@@ -10,37 +9,37 @@ use Rattle.report.proofs.put_refused.Statement.{statement}
 use Rattle.report.proofs.put_refused.Tie as tie
 
 number-requires : tie.Need-number-requires
-number-requires c κs = tt
+number-requires c κs = search needs
 
 slice-aggregate-put : tie.Need-slice-aggregate-put
-slice-aggregate-put c = refl
+slice-aggregate-put c = search needs
 
 put-requires : tie.Need-put-requires
-put-requires c κs = tt
+put-requires c κs = search needs
 
 cast-put-decimal : tie.Need-cast-put-decimal
 cast-put-decimal c = search needs
 
 put-decimal-requires : tie.Need-put-decimal-requires
-put-decimal-requires c κs = tt
+put-decimal-requires c κs = search needs
 
 slice-aggregate-put-2 : tie.Need-slice-aggregate-put-2
-slice-aggregate-put-2 c = refl
+slice-aggregate-put-2 c = search needs
 
 put-requires-2 : tie.Need-put-requires-2
-put-requires-2 c κs = tt
+put-requires-2 c κs = search needs
 
 count-requires : tie.Need-count-requires
-count-requires c κs = tt
+count-requires c κs = search needs
 
 put-decimal-requires-2 : tie.Need-put-decimal-requires-2
-put-decimal-requires-2 c κs = tt
+put-decimal-requires-2 c κs = search needs
 
 slice-aggregate-put-3 : tie.Need-slice-aggregate-put-3
-slice-aggregate-put-3 c = refl
+slice-aggregate-put-3 c = search needs
 
 put-requires-3 : tie.Need-put-requires-3
-put-requires-3 c κs = tt
+put-requires-3 c κs = search needs
 
 same-length : tie.Need-same-length
 same-length c = search needs

@@ -18,7 +18,7 @@ use Rattle.report.proofs.put_report.Tie as tie
 -- the summary of what reading with the form finds
 abbrev found : List ℕ → FormRead → Summary
 found s (form-read.Refused f) = refused f
-found s (form-read.Record f form) = accepted (length s) f form
+found s (form-read.Record f form) = accepted (f .header) (f .section) (length s) form
 
 summary-found : (s : List ℕ) → summaryOf s ≡ found s (formReadAt s)
 unfolding summaryOf formReadAt
@@ -26,24 +26,25 @@ summary-found s = go (readAt s)
   where
     go :
         (r : ImageRead)
-        → onRead r refused (λ f. accepted (length s) f (formOf s f)) ≡ found s (onRead r form-read.Refused (λ f. form-read.Record f (formOf s f)))
+        → onRead r refused (λ f. accepted (f .header) (f .section) (length s) (formOf s f))
+        ≡ found s (onRead r form-read.Refused (λ f. form-read.Record f (formOf s f)))
     go (read.Refused f) = refl
     go (read.Record f) = refl
 
 read-with-form-requires : tie.Need-read-with-form-requires
-read-with-form-requires c κs = tt
+read-with-form-requires c κs = search needs
 
 enum-known-f : tie.Need-enum-known-f
 enum-known-f c = search needs
 
 put-refused-requires : tie.Need-put-refused-requires
-put-refused-requires c κs = tt
+put-refused-requires c κs = search needs
 
 enum-known-f-2 : tie.Need-enum-known-f-2
 enum-known-f-2 c = search needs
 
 put-accepted-requires : tie.Need-put-accepted-requires
-put-accepted-requires c κs = tt
+put-accepted-requires c κs = search needs
 
 same-length : tie.Need-same-length
 same-length c = search needs

@@ -1,6 +1,6 @@
 -- `report::write_report` meets its contract: the text begins with the lines, and they are put where the buffer has room for them.
 -- Rests on the laws of one put.
-use mathlib.Core.Path.{_≡_, sym, ap, _∙_, refl}
+use mathlib.Core.Path.{_≡_, sym, ap, _∙_}
 use mathlib.Core.List.{List}
 use Prim.Native.Nat.{ℕ, _+_, _≤_, _<_}
 use native.Mathlib.Omega.{arith}
@@ -41,10 +41,10 @@ enough s old r h e =
     rw (le-leb (0 + length (reportOf s)) (length old) (omega arith)) (ap reported.Length n)
 
 slice-aggregate-put-report : tie.Need-slice-aggregate-put-report
-slice-aggregate-put-report c = refl
+slice-aggregate-put-report c = search needs
 
 put-report-requires : tie.Need-put-report-requires
-put-report-requires c κs = tt
+put-report-requires c κs = search needs
 
 returns : tie.Need-returns
 returns c =
@@ -66,7 +66,7 @@ slice-aggregate-put c =
     k .0 ∙ ap length (sym (k .1))
 
 put-requires : tie.Need-put-requires
-put-requires c κs = tt
+put-requires c κs = search needs
 
 same-length : tie.Need-same-length
 same-length c = search needs

@@ -1,0 +1,62 @@
+-- `report::put_names` meets its contract: three lines, put one after the other, are one put of them all.
+-- Rests on the laws of runs.
+use Rattle.buffer.specs.Runs.{start, run, finish}
+use Rattle.report.specs.Report.{names}
+use borrow.Author.Needs.{needs}
+use Rattle.report.proofs.put_names.Statement.{statement}
+use Rattle.report.proofs.put_names.Tie as tie
+
+slice-aggregate-put-name : tie.Need-slice-aggregate-put-name
+slice-aggregate-put-name c = search needs
+
+algorithm-name-requires : tie.Need-algorithm-name-requires
+algorithm-name-requires c κs = search needs
+
+put-name-requires : tie.Need-put-name-requires
+put-name-requires c κs = search needs
+
+slice-aggregate-put-name-2 : tie.Need-slice-aggregate-put-name-2
+slice-aggregate-put-name-2 c = search needs
+
+cipher-name-requires : tie.Need-cipher-name-requires
+cipher-name-requires c κs = search needs
+
+put-name-requires-2 : tie.Need-put-name-requires-2
+put-name-requires-2 c κs = search needs
+
+slice-aggregate-put-name-3 : tie.Need-slice-aggregate-put-name-3
+slice-aggregate-put-name-3 c = search needs
+
+kdf-name-requires : tie.Need-kdf-name-requires
+kdf-name-requires c κs = search needs
+
+put-name-requires-3 : tie.Need-put-name-requires-3
+put-name-requires-3 c κs = search needs
+
+same-length : tie.Need-same-length
+same-length c = search needs
+
+returns : tie.Need-returns
+unfolding names
+returns c =
+    let third = c .before .before in
+    let second = third .before .before .before .before .before .before in
+    let first = second .before .before .before .before .before .before in
+    rw (← first .before .algorithm-name .ensures, ← second .before .cipher-name .ensures, ← third .before .kdf-name .ensures)
+    (λ room. finish (run (run (run (start room) (first .put-name .ensures)) (second .put-name2 .ensures)) (third .put-name3 .ensures)))
+
+pub put-names-spec : {M : Type 1} → statement M
+put-names-spec =
+    tie.close
+    (tie.spec
+    slice-aggregate-put-name
+    algorithm-name-requires
+    put-name-requires
+    slice-aggregate-put-name-2
+    cipher-name-requires
+    put-name-requires-2
+    slice-aggregate-put-name-3
+    kdf-name-requires
+    put-name-requires-3
+    same-length
+    returns)
