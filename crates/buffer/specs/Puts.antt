@@ -1,5 +1,5 @@
 -- What a put of bytes at a place of a buffer answers and leaves there, and laws of one put and of two.
-use Prim.Native.Nat.{ℕ, _+_, _≤_, _<_}
+use Prim.Native.Nat.{ℕ, zero, suc, _+_, _≤_, _<_}
 use native.Mathlib.Nat.{add-assoc, add-zero}
 use native.Mathlib.Omega.{arith}
 use mathlib.Core.Path.{_≡_, refl, sym, ap, _∙_}
@@ -7,12 +7,16 @@ use mathlib.Core.Bool.{Bool, true, false, cond}
 use mathlib.Core.List.{List, [], _++_, append-assoc, append-nil}
 use borrow.Author.Tests.{le-leb, lt-leb, leb-true}
 use lib.Dec.{leb}
-use lib.ListN.{length, take, drop, length-append, length-drop, take-append-drop}
+use lib.ListN.{length, take, drop, getD, replicate, length-replicate, length-append, length-drop, take-append-drop}
 use lib.Seq.{paste, take-length, drop-append-seam, length-take-le, take-at, drop-at, drop-drop}
 
 -- `old`, with `new` in place of as many bytes from `at` on
 unfoldable pub splice : List ℕ → ℕ → List ℕ → List ℕ
 splice old at new = take at old ++ new ++ drop (at + length new) old
+
+-- n zeros
+unfoldable pub zeros : ℕ → List ℕ
+zeros n = replicate n 0
 
 -- whether `new` lies within `old` from `at` on
 unfoldable pub fits : List ℕ → ℕ → List ℕ → Bool
@@ -29,6 +33,18 @@ next old at new = cond (fits old at new) (at + length new) at
 -- the contract of every put: it answers r and leaves out
 abbrev pub isPut : List ℕ → ℕ → List ℕ → ℕ → List ℕ → Type 0
 isPut old at new r out = (r ≡ next old at new) × (out ≡ placed old at new)
+
+-- ---- zeros
+
+pub zeros-length : (n : ℕ) → length (zeros n) ≡ n
+unfolding zeros
+zeros-length n = length-replicate n 0
+
+pub zeros-at : (n i : ℕ) → getD (zeros n) i 0 ≡ 0
+unfolding zeros
+zeros-at zero i = refl
+zeros-at (suc n) zero = refl
+zeros-at (suc n) (suc i) = zeros-at n i
 
 -- ---- one put
 
@@ -105,6 +121,14 @@ pub splice-same : (old : List ℕ) (at : ℕ) (new more : List ℕ) → drop at 
 splice-same old at new more h =
     let past : drop (at + length new) old ≡ more = sym (drop-drop (length new) at old) ∙ ap (drop (length new)) h ∙ drop-append-seam new more in
     splice-is old at new ∙ rw (past, append-assoc, ← h) (take-append-drop at old)
+
+pub nothing-put : (old : List ℕ) (at : ℕ) → isPut old at [] at old
+unfolding next placed
+nothing-put old at = go (fits old at [])
+  where
+    go : (b : Bool) → (at ≡ cond b (at + 0) at) × (old ≡ cond b (splice old at []) old)
+    go true = (sym (add-zero at), sym (splice-nil old at))
+    go false = (refl, refl)
 
 -- two puts, the second where the first ends, are one
 pub splice-splice :

@@ -21,6 +21,11 @@ pub record Left (old : List ℕ) (a : ℕ) (fields more : List (List ℕ)) (at :
 pub start : {old : List ℕ} {a : ℕ} {fields : List (List ℕ)} → a + length (join fields) ≤ length old → Left old a fields fields a old
 start {old} {a} h = record { done = []; whole = refl; place = omega arith; left = sym (splice-nil old a); room = h }
 
+-- the same, where what the fields join to has a name
+pub start-as :
+    {old : List ℕ} {a : ℕ} {fields : List (List ℕ)} (new : List ℕ) → join fields ≡ new → a + length new ≤ length old → Left old a fields fields a old
+start-as {old} {a} {fields} new e h = start (rw e h)
+
 -- the next field fits
 pub next-room :
     {old : List ℕ} {a : ℕ} {fields : List (List ℕ)} {x : List ℕ} {more : List (List ℕ)} {at : ℕ} {out : List ℕ}
@@ -56,6 +61,12 @@ finish {old} {a} {fields} l =
       l .place ∙ ap (λ (d : List ℕ). a + length d) e ∙ sym (next-fits old a (join fields) (l .room)),
       l .left ∙ ap (splice old a) e ∙ sym (placed-fits old a (join fields) (l .room)),
     )
+
+-- the same by that name
+pub finish-as :
+    {old : List ℕ} {a : ℕ} {fields : List (List ℕ)} {at : ℕ} {out : List ℕ} (new : List ℕ) → join fields ≡ new → Left old a fields [] at out
+    → isPut old a new at out
+finish-as {old} {a} {fields} {at} {out} new e l = rw (← e) (finish l)
 
 -- where the next field goes
 pub where-next :

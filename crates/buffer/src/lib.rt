@@ -2,9 +2,11 @@
 // where they don't fit it changes nothing and answers the place that it was given.
 ghost use mathlib.Core.Path.{_≡_};
 ghost use Prim.Native.Nat.{_≤_};
-ghost use lib.ListN.{length, drop};
+ghost use lib.ListN.{length, take, drop};
+ghost use Rattle.fields.specs.Bytes.{uint32, string};
+ghost use Rattle.format.specs.Format.{short, paddingBytes};
 ghost use Rattle.buffer.specs.Decimal.{lastDigit, decimal};
-ghost use Rattle.buffer.specs.Puts.{isPut};
+ghost use Rattle.buffer.specs.Puts.{isPut, zeros};
 
 pub fn put(out: &mut [u8], at: usize, bytes: &[u8]) -> usize
     ensures { λ r. ⌜ isPut (now (out .entry)) at (now (bytes .entry)) r (now (out .exit)) ⌝ }
@@ -18,6 +20,80 @@ pub fn put(out: &mut [u8], at: usize, bytes: &[u8]) -> usize
     let mut i: usize = 0;
     while i < bytes.len() {
         out[at + i] = bytes[i];
+        i += 1;
+    }
+    at + i
+}
+
+// The four lowest bytes of a number, the highest first.
+fn uint32_bytes(n: usize) -> [u8; 4]
+    ensures { λ r. ⌜ r ≡ uint32 n ⌝ }
+{
+    [
+        (n / 16777216 % 256) as u8,
+        (n / 65536 % 256) as u8,
+        (n / 256 % 256) as u8,
+        (n % 256) as u8,
+    ]
+}
+
+// A number as a uint32.
+pub fn put_uint32(out: &mut [u8], at: usize, n: usize) -> usize
+    ensures { λ r. ⌜ isPut (now (out .entry)) at (uint32 n) r (now (out .exit)) ⌝ }
+{
+    let bytes = uint32_bytes(n);
+    put(out, at, &bytes)
+}
+
+// A string: its length as a uint32, and its bytes.
+pub fn put_string(out: &mut [u8], at: usize, bytes: &[u8]) -> usize
+    ensures { λ r. ⌜ isPut (now (out .entry)) at (string (now (bytes .entry))) r (now (out .exit)) ⌝ }
+{
+    if out.len() < at {
+        return at;
+    }
+    let room = out.len() - at;
+    if room < 4 {
+        return at;
+    }
+    if room - 4 < bytes.len() {
+        return at;
+    }
+    let body = put_uint32(out, at, bytes.len());
+    put(out, body, bytes)
+}
+
+// How many padding bytes take n to a multiple of 8.
+pub fn padding(n: usize) -> usize
+    ensures { λ r. ⌜ r ≡ short n ⌝ }
+{
+    (8 - n % 8) % 8
+}
+
+// The first n of the padding bytes, or all seven.
+pub fn put_padding(out: &mut [u8], at: usize, n: usize) -> usize
+    ensures { λ r. ⌜ isPut (now (out .entry)) at (take n paddingBytes) r (now (out .exit)) ⌝ }
+{
+    let bytes: [u8; 7] = [1, 2, 3, 4, 5, 6, 7];
+    if n < 7 {
+        return put(out, at, &bytes[..n]);
+    }
+    put(out, at, &bytes)
+}
+
+// n zeros.
+pub fn put_zeros(out: &mut [u8], at: usize, n: usize) -> usize
+    ensures { λ r. ⌜ isPut (now (out .entry)) at (zeros n) r (now (out .exit)) ⌝ }
+{
+    if out.len() < at {
+        return at;
+    }
+    if out.len() - at < n {
+        return at;
+    }
+    let mut i: usize = 0;
+    while i < n {
+        out[at + i] = 0;
         i += 1;
     }
     at + i

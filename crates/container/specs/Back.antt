@@ -75,7 +75,7 @@ unfolding plainImage
 plain-image-back s n a zero point scalar comment small fit fits e =
     let body = section n a point (standing zero scalar) comment in
     let h = header-back s cipher.None kdf.None [] 0 a point (string body) small (refl, refl) (fits .long) (fits .tag)
-    (e ∙ ap (λ (l : List ℕ). header cipher.None kdf.None [] 0 a point ++ l) (append-nil (string body))) in
+    (e ∙ ap (λ (l : List ℕ). header cipher.None kdf.None [] 0 (blob a point) ++ l) (append-nil (string body))) in
     plain-after s n a zero point scalar comment small fit fits h
 
 -- what an encrypted image gives back
@@ -105,13 +105,13 @@ pub record SealFits (cipher : Cipher) (k : Kdf) (salt : List ℕ) (rounds : ℕ)
 
 pub encrypted-image-back :
     (s : List ℕ) (cipher : Cipher) (k : Kdf) (salt : List ℕ) (rounds : ℕ) (a : Algorithm) (point ciphertext tag : List ℕ) → length s ≤ 65535
-    → SealFits cipher k salt rounds a point ciphertext tag → s ≡ encryptedImage cipher k salt rounds a point ciphertext tag
+    → SealFits cipher k salt rounds a point ciphertext tag → s ≡ encryptedImage cipher k salt rounds (blob a point) ciphertext tag
     → EncryptedImageBack s cipher k salt rounds a point ciphertext tag
 unfolding encryptedImage readAt sectionAt
 encrypted-image-back s cipher k salt rounds a point ciphertext tag small fits e =
     let after = string ciphertext ++ tag in
     let h = header-back s cipher k salt rounds a point after small (fits .options-fit) (fits .long) (fits .tag-byte)
-    (e ∙ ap (λ (l : List ℕ). header cipher k salt rounds a point ++ (string ciphertext ++ l)) (append-nil tag)) in
+    (e ∙ ap (λ (l : List ℕ). header cipher k salt rounds (blob a point) ++ (string ciphertext ++ l)) (append-nil tag)) in
     let f = h .fields in
     let x = encrypted-back s (record { at = f .section; end = length s }) (omega (arith, h .good)) (omega arith) cipher ciphertext tag (fits .blocks)
     (fits .tag-long) (h .more) in

@@ -6,7 +6,7 @@ use lib.ListN.{getD}
 use lib.Dec.{leb}
 use Rattle.fields.specs.Bytes.{sameBytes}
 use Rattle.fields.specs.Fields.{viewOf}
-use Rattle.format.specs.Format.{standing, needsLeadingZero, plainImage}
+use Rattle.format.specs.Format.{writtenImage, encryptedImage}
 use Rattle.keys.specs.Keys.{onAlgorithm, afterZero}
 use Rattle.section.specs.declared.Kind.{Kind}
 use Rattle.section.specs.declared.Kind.the-variants.{Plain, Encrypted}
@@ -19,16 +19,18 @@ abbrev pub onKind : {R : Type 0} → Kind → R → R → R
 onKind Plain plain encrypted = plain
 onKind Encrypted plain encrypted = encrypted
 
--- the image that the writer makes of a plain record, with the record's own checkint
-unfoldable pub writtenAgain : List ℕ → Fields → List ℕ
-writtenAgain s f =
-    plainImage (f .section .checkint) (f .header .algorithm) (viewOf s (f .header .point))
-    (standing (needsLeadingZero (f .header .algorithm) (viewOf s (f .section .scalar))) (viewOf s (f .section .scalar)))
-    (viewOf s (f .section .comment))
+-- writing a record, with its own checkint where it is plain
+unfoldable pub rewritten : List ℕ → Fields → List ℕ
+rewritten s f =
+    onKind (f .section .kind)
+    (writtenImage (f .section .checkint) (f .header .algorithm) (viewOf s (f .header .point)) (viewOf s (f .section .scalar))
+    (viewOf s (f .section .comment)))
+    (encryptedImage (f .header .cipher) (f .header .kdf) (viewOf s (f .header .salt)) (f .header .rounds) (viewOf s (f .header .blob))
+    (viewOf s (f .section .ciphertext)) (viewOf s (f .section .tag)))
 
--- every encrypted image is in the form
+-- it gives the image back
 unfoldable pub formOf : List ℕ → Fields → Bool
-formOf s f = onKind (f .section .kind) (sameBytes (writtenAgain s f) s) true
+formOf s f = sameBytes (rewritten s f) s
 
 unfoldable pub formReadAt : List ℕ → FormRead
 formReadAt s = onRead (readAt s) form-read.Refused (λ f. form-read.Record f (formOf s f))

@@ -12,15 +12,15 @@ use Rattle.fields.specs.Fields.{viewOf}
 use Rattle.fields.specs.Place.{clash, by-bool}
 use Rattle.names.specs.declared.Algorithm.{Algorithm}
 use Rattle.names.specs.declared.Algorithm.the-variants.{Ed25519, Ecdsa}
-use Rattle.format.specs.Format.{standing, mayStand, needsLeadingZero, plainImage}
+use Rattle.format.specs.Format.{standing, mayStand, needsLeadingZero, plainImage, writtenImage}
 use Rattle.format.specs.Laws.{key-small, standing-same}
 use Rattle.keys.specs.Keys.{onAlgorithm}
-use Rattle.section.specs.declared.Kind.the-variants.{Plain}
+use Rattle.section.specs.declared.Kind.the-variants.{Plain, Encrypted}
 use Rattle.container.specs.declared.Fields.{Fields}
 use Rattle.container.specs.declared.ImageRead.the-variants as read
 use Rattle.container.specs.Container.{readAt}
-use Rattle.container.specs.Form.{writtenAgain, formOf, scalarInForm}
-use Rattle.container.specs.Read.{PlainText, ImageText, plain-text, encrypted-text, image-text}
+use Rattle.container.specs.Form.{rewritten, formOf, scalarInForm}
+use Rattle.container.specs.Read.{PlainText, EncryptedText, ImageText, plain-text, encrypted-text, image-text}
 
 -- whether two answers are the same
 abbrev pub agree : Bool → Bool → Bool
@@ -40,9 +40,9 @@ agree-self false = refl
 -- the writer's image is the image itself exactly where the zero that stands is the one that the rule asks for
 pub form-agrees :
     (s : List ℕ) (f : Fields) (p : PlainText s f)
-    → sameBytes (writtenAgain s f) s ≡ agree (needsLeadingZero (f .header .algorithm) (viewOf s (f .section .scalar))) (p .zero)
-unfolding writtenAgain
-form-agrees s f p =
+    → f .section .kind ≡ Plain → formOf s f ≡ agree (needsLeadingZero (f .header .algorithm) (viewOf s (f .section .scalar))) (p .zero)
+unfolding formOf rewritten writtenImage
+form-agrees s f p plain =
     let a = f .header .algorithm in
     let point = viewOf s (f .header .point) in
     let scalar = viewOf s (f .section .scalar) in
@@ -50,7 +50,8 @@ form-agrees s f p =
     let rule = needsLeadingZero a scalar in
     let image : Bool → List ℕ = λ z. plainImage (f .section .checkint) a point (standing z scalar) comment in
     let small = key-small a in
-    by-bool (agree rule (p .zero))
+    rw plain
+    (by-bool (agree rule (p .zero))
     (λ w. rw w (ap (λ (z : Bool). sameBytes (image z) s) (agree-true rule (p .zero) w) ∙ ap (λ (t : List ℕ). sameBytes t s) (sym (p .text)) ∙ same-self s))
     (λ w.
     rw w
@@ -60,7 +61,7 @@ form-agrees s f p =
     let z = standing-same (f .section .checkint) a point scalar comment rule (p .zero)
     (omega (arith, p .key-fits .long)) (omega (arith, p .key-fits .private)) same in
     clash (let q : agree rule (p .zero) ≡ true = rw z (agree-self (p .zero)) in cc))
-    (λ v. v)))
+    (λ v. v))))
 
 -- the same, by the byte before the scalar
 scalar-agrees :
@@ -85,10 +86,18 @@ scalar-agrees s f p plain = rw (plain, p .after) (go (f .header .algorithm) (p .
     go Ed25519 may = no-zero (p .zero) may
     go (Ecdsa k) may = as-cond (leb 0x80 (getD scalar 0 0)) (p .zero)
 
+-- every accepted encrypted image is in the form
+pub form-encrypted : (s : List ℕ) (f : Fields) → EncryptedText s f → f .section .kind ≡ Encrypted → formOf s f ≡ true
+unfolding formOf rewritten
+form-encrypted s f p encrypted = rw encrypted (ap (λ (t : List ℕ). sameBytes t s) (sym (p .text)) ∙ same-self s)
+
+scalar-encrypted : (s : List ℕ) (f : Fields) → f .section .kind ≡ Encrypted → scalarInForm s f ≡ true
+unfolding scalarInForm
+scalar-encrypted s f encrypted = rw encrypted
+
 pub form-scalar : (s : List ℕ) → AllBytes s → (f : Fields) → readAt s ≡ read.Record f → formOf s f ≡ scalarInForm s f
-unfolding formOf scalarInForm writtenAgain
 form-scalar s all f e = go (image-text s all f e)
   where
     go : ImageText s all f e → formOf s f ≡ scalarInForm s f
-    go (plain-text plain p) = rw plain (form-agrees s f p) ∙ sym (scalar-agrees s f p plain)
-    go (encrypted-text encrypted p) = rw encrypted
+    go (plain-text plain p) = form-agrees s f p plain ∙ sym (scalar-agrees s f p plain)
+    go (encrypted-text encrypted p) = form-encrypted s f p encrypted ∙ sym (scalar-encrypted s f encrypted)

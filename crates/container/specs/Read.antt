@@ -1,12 +1,15 @@
 -- Inversion: an accepted image is the join of its fields, its scalar in the form that it had, for plain and for encrypted images.
-use Prim.Native.Nat.{ℕ, _≤_, _<_, _^_}
-use mathlib.Core.Path.{_≡_, refl, sym, _∙_, ap, ap₂}
+use Prim.Native.Nat.{ℕ, _+_, _-_, _≤_, _<_, _^_}
+use native.Mathlib.Omega.{arith}
+use mathlib.Core.Path.{_≡_, refl, sym, _∙_, ap}
 use mathlib.Core.Bool.{Bool, true, false}
 use mathlib.Core.List.{List, [], _++_, append-nil}
-use lib.ListN.{length}
+use lib.ListN.{length, length-append}
+use lib.Seq.{slice, length-slice}
 use Rattle.fields.specs.Bytes.{string, AllBytes}
 use Rattle.fields.specs.Fields.{fault, viewOf}
 use Rattle.fields.specs.Place.{clash, by-bool}
+use Rattle.fields.specs.Rest.{rest}
 use Rattle.fields.specs.declared.Cursor.{Cursor}
 use Rattle.fields.specs.declared.Fault.{Fault}
 use Rattle.fields.specs.declared.Refusal.the-variants.{Crypto}
@@ -28,7 +31,7 @@ use Rattle.section.specs.declared.Section.{Section}
 use Rattle.section.specs.declared.SectionRead.the-variants as section-read
 use Rattle.section.specs.Section.{plainAt, encryptedAt}
 use Rattle.section.specs.Back.{KeyFits}
-use Rattle.section.specs.Read.{by-section, PlainRead, plain-read, EncryptedRead, encrypted-read}
+use Rattle.section.specs.Read.{by-section, beforeComment, PlainRead, plain-read, EncryptedRead, encrypted-read}
 use Rattle.container.specs.declared.Fields.{Fields}
 use Rattle.container.specs.declared.ImageRead.the-variants as read
 use Rattle.container.specs.Container.{kdfNamePlace, sectionAt, readAt}
@@ -90,13 +93,17 @@ pub record PlainText (s : List ℕ) (f : Fields) : Type 0 where
   pub no-cipher : cipher.None ≡ f .header .cipher
   pub no-kdf : kdf.None ≡ f .header .kdf
   pub content : viewOf s (f .header .blob) ≡ blob (f .header .algorithm) (viewOf s (f .header .point))
+  pub section-place : f .header .section ≡ length (header cipher.None kdf.None [] 0 (blob (f .header .algorithm) (viewOf s (f .header .point))))
+  pub comment-place :
+      f .section .comment .start
+      ≡ f .header .section + 4 + beforeComment (f .header .algorithm) (viewOf s (f .header .point)) (standing zero (viewOf s (f .section .scalar))) + 4
 
 -- an accepted encrypted image
 pub record EncryptedText (s : List ℕ) (f : Fields) : Type 0 where
   pub fits : length s ≤ 65535
   pub text :
-      s ≡ encryptedImage (f .header .cipher) (f .header .kdf) (viewOf s (f .header .salt)) (f .header .rounds) (f .header .algorithm)
-      (viewOf s (f .header .point)) (viewOf s (f .section .ciphertext)) (viewOf s (f .section .tag))
+      s ≡ encryptedImage (f .header .cipher) (f .header .kdf) (viewOf s (f .header .salt)) (f .header .rounds) (viewOf s (f .header .blob))
+      (viewOf s (f .section .ciphertext)) (viewOf s (f .section .tag))
   pub seal-fits :
       SealFits (f .header .cipher) (f .header .kdf) (viewOf s (f .header .salt)) (f .header .rounds) (f .header .algorithm) (viewOf s (f .header .point))
       (viewOf s (f .section .ciphertext)) (viewOf s (f .section .tag))
@@ -104,10 +111,18 @@ pub record EncryptedText (s : List ℕ) (f : Fields) : Type 0 where
 
 -- a header with neither cipher nor KDF has no options
 header-plain :
-    (c : Cipher) (k : Kdf) (salt : List ℕ) (rounds : ℕ) (a : Algorithm) (point : List ℕ) → cipher.None ≡ c → kdf.None ≡ k
-    → header c k salt rounds a point ≡ header cipher.None kdf.None [] 0 a point
+    (c : Cipher) (k : Kdf) (salt : List ℕ) (rounds : ℕ) (key : List ℕ) → cipher.None ≡ c → kdf.None ≡ k
+    → header c k salt rounds key ≡ header cipher.None kdf.None [] 0 key
 unfolding header
-header-plain c k salt rounds a point nc nk = rw (← nc, ← nk)
+header-plain c k salt rounds key nc nk = rw (← nc, ← nk)
+
+-- a section begins where the header ends
+section-starts :
+    (s : List ℕ) (at : ℕ) (front : List ℕ) → at ≤ length s → s ≡ front ++ rest s (record { at = at; end = length s }) → at ≡ length front
+section-starts s at front h e =
+    let long : length s ≡ length front + (length s - at) =
+    ap length e ∙ length-append front (slice at (length s) s) ∙ ap (λ (n : ℕ). length front + n) (length-slice at (length s) s (omega arith)) in
+    omega arith
 
 module _ (s : List ℕ) (all : AllBytes s) (f : Fields) (e : readAt s ≡ read.Record f) where
   head : HeaderText s all (f .header)
@@ -122,13 +137,16 @@ module _ (s : List ℕ) (all : AllBytes s) (f : Fields) (e : readAt s ≡ read.R
       let a = f .header .algorithm in
       let point = viewOf s (f .header .point) in
       let body = section (f .section .checkint) a point (standing (x .zero) (viewOf s (f .section .scalar))) (viewOf s (f .section .comment)) in
+      let front : s ≡ header cipher.None kdf.None [] 0 (blob a point) ++ rest s (record { at = f .header .section; end = length s }) =
+      h .text
+      ∙ ap (λ (o : List ℕ). o ++ rest s (record { at = f .header .section; end = length s }))
+      (header-plain (f .header .cipher) (f .header .kdf) (viewOf s (f .header .salt)) (f .header .rounds) (blob a point) nc nk) in
       record {
         zero = x .zero;
         fits = h .fits;
-        text =
-            h .text
-            ∙ ap₂ (λ (o t : List ℕ). o ++ t) (header-plain (f .header .cipher) (f .header .kdf) (viewOf s (f .header .salt)) (f .header .rounds) a point nc nk)
-            (x .text ∙ sym (append-nil (string body)));
+        text = front ∙ ap (λ (t : List ℕ). header cipher.None kdf.None [] 0 (blob a point) ++ t) (x .text ∙ sym (append-nil (string body)));
+        section-place = section-starts s (f .header .section) (header cipher.None kdf.None [] 0 (blob a point)) (h .good) front;
+        comment-place = x .place;
         key-fits = x .fits;
         checkint-fits = x .checkint;
         after = x .after;
@@ -143,12 +161,12 @@ module _ (s : List ℕ) (all : AllBytes s) (f : Fields) (e : readAt s ≡ read.R
   unfolding encryptedImage
   encrypted-joined w x =
       let h = head in
-      let front = header (f .header .cipher) (f .header .kdf) (viewOf s (f .header .salt)) (f .header .rounds) (f .header .algorithm) (viewOf s (f .header .point)) in
+      let front = header (f .header .cipher) (f .header .kdf) (viewOf s (f .header .salt)) (f .header .rounds) (viewOf s (f .header .blob)) in
       let ciphertext = viewOf s (f .section .ciphertext) in
       let tag = viewOf s (f .section .tag) in
       record {
         fits = h .fits;
-        text = h .text ∙ ap (λ (t : List ℕ). front ++ t) (x .text ∙ ap (λ (t : List ℕ). string ciphertext ++ t) (sym (append-nil tag)));
+        text = rw (← h .content) at (h .text) ∙ ap (λ (t : List ℕ). front ++ t) (x .text ∙ ap (λ (t : List ℕ). string ciphertext ++ t) (sym (append-nil tag)));
         seal-fits =
             record {
               encrypts = w;

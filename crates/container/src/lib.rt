@@ -2,8 +2,6 @@
 // data, places in the image among them; the views look the places up.
 ghost use mathlib.Core.Path.{_≡_};
 ghost use Rattle.fields.specs.Fields.{isView};
-ghost use lib.Dec.{leb};
-ghost use lib.ListN.{getD};
 ghost use Rattle.container.specs.Container.{sectionAt, readAt};
 ghost use Rattle.container.specs.Form.{scalarInForm, formReadAt};
 ghost use Rattle.keys.specs.Keys.{afterZero};
@@ -124,31 +122,14 @@ pub fn tag(image: &[u8], f: Fields) -> &[u8]
     fields::view(image, section.tag)
 }
 
-// The byte at an index, or 0 past the end.
-fn byte(image: &[u8], i: usize) -> u8
-    ensures { λ r. ⌜ r ≡ getD (now (image .entry)) i 0 ⌝ }
-{
-    if i < image.len() {
-        return image[i];
-    }
-    0
-}
-
 fn after_zero(image: &[u8], part: Part) -> bool
     ensures { λ r. ⌜ r ≡ afterZero (now (image .entry)) part ⌝ }
 {
     let start = part.start;
     if start == 0 {
-        return byte(image, 0) == 0;
+        return keys::byte(image, 0) == 0;
     }
-    byte(image, start - 1) == 0
-}
-
-// The Rust's `needs_leading_zero`, of a scalar of any size.
-fn needs_leading_zero(scalar: &[u8]) -> bool
-    ensures { λ r. ⌜ r ≡ leb 0x80 (getD (now (scalar .entry)) 0 0) ⌝ }
-{
-    0x80 <= byte(scalar, 0)
+    keys::byte(image, start - 1) == 0
 }
 
 // Does the scalar of an accepted image stand as the writer would write it?
@@ -165,7 +146,7 @@ fn scalar_in_form(image: &[u8], f: Fields) -> bool
         Kind::Plain => match algorithm {
             Algorithm::Ed25519 => true,
             Algorithm::Ecdsa(_) => {
-                if needs_leading_zero(fields::view(image, scalar)) {
+                if keys::needs_leading_zero(fields::view(image, scalar)) {
                     return after_zero(image, scalar);
                 }
                 if after_zero(image, scalar) {

@@ -91,18 +91,23 @@ unfoldable pub section : ℕ → Algorithm → List ℕ → List ℕ → List �
 section checkint a point stored comment =
     content checkint a point stored comment ++ take (short (length (content checkint a point stored comment))) paddingBytes
 
--- the header, up to and with the public blob; one key
-unfoldable pub header : Cipher → Kdf → List ℕ → ℕ → Algorithm → List ℕ → List ℕ
-header cipher kdf salt rounds a point =
+-- the header, up to and with the public blob, `key`; one key
+unfoldable pub header : Cipher → Kdf → List ℕ → ℕ → List ℕ → List ℕ
+header cipher kdf salt rounds key =
     join
-    (magic ∷ string (cipherName cipher) ∷ string (kdfName kdf) ∷ string (options kdf salt rounds) ∷ uint32 1 ∷ string (blob a point) ∷ [])
+    (magic ∷ string (cipherName cipher) ∷ string (kdfName kdf) ∷ string (options kdf salt rounds) ∷ uint32 1 ∷ string key ∷ [])
 
 -- an image with a plain section
 unfoldable pub plainImage : ℕ → Algorithm → List ℕ → List ℕ → List ℕ → List ℕ
 plainImage checkint a point stored comment =
-    join (header cipher.None kdf.None [] 0 a point ∷ string (section checkint a point stored comment) ∷ [])
+    join (header cipher.None kdf.None [] 0 (blob a point) ∷ string (section checkint a point stored comment) ∷ [])
+
+-- the image that the writer makes: the scalar stands by its rule
+unfoldable pub writtenImage : ℕ → Algorithm → List ℕ → List ℕ → List ℕ → List ℕ
+writtenImage checkint a point scalar comment =
+    plainImage checkint a point (standing (needsLeadingZero a scalar) scalar) comment
 
 -- an encrypted image: the tag stands outside the ciphertext's string
-unfoldable pub encryptedImage : Cipher → Kdf → List ℕ → ℕ → Algorithm → List ℕ → List ℕ → List ℕ → List ℕ
-encryptedImage cipher kdf salt rounds a point ciphertext tag =
-    join (header cipher kdf salt rounds a point ∷ string ciphertext ∷ tag ∷ [])
+unfoldable pub encryptedImage : Cipher → Kdf → List ℕ → ℕ → List ℕ → List ℕ → List ℕ → List ℕ
+encryptedImage cipher kdf salt rounds key ciphertext tag =
+    join (header cipher kdf salt rounds key ∷ string ciphertext ∷ tag ∷ [])

@@ -26,11 +26,11 @@ blob-then a point t = simp append-assoc
 
 -- a header and what comes after it, field by field
 pub header-then :
-    (cipher : Cipher) (kdf : Kdf) (salt : List ℕ) (rounds : ℕ) (a : Algorithm) (point t : List ℕ)
-    → header cipher kdf salt rounds a point ++ t
-    ≡ magic ++ (string (cipherName cipher) ++ (string (kdfName kdf) ++ (string (options kdf salt rounds) ++ (uint32 1 ++ (string (blob a point) ++ t)))))
+    (cipher : Cipher) (kdf : Kdf) (salt : List ℕ) (rounds : ℕ) (key t : List ℕ)
+    → header cipher kdf salt rounds key ++ t
+    ≡ magic ++ (string (cipherName cipher) ++ (string (kdfName kdf) ++ (string (options kdf salt rounds) ++ (uint32 1 ++ (string key ++ t)))))
 unfolding header
-header-then cipher kdf salt rounds a point t = simp append-assoc
+header-then cipher kdf salt rounds key t = simp append-assoc
 
 -- a section's content and what comes after it, field by field
 pub content-then :
@@ -113,7 +113,7 @@ pub standing-same :
     → plainImage n a point (standing z x) comment ≡ plainImage n a point (standing w x) comment → z ≡ w
 unfolding plainImage
 standing-same n a point x comment z w hp hx e =
-    let head = header cipher.None kdf.None [] 0 a point in
+    let head = header cipher.None kdf.None [] 0 (blob a point) in
     let body : Bool → List ℕ = λ v. section n a point (standing v x) comment in
     let e₁ = append-cancel head (string (body z) ++ []) (string (body w) ++ []) e in
     section-same n a point x comment z w hp hx (string-body (body z) (body w) e₁)

@@ -1,2 +1,3 @@
 pub mod Format
 pub mod Laws
+pub mod Lengths

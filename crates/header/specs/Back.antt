@@ -193,14 +193,14 @@ pub record HeaderBack (s : List ℕ) (cipher : Cipher) (k : Kdf) (salt : List �
 
 pub header-back :
     (s : List ℕ) (cipher : Cipher) (k : Kdf) (salt : List ℕ) (rounds : ℕ) (a : Algorithm) (x t : List ℕ) → length s ≤ 65535
-    → OptionsFit k salt rounds → length x ≡ publicLength a → pointTag a x ≡ true → s ≡ header cipher k salt rounds a x ++ t
+    → OptionsFit k salt rounds → length x ≡ publicLength a → pointTag a x ≡ true → s ≡ header cipher k salt rounds (blob a x) ++ t
     → HeaderBack s cipher k salt rounds a x t
 unfolding headerAt
 header-back s cipher k salt rounds a x t small fit l four e =
     let after-count = string (blob a x) ++ t in
     let after-kdf = uint32 1 ++ after-count in
     let after-cipher = string (kdfName k) ++ (string (options k salt rounds) ++ after-kdf) in
-    let c = cipher-back s cipher after-cipher small (e ∙ header-then cipher k salt rounds a x t) in
+    let c = cipher-back s cipher after-cipher small (e ∙ header-then cipher k salt rounds (blob a x) t) in
     let o = kdf-options-back s (c .next) (c .good) small k salt rounds after-kdf fit (c .more) in
     let n = count-back s (o .next) (o .good) after-count (o .more) in
     let b = blob-field-back s (n .next) (n .good) (count-place s (o .next) 1 (n .next) (n .read) .1 ∙ kdf-place s (c .next) k (o .place) rounds (o .next) (o .read) .end ∙ cipher-place s cipher (c .next) (c .read) .end) small a x t l four (n .more) in

@@ -117,7 +117,7 @@ module _ (s : List ℕ) (all : AllBytes s) where
   pub record HeaderText (h : Header) : Type 0 where
     pub fits : length s ≤ 65535
     pub text :
-        s ≡ header (h .cipher) (h .kdf) (viewOf s (h .salt)) (h .rounds) (h .algorithm) (viewOf s (h .point)) ++ rest s (record { at = h .section; end = length s })
+        s ≡ header (h .cipher) (h .kdf) (viewOf s (h .salt)) (h .rounds) (blob (h .algorithm) (viewOf s (h .point))) ++ rest s (record { at = h .section; end = length s })
     pub options-fit : OptionsFit (h .kdf) (viewOf s (h .salt)) (h .rounds)
     pub content : viewOf s (h .blob) ≡ blob (h .algorithm) (viewOf s (h .point))
     pub long : length (viewOf s (h .point)) ≡ publicLength (h .algorithm)
@@ -147,7 +147,7 @@ module _ (s : List ℕ) (all : AllBytes s) where
             (t₂ .0
             ∙ ap (λ (x : List ℕ). string (kdfName k) ++ (string (options k (viewOf s salt) rounds) ++ x))
             (t₃ ∙ ap (λ (x : List ℕ). uint32 1 ++ x) (t₄ .text ∙ ap (λ (x : List ℕ). string (blob a (viewOf s point)) ++ x) tail)))
-            ∙ sym (header-then cipher k (viewOf s salt) rounds a (viewOf s point) (rest s (record { at = g .at; end = length s })));
+            ∙ sym (header-then cipher k (viewOf s salt) rounds (blob a (viewOf s point)) (rest s (record { at = g .at; end = length s })));
         options-fit = t₂ .1;
         content = t₄ .content;
         long = t₄ .long;

@@ -18,6 +18,20 @@ use Rattle.keys.proofs.read_ecdsa_pair.Reads as read-ecdsa-pair
 use Rattle.keys.proofs.read_ecdsa_pair.Kinds as read-ecdsa-pair-kinds
 use Rattle.keys.proofs.read_keypair.Reads as read-keypair
 use Rattle.keys.proofs.read_keypair.Kinds as read-keypair-kinds
+use Rattle.keys.proofs.byte.Reads as byte
+use Rattle.keys.proofs.byte.Kinds as byte-kinds
+use Rattle.keys.proofs.needs_leading_zero.Reads as needs-leading-zero
+use Rattle.keys.proofs.needs_leading_zero.Kinds as needs-leading-zero-kinds
+use Rattle.keys.proofs.public_length.Reads as public-length
+use Rattle.keys.proofs.public_length.Kinds as public-length-kinds
+use Rattle.keys.proofs.private_length.Reads as private-length
+use Rattle.keys.proofs.private_length.Kinds as private-length-kinds
+use Rattle.keys.proofs.derived_checkint.Reads as derived-checkint
+use Rattle.keys.proofs.derived_checkint.Kinds as derived-checkint-kinds
+use Rattle.keys.proofs.Material.new.Reads as new
+use Rattle.keys.proofs.Material.new.Kinds as new-kinds
+use Rattle.keys.proofs.Material.checkint.Reads as checkint
+use Rattle.keys.proofs.Material.checkint.Kinds as checkint-kinds
 
 pub read-point-determined : Determined 1 read-point-kinds.ps read-point-kinds.r read-point.Post
 read-point-determined κs a r₁ r₂ s₁ s₂ p q = cc
@@ -45,3 +59,24 @@ read-ecdsa-pair-determined κs a r₁ r₂ s₁ s₂ p q = cc
 
 pub read-keypair-determined : Determined 1 read-keypair-kinds.ps read-keypair-kinds.r read-keypair.Post
 read-keypair-determined κs a r₁ r₂ s₁ s₂ p q = cc
+
+pub byte-determined : Determined 1 byte-kinds.ps byte-kinds.r byte.Post
+byte-determined κs a r₁ r₂ s₁ s₂ p q = cc
+
+pub needs-leading-zero-determined : Determined 1 needs-leading-zero-kinds.ps needs-leading-zero-kinds.r needs-leading-zero.Post
+needs-leading-zero-determined κs a r₁ r₂ s₁ s₂ p q = cc
+
+pub public-length-determined : Determined 0 public-length-kinds.ps public-length-kinds.r public-length.Post
+public-length-determined κs a r₁ r₂ s₁ s₂ p q = cc
+
+pub private-length-determined : Determined 0 private-length-kinds.ps private-length-kinds.r private-length.Post
+private-length-determined κs a r₁ r₂ s₁ s₂ p q = cc
+
+pub derived-checkint-determined : Determined 1 derived-checkint-kinds.ps derived-checkint-kinds.r derived-checkint.Post
+derived-checkint-determined κs a r₁ r₂ s₁ s₂ p q = cc
+
+pub new-determined : Determined 2 new-kinds.ps new-kinds.r new.Post
+new-determined κs a r₁ r₂ s₁ s₂ p q = cc
+
+pub checkint-determined : Determined 0 checkint-kinds.ps checkint-kinds.r checkint.Post
+checkint-determined κs a r₁ r₂ s₁ s₂ p q = cc

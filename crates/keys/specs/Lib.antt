@@ -1,3 +1,5 @@
 pub mod Keys
 pub mod Back
 pub mod Read
+pub mod Material
+pub mod MaterialLaws

@@ -79,7 +79,7 @@ module _ (s : List ℕ) (all : AllBytes s) where
   ecdsa-public-read :
       (c : Cursor) (k : Curve) (p : Part) (d : Cursor) → ecdsaPublicAt s c ≡ ecdsa.Point k p d
       → (rest s c ≡ string (curveName k) ++ (string (viewOf s p) ++ rest s d)) × (length (viewOf s p) ≡ 1 + 2 * sizeOf k)
-      × (pointTag (Ecdsa k) (viewOf s p) ≡ true)
+      × (pointTag (Ecdsa k) (viewOf s p) ≡ true) × (d .end ≡ c .end)
   unfolding ecdsaPublicAt
   ecdsa-public-read c k p d e =
       by-field (stringAt s c)
@@ -99,7 +99,12 @@ module _ (s : List ℕ) (all : AllBytes s) where
       let m : x ≡ d = cc in
       let t = point-read b k p d (rw (a, o, m) at u) in
       let name : viewOf s n ≡ curveName k = curve-read (viewOf s n) k (rw a at v) in
-      (rw name at (string-read s all c n b w .text) ∙ ap (λ (y : List ℕ). string (curveName k) ++ y) (t .0 .text), t .1, t .2))))
+      let r = string-read s all c n b w in (
+        rw name at (r .text) ∙ ap (λ (y : List ℕ). string (curveName k) ++ y) (t .0 .text),
+        t .1,
+        t .2,
+        t .0 .place .placed .end ∙ r .place .placed .end,
+      ))))
 
   -- a scalar, in the form that it has
   pub record ScalarRead (c : Cursor) (size : ℕ) (p : Part) (d : Cursor) : Type 0 where
@@ -107,6 +112,7 @@ module _ (s : List ℕ) (all : AllBytes s) where
     pub text : rest s c ≡ string (standing zero (viewOf s p)) ++ rest s d
     pub long : length (viewOf s p) ≡ size
     pub after : afterZero s p ≡ zero
+    pub end : d .end ≡ c .end
 
   scalar-read :
       (c : Cursor) (size : ℕ) → 0 < size → size < 256 → (p : Part) (d : Cursor) → scalarAt s c size ≡ field.Part p d → ScalarRead c size p d
@@ -137,6 +143,7 @@ module _ (s : List ℕ) (all : AllBytes s) where
         text = rw (cut, m) at (r .text);
         long = ap (λ (y : Part). length (viewOf s y)) (sym o) ∙ view-length s (part (q .start + 1) size) (omega arith);
         after = rw (← o) (eq-eqb _ _ (ap (λ (n : ℕ). getD s n 0) before ∙ z));
+        end = rw m at (r .place .placed .end);
       })
       (λ u. let i = rw u at h in clash cc))
       (λ v.
@@ -149,6 +156,7 @@ module _ (s : List ℕ) (all : AllBytes s) where
         text = r .text;
         long = r .size ∙ f .1;
         after = ne-eqb (getD s (p .start - 1) 0) 0 (λ z. omega (arith, f .1));
+        end = r .place .placed .end;
       }))
 
   -- the fields after the name: Ed25519's public string, or curve and point
@@ -254,6 +262,7 @@ module _ (s : List ℕ) (all : AllBytes s) where
     pub private : length (viewOf s x) ≡ privateLength a
     pub may : mayStand a zero ≡ true
     pub after : afterZero s x ≡ zero
+    pub end : d .end ≡ c .end
 
   -- the public string, then the string of seed and public string
   record Ed25519Read (c : Cursor) (a : Algorithm) (p x : Part) (d : Cursor) : Type 0 where
@@ -262,6 +271,7 @@ module _ (s : List ℕ) (all : AllBytes s) where
     pub long : length (viewOf s p) ≡ 32
     pub private : length (viewOf s x) ≡ 32
     pub after : afterZero s x ≡ false
+    pub end : d .end ≡ c .end
 
   ed25519-pair-read :
       (c : Cursor) (a : Algorithm) (p x : Part) (d : Cursor) → ed25519PairAt s c ≡ keypair.Pair a p x d → Ed25519Read c a p x d
@@ -298,6 +308,7 @@ module _ (s : List ℕ) (all : AllBytes s) where
         long = r₁ .size ∙ f₁ .1;
         private = view-length s (part (y .start) 32) (omega arith);
         after = ne-eqb (getD s (y .start - 1) 0) 0 (λ z. omega (arith, f₂ .1));
+        end = r₂ .place .placed .end ∙ r₁ .place .placed .end;
       }))
       (λ u. let i = rw u at h in clash cc)))
 
@@ -310,6 +321,7 @@ module _ (s : List ℕ) (all : AllBytes s) where
     pub tag : pointTag (Ecdsa named) (viewOf s p) ≡ true
     pub private : length (viewOf s x) ≡ sizeOf named
     pub after : afterZero s x ≡ zero
+    pub end : d .end ≡ c .end
 
   ecdsa-pair-read :
       (c : Cursor) (named : Curve) (a : Algorithm) (p x : Part) (d : Cursor) → ecdsaPairAt s c named ≡ keypair.Pair a p x d
@@ -343,6 +355,7 @@ module _ (s : List ℕ) (all : AllBytes s) where
         tag = r₁ .2;
         private = r₂ .long;
         after = r₂ .after;
+        end = r₂ .end ∙ r₁ .3;
       })
       (λ u. let i = rw u at h in clash cc)))
 
@@ -373,6 +386,7 @@ module _ (s : List ℕ) (all : AllBytes s) where
             private = r .private;
             may = refl;
             after = r .after;
+            end = r .end ∙ string-read s all c n b w .place .placed .end;
           })
       go n b w (Ecdsa named) v h =
           let r = ecdsa-pair-read b named a p x d h in
@@ -387,4 +401,5 @@ module _ (s : List ℕ) (all : AllBytes s) where
             private = r .private;
             may = refl;
             after = r .after;
+            end = r .end ∙ string-read s all c n b w .place .placed .end;
           })

@@ -1,6 +1,6 @@
 -- Document 01, 'Bytes of the container', steps 2 and 3 and the last paragraph: the ciphers' names, block sizes and tag lengths,
 -- and the KDFs' names.
-use Prim.Native.Nat.{ℕ, _<_, _^_}
+use Prim.Native.Nat.{ℕ, _≤_, _<_, _^_}
 use native.Mathlib.Omega.{arith}
 use mathlib.Core.Path.{_≡_, refl}
 use mathlib.Core.Bool.{Bool, true, false}
@@ -97,20 +97,22 @@ kdfNamed = lookUp kdfName kdf-name.Known kdf-name.Unknown (kdf.None ∷ kdf.Bcry
 pub record Row (c : Cipher) : Type 0 where
   pub back : cipherNamed (cipherName c) ≡ Known c
   pub fits : length (cipherName c) < 2 ^ 32
+  pub short : length (cipherName c) ≤ 22
   pub block : 0 < blockSize c
+  pub tag : tagLength c ≤ 16
 
 pub row : (c : Cipher) → Row c
 unfolding cipherNamed
-row None = record { back = refl; fits = omega arith; block = omega arith }
-row TripleDesCbc = record { back = refl; fits = omega arith; block = omega arith }
-row Aes128Cbc = record { back = refl; fits = omega arith; block = omega arith }
-row Aes192Cbc = record { back = refl; fits = omega arith; block = omega arith }
-row Aes256Cbc = record { back = refl; fits = omega arith; block = omega arith }
-row Aes128Ctr = record { back = refl; fits = omega arith; block = omega arith }
-row Aes192Ctr = record { back = refl; fits = omega arith; block = omega arith }
-row Aes256Ctr = record { back = refl; fits = omega arith; block = omega arith }
-row Aes128Gcm = record { back = refl; fits = omega arith; block = omega arith }
-row Aes256Gcm = record { back = refl; fits = omega arith; block = omega arith }
+row None = record { back = refl; fits = omega arith; short = omega arith; block = omega arith; tag = omega arith }
+row TripleDesCbc = record { back = refl; fits = omega arith; short = omega arith; block = omega arith; tag = omega arith }
+row Aes128Cbc = record { back = refl; fits = omega arith; short = omega arith; block = omega arith; tag = omega arith }
+row Aes192Cbc = record { back = refl; fits = omega arith; short = omega arith; block = omega arith; tag = omega arith }
+row Aes256Cbc = record { back = refl; fits = omega arith; short = omega arith; block = omega arith; tag = omega arith }
+row Aes128Ctr = record { back = refl; fits = omega arith; short = omega arith; block = omega arith; tag = omega arith }
+row Aes192Ctr = record { back = refl; fits = omega arith; short = omega arith; block = omega arith; tag = omega arith }
+row Aes256Ctr = record { back = refl; fits = omega arith; short = omega arith; block = omega arith; tag = omega arith }
+row Aes128Gcm = record { back = refl; fits = omega arith; short = omega arith; block = omega arith; tag = omega arith }
+row Aes256Gcm = record { back = refl; fits = omega arith; short = omega arith; block = omega arith; tag = omega arith }
 
 pub cipher-read : (b : List ℕ) (c : Cipher) → cipherNamed b ≡ Known c → b ≡ cipherName c
 unfolding cipherNamed

@@ -98,15 +98,6 @@ report-public s t e = ap lines e
 
 -- ---- what the code's helpers go by
 
--- every name, each once; the code says where each stands
-abbrev pub nameTable : List ℕ
-nameTable =
-    join
-    (ascii "none bcrypt 3des-cbc aes128-cbc aes192-cbc aes256-cbc aes128-ctr aes192-ctr aes256-ctr "
-    ∷ ascii "aes128-gcm@openssh.com aes256-gcm@openssh.com ssh-ed25519 ecdsa-sha2-nistp256 ecdsa-sha2-nistp384 "
-    ∷ ascii "ecdsa-sha2-nistp521"
-    ∷ [])
-
 -- what putting a summary's lines at the start of a text answers, r, and leaves, out, where there is room. 256 bytes are enough.
 abbrev pub isText : List ℕ → Summary → ℕ → List ℕ → Type 0
 isText old x r out = (length (lines x) ≤ 256) × isRun old 0 (lines x) r out

@@ -9,14 +9,12 @@ use Rattle.fields.specs.Bytes.{join}
 use Rattle.names.specs.declared.Algorithm.{Algorithm}
 use Rattle.names.specs.declared.Algorithm.the-variants.{Ed25519, Ecdsa}
 use Rattle.names.specs.declared.Cipher.{Cipher}
-use Rattle.names.specs.declared.Cipher.the-variants as cipher
 use Rattle.names.specs.declared.Curve.the-variants.{Nistp256, Nistp384, Nistp521}
 use Rattle.names.specs.declared.Kdf.{Kdf}
-use Rattle.names.specs.declared.Kdf.the-variants as kdf
 use Rattle.names.specs.Algorithms.{algorithmName}
-use Rattle.names.specs.Ciphers.{cipherName, kdfName}
 use Rattle.buffer.specs.Decimal.{decimal-short}
 use Rattle.buffer.specs.Runs.{join-append}
+use Rattle.spelling.specs.Spelling.{kdf-length}
 use Rattle.report.specs.Report.{Summary, Plain, Encrypted, Refused, line, names, formName, lines}
 
 line-length : (label value : List ℕ) → length (line label value) ≡ length label + length value + 1
@@ -29,29 +27,13 @@ algorithm-short (Ecdsa Nistp256) = omega arith
 algorithm-short (Ecdsa Nistp384) = omega arith
 algorithm-short (Ecdsa Nistp521) = omega arith
 
-cipher-short : (c : Cipher) → length (cipherName c) ≤ 22
-cipher-short cipher.None = omega arith
-cipher-short cipher.TripleDesCbc = omega arith
-cipher-short cipher.Aes128Cbc = omega arith
-cipher-short cipher.Aes192Cbc = omega arith
-cipher-short cipher.Aes256Cbc = omega arith
-cipher-short cipher.Aes128Ctr = omega arith
-cipher-short cipher.Aes192Ctr = omega arith
-cipher-short cipher.Aes256Ctr = omega arith
-cipher-short cipher.Aes128Gcm = omega arith
-cipher-short cipher.Aes256Gcm = omega arith
-
-kdf-short : (k : Kdf) → length (kdfName k) ≤ 6
-kdf-short kdf.None = omega arith
-kdf-short kdf.Bcrypt = omega arith
-
 form-short : (b : Bool) → length (formName b) ≤ 3
 form-short true = omega arith
 form-short false = omega arith
 
 names-short : (a : Algorithm) (c : Cipher) (k : Kdf) → length (join (names a c k)) ≤ 71
 unfolding names
-names-short a c k = simp (length-append, line-length) (omega (arith, algorithm-short a, cipher-short c, kdf-short k))
+names-short a c k = simp (length-append, line-length) (omega (arith, algorithm-short a, row c .short, kdf-length k))
 
 -- each number of a summary fits 64 bits
 abbrev pub Fits : Summary → Type 0

@@ -4,14 +4,15 @@ ghost use mathlib.Core.Path.{_≡_};
 ghost use Prim.Native.Nat.{_≤_};
 ghost use lib.ListN.{length};
 ghost use Rattle.fields.specs.Bytes.{ascii, join};
-ghost use Rattle.fields.specs.Fields.{part, viewOf};
+ghost use Rattle.fields.specs.Fields.{viewOf};
 ghost use Rattle.fields.specs.Refusals.{numberOf, countOf};
 ghost use Rattle.names.specs.Algorithms.{algorithmName};
 ghost use Rattle.names.specs.Ciphers.{cipherName, kdfName};
 ghost use Rattle.buffer.specs.Decimal.{decimal};
 ghost use Rattle.buffer.specs.Puts.{placed, isPut};
 ghost use Rattle.buffer.specs.Runs.{isRun};
-ghost use Rattle.report.specs.Report.{Plain, Encrypted, Refused, accepted, summaryOf, line, names, formName, nameTable, isText, reportOf, reportedAt};
+ghost use Rattle.spelling.specs.Spelling.{nameTable};
+ghost use Rattle.report.specs.Report.{Plain, Encrypted, Refused, accepted, summaryOf, line, names, formName, isText, reportOf, reportedAt};
 use container::FormRead;
 use fields::Fault;
 use fields::Part;
@@ -19,7 +20,6 @@ use fields::Refusal;
 use header::Header;
 use names::Algorithm;
 use names::Cipher;
-use names::Curve;
 use names::Kdf;
 use section::Kind;
 use section::Section;
@@ -38,74 +38,21 @@ fn put_number(out: &mut [u8], at: usize, label: &[u8], n: usize) -> usize
     buffer::put(out, b, b"\n")
 }
 
-// Where a name stands in the table of `put_name`.
-fn named(start: usize, length: usize) -> Part
-    ensures { λ r. ⌜ r ≡ part start length ⌝ }
-{
-    Part {
-        start: start,
-        length: length,
-    }
-}
-
-fn algorithm_name(algorithm: Algorithm) -> Part
-    ensures { λ r. ⌜ viewOf nameTable r ≡ algorithmName algorithm ⌝ }
-{
-    match algorithm {
-        Algorithm::Ed25519 => named(133, 11),
-        Algorithm::Ecdsa(curve) => match curve {
-            Curve::Nistp256 => named(145, 19),
-            Curve::Nistp384 => named(165, 19),
-            Curve::Nistp521 => named(185, 19),
-        },
-    }
-}
-
-fn cipher_name(cipher: Cipher) -> Part
-    ensures { λ r. ⌜ viewOf nameTable r ≡ cipherName cipher ⌝ }
-{
-    match cipher {
-        Cipher::None => named(0, 4),
-        Cipher::TripleDesCbc => named(12, 8),
-        Cipher::Aes128Cbc => named(21, 10),
-        Cipher::Aes192Cbc => named(32, 10),
-        Cipher::Aes256Cbc => named(43, 10),
-        Cipher::Aes128Ctr => named(54, 10),
-        Cipher::Aes192Ctr => named(65, 10),
-        Cipher::Aes256Ctr => named(76, 10),
-        Cipher::Aes128Gcm => named(87, 22),
-        Cipher::Aes256Gcm => named(110, 22),
-    }
-}
-
-fn kdf_name(kdf: Kdf) -> Part
-    ensures { λ r. ⌜ viewOf nameTable r ≡ kdfName kdf ⌝ }
-{
-    match kdf {
-        Kdf::None => named(0, 4),
-        Kdf::Bcrypt => named(5, 6),
-    }
-}
-
 // A line whose value is a name.
 fn put_name(out: &mut [u8], at: usize, label: &[u8], name: Part) -> usize
     ensures { λ r. ⌜ isRun (now (out .entry)) at (line (now (label .entry)) (viewOf nameTable name)) r (now (out .exit)) ⌝ }
 {
-    let table =
-        b"none bcrypt 3des-cbc aes128-cbc aes192-cbc aes256-cbc aes128-ctr aes192-ctr aes256-ctr \
-        aes128-gcm@openssh.com aes256-gcm@openssh.com ssh-ed25519 ecdsa-sha2-nistp256 ecdsa-sha2-nistp384 \
-        ecdsa-sha2-nistp521";
     let a = buffer::put(out, at, label);
-    let b = buffer::put(out, a, fields::view(table, name));
+    let b = spelling::put_name(out, a, name);
     buffer::put(out, b, b"\n")
 }
 
 fn put_names(out: &mut [u8], at: usize, algorithm: Algorithm, cipher: Cipher, kdf: Kdf) -> usize
     ensures { λ r. ⌜ isRun (now (out .entry)) at (join (names algorithm cipher kdf)) r (now (out .exit)) ⌝ }
 {
-    let a = put_name(out, at, b"algorithm ", algorithm_name(algorithm));
-    let b = put_name(out, a, b"cipher ", cipher_name(cipher));
-    put_name(out, b, b"kdf ", kdf_name(kdf))
+    let a = put_name(out, at, b"algorithm ", spelling::algorithm_name(algorithm));
+    let b = put_name(out, a, b"cipher ", spelling::cipher_name(cipher));
+    put_name(out, b, b"kdf ", spelling::kdf_name(kdf))
 }
 
 fn put_form(out: &mut [u8], at: usize, form: bool) -> usize

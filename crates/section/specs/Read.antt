@@ -10,8 +10,8 @@ use lib.ListN.{length, take, length-append}
 use lib.Seq.{length-slice, length-take-le}
 use Rattle.fields.specs.Bytes.{uint32, string, AllBytes, sameBytes, same-true, both-true}
 use Rattle.fields.specs.Fields.{part, absent, within, uint32At, bytesAt, stringAt, endAt, viewOf}
-use Rattle.fields.specs.Place.{clash, by-field, by-uint32, by-ending, by-bool, bytes-place}
-use Rattle.fields.specs.Rest.{rest, Good, rest-within, view-length}
+use Rattle.fields.specs.Place.{clash, by-field, by-uint32, by-ending, by-bool, uint32-place, bytes-place}
+use Rattle.fields.specs.Rest.{rest, Good, rest-within, view-length, length-string}
 use Rattle.fields.specs.Read.{StringRead, uint32-read, bytes-read, string-read, end-read}
 use Rattle.fields.specs.declared.Cursor.{Cursor}
 use Rattle.fields.specs.declared.Fault.{Fault}
@@ -53,6 +53,10 @@ pub by-section : {P : Type 0} (w : SectionRead) → ((f : Fault) → w ≡ secti
 by-section (section-read.Refused f) refused read = refused f refl
 by-section (section-read.Section x) refused read = read x refl
 
+-- how many bytes stand before the comment's string in a section
+abbrev pub beforeComment : Algorithm → List ℕ → List ℕ → ℕ
+beforeComment a point stored = 8 + (length (blob a point) + length (privateField a point stored))
+
 -- a padding that was read
 padding-read : (s : List ℕ) (c : Cursor) → Good s c → paddingAt s c ≡ ending.Clean → (rest s c ≡ take (c .end - c .at) paddingBytes) × (c .end - c .at < 8)
 unfolding paddingAt
@@ -68,6 +72,7 @@ padding-read s c good e =
 module _ (s : List ℕ) (all : AllBytes s) where
   checkints-read :
       (c : Cursor) (n : ℕ) (d : Cursor) → checkintsAt s c ≡ answer.Value n d → (rest s c ≡ uint32 n ++ (uint32 n ++ rest s d)) × (n < 2 ^ 32)
+      × (d .at ≡ c .at + 8) × (d .end ≡ c .end)
   unfolding checkintsAt
   checkints-read c n d e =
       by-uint32 (uint32At s c)
@@ -84,9 +89,11 @@ module _ (s : List ℕ) (all : AllBytes s) where
       let same : m ≡ a = eqb-true m a u in
       let o : a ≡ n = cc in
       let j : x ≡ d = cc in
+      let p₁ = uint32-place s c a b w in
+      let p₂ = uint32-place s b m x v in
       let r₁ = uint32-read s all c n b (rw o at w) in
       let r₂ = uint32-read s all b n d (rw (same, o, j) at v) in
-      (r₁ .0 ∙ ap (λ (y : List ℕ). uint32 n ++ y) (r₂ .0), r₁ .1))
+      (r₁ .0 ∙ ap (λ (y : List ℕ). uint32 n ++ y) (r₂ .0), r₁ .1, omega (arith, p₁ .after, p₂ .after, ap (λ (y : Cursor). y .at) j), ap (λ (y : Cursor). y .end) (sym j) ∙ p₂ .end ∙ p₁ .end))
       (λ u. let i = rw u at h in clash cc)))
 
   -- an accepted key: its keypair, which has the blob's public key, and its comment
@@ -96,16 +103,31 @@ module _ (s : List ℕ) (all : AllBytes s) where
     pub fits : KeyFits a zero (viewOf s q) (viewOf s x) (viewOf s m)
     pub after : afterZero s x ≡ zero
     pub good : Good s d
+    pub place : m .start ≡ c .at + (length (blob a (viewOf s q)) + length (privateField a (viewOf s q) (standing zero (viewOf s x)))) + 4
+
+  -- where the comment of an accepted key begins
+  comment-starts :
+      (c b d : Cursor) (key private : List ℕ) (m : Part) → b .end ≡ c .end → StringRead s b m d
+      → rest s c ≡ key ++ (private ++ (string (viewOf s m) ++ rest s d)) → m .start ≡ c .at + (length key + length private) + 4
+  comment-starts c b d key private m end comment joined =
+      let inside : c .end ≤ length s = omega (arith, comment .place .placed) in
+      let left = length-slice (d .at) (d .end) s (comment .place .placed .image) in
+      let long : c .end - c .at ≡ length key + (length private + (4 + length (viewOf s m) + (d .end - d .at))) =
+      sym (length-slice (c .at) (c .end) s inside) ∙ ap length joined ∙ simp (length-append, length-string, left) in
+      omega (arith, long, comment .size, comment .place .placed)
 
   entry-joined :
       (c : Cursor) (a : Algorithm) (p q x m : Part) (b d : Cursor) → PairRead s all c a p x b → viewOf s p ≡ viewOf s q → StringRead s b m d
       → utf8 (viewOf s m) ≡ true → EntryRead c a q x m d
   entry-joined c a p q x m b d pair public comment text =
+      let key = blob a (viewOf s q) in
+      let private = privateField a (viewOf s q) (standing (pair .zero) (viewOf s x)) in
+      let joined : rest s c ≡ key ++ (private ++ (string (viewOf s m) ++ rest s d)) =
+      rw public at (pair .text) ∙ ap (λ (l : List ℕ). key ++ (private ++ l)) (comment .text) in
       record {
         zero = pair .zero;
-        text =
-            rw public at (pair .text)
-            ∙ ap (λ (l : List ℕ). blob a (viewOf s q) ++ (privateField a (viewOf s q) (standing (pair .zero) (viewOf s x)) ++ l)) (comment .text);
+        text = joined;
+        place = comment-starts c b d key private m (pair .end) comment joined;
         fits =
             record {
               long = rw public at (pair .long);
@@ -153,6 +175,7 @@ module _ (s : List ℕ) (all : AllBytes s) where
     pub fits : KeyFits a zero (viewOf s q) (viewOf s (x .scalar)) (viewOf s (x .comment))
     pub checkint : x .checkint < 2 ^ 32
     pub after : afterZero s (x .scalar) ≡ zero
+    pub place : x .comment .start ≡ c .at + 4 + beforeComment a (viewOf s q) (standing zero (viewOf s (x .scalar))) + 4
 
   -- how long the padding is follows from the multiple of 8
   padding-short : (n p : ℕ) → (n + p) % 8 ≡ 0 → p < 8 → p ≡ short n
@@ -188,6 +211,7 @@ module _ (s : List ℕ) (all : AllBytes s) where
     pub fits : KeyFits a zero (viewOf s q) (viewOf s (x .scalar)) (viewOf s (x .comment))
     pub checkint : x .checkint < 2 ^ 32
     pub after : afterZero s (x .scalar) ≡ zero
+    pub place : x .comment .start ≡ c .at + beforeComment a (viewOf s q) (standing zero (viewOf s (x .scalar))) + 4
 
   content-read : (c : Cursor) (a : Algorithm) (q : Part) (x : Section) → c .end ≤ length s → contentAt s c a q ≡ section-read.Section x → ContentRead c a q x
   unfolding contentAt
@@ -222,6 +246,7 @@ module _ (s : List ℕ) (all : AllBytes s) where
         fits = r .fits;
         checkint = checkints-read c n d v .1;
         after = r .after;
+        place = r .place ∙ omega (arith, checkints-read c n d v .2);
       })))))
       (λ w. let g = rw w at e in clash cc)
 
@@ -254,6 +279,7 @@ module _ (s : List ℕ) (all : AllBytes s) where
         fits = k .fits;
         checkint = k .checkint;
         after = k .after;
+        place = k .place ∙ omega (arith, r .place .placed .start);
       })))
 
   -- an accepted encrypted section

@@ -5,21 +5,22 @@ use Rattle.report.specs.Report.{line}
 use borrow.Author.Needs.{needs}
 use Rattle.report.proofs.put_name.Statement.{statement}
 use Rattle.report.proofs.put_name.Tie as tie
+use Rattle.report.proofs.put_name.Reads as reads
+use Rattle.report.proofs.put_name.Lts as lts
+use Rattle.buffer.proofs.put.Reads as put-reads
+use Rattle.spelling.proofs.put_name.Reads as put-name-reads
 
 put-requires : tie.Need-put-requires
 put-requires c κs = search needs
 
-view-requires : tie.Need-view-requires
-view-requires c κs = search needs
-
-put-requires-2 : tie.Need-put-requires-2
-put-requires-2 c κs = search needs
+put-name-requires : tie.Need-put-name-requires
+put-name-requires c κs = search needs
 
 slice-aggregate-put : tie.Need-slice-aggregate-put
 slice-aggregate-put c = search needs
 
-put-requires-3 : tie.Need-put-requires-3
-put-requires-3 c κs = search needs
+put-requires-2 : tie.Need-put-requires-2
+put-requires-2 c κs = search needs
 
 same-length : tie.Need-same-length
 same-length c = search needs
@@ -29,18 +30,16 @@ unfolding line
 returns c room =
     let third = c .before .before in
     let second = third .before .before .before .before .before in
-    let first = second .before .before .before .before .before .before in
-    let value = rw (second .before .view .ensures .0) at (second .put2 .ensures) in
-    finish (step (step (step (start room) (first .put .ensures)) value) (third .put3 .ensures))
+    let first = second .before .before .before .before in
+    finish (step (step (step (start room) (first .put .ensures)) (second .put-name .ensures)) (third .put2 .ensures))
 
 pub put-name-spec : {M : Type 1} → statement M
 put-name-spec =
     tie.close
     (tie.spec
     put-requires
-    view-requires
-    put-requires-2
+    put-name-requires
     slice-aggregate-put
-    put-requires-3
+    put-requires-2
     same-length
     returns)

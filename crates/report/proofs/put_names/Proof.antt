@@ -1,6 +1,7 @@
 -- `report::put_names` meets its contract: three lines, put one after the other, are one put of them all.
 -- Rests on the laws of runs.
 use Rattle.buffer.specs.Runs.{start, run, finish}
+use Rattle.spelling.specs.Spelling.{algorithm-spelled, cipher-spelled, kdf-spelled}
 use Rattle.report.specs.Report.{names}
 use borrow.Author.Needs.{needs}
 use Rattle.report.proofs.put_names.Statement.{statement}
@@ -42,8 +43,10 @@ returns c =
     let third = c .before .before in
     let second = third .before .before .before .before .before .before in
     let first = second .before .before .before .before .before .before in
-    rw (← first .before .algorithm-name .ensures, ← second .before .cipher-name .ensures, ← third .before .kdf-name .ensures)
-    (λ room. finish (run (run (run (start room) (first .put-name .ensures)) (second .put-name2 .ensures)) (third .put-name3 .ensures)))
+    let one = rw (first .before .algorithm-name .ensures) at (first .put-name .ensures) in
+    let two = rw (second .before .cipher-name .ensures) at (second .put-name2 .ensures) in
+    let three = rw (third .before .kdf-name .ensures) at (third .put-name3 .ensures) in
+    rw (← algorithm-spelled _, ← cipher-spelled _, ← kdf-spelled _) (λ room. finish (run (run (run (start room) one) two) three))
 
 pub put-names-spec : {M : Type 1} → statement M
 put-names-spec =

@@ -1,0 +1,111 @@
+-- Where each name stands in one table of them all, and that it is spelled there.
+use Prim.Native.Nat.{ℕ, _≤_}
+use native.Mathlib.Omega.{arith}
+use mathlib.Core.Path.{_≡_, refl}
+use mathlib.Core.Bool.{Bool, true, false}
+use mathlib.Core.List.{List, [], _∷_}
+use lib.ListN.{length}
+use Rattle.fields.specs.Bytes.{ascii, string, join}
+use Rattle.fields.specs.Fields.{part, viewOf}
+use Rattle.fields.specs.declared.Part.{Part}
+use Rattle.names.specs.declared.Algorithm.{Algorithm}
+use Rattle.names.specs.declared.Algorithm.the-variants.{Ed25519, Ecdsa}
+use Rattle.names.specs.declared.Cipher.{Cipher}
+use Rattle.names.specs.declared.Cipher.the-variants as cipher
+use Rattle.names.specs.declared.Curve.{Curve}
+use Rattle.names.specs.declared.Curve.the-variants.{Nistp256, Nistp384, Nistp521}
+use Rattle.names.specs.declared.Kdf.{Kdf}
+use Rattle.names.specs.declared.Kdf.the-variants as kdf
+use Rattle.names.specs.Algorithms.{algorithmName, curveName}
+use Rattle.names.specs.Ciphers.{cipherName, kdfName}
+
+abbrev pub nameTable : List ℕ
+nameTable =
+    join
+    (ascii "none bcrypt 3des-cbc aes128-cbc aes192-cbc aes256-cbc aes128-ctr aes192-ctr aes256-ctr "
+    ∷ ascii "aes128-gcm@openssh.com aes256-gcm@openssh.com ssh-ed25519 ecdsa-sha2-nistp256 ecdsa-sha2-nistp384 "
+    ∷ ascii "ecdsa-sha2-nistp521"
+    ∷ [])
+
+abbrev pub algorithmPlace : Algorithm → Part
+algorithmPlace Ed25519 = part 133 11
+algorithmPlace (Ecdsa Nistp256) = part 145 19
+algorithmPlace (Ecdsa Nistp384) = part 165 19
+algorithmPlace (Ecdsa Nistp521) = part 185 19
+
+-- a curve's name ends its algorithm's
+abbrev pub curvePlace : Curve → Part
+curvePlace Nistp256 = part 156 8
+curvePlace Nistp384 = part 176 8
+curvePlace Nistp521 = part 196 8
+
+abbrev pub cipherPlace : Cipher → Part
+cipherPlace cipher.None = part 0 4
+cipherPlace cipher.TripleDesCbc = part 12 8
+cipherPlace cipher.Aes128Cbc = part 21 10
+cipherPlace cipher.Aes192Cbc = part 32 10
+cipherPlace cipher.Aes256Cbc = part 43 10
+cipherPlace cipher.Aes128Ctr = part 54 10
+cipherPlace cipher.Aes192Ctr = part 65 10
+cipherPlace cipher.Aes256Ctr = part 76 10
+cipherPlace cipher.Aes128Gcm = part 87 22
+cipherPlace cipher.Aes256Gcm = part 110 22
+
+abbrev pub kdfPlace : Kdf → Part
+kdfPlace kdf.None = part 0 4
+kdfPlace kdf.Bcrypt = part 5 6
+
+-- a name as a string, or its bytes alone
+abbrev pub spelled : Bool → List ℕ → List ℕ
+spelled true name = string name
+spelled false name = name
+
+-- ---- each name is spelled where the table says
+
+pub algorithm-spelled : (a : Algorithm) → viewOf nameTable (algorithmPlace a) ≡ algorithmName a
+unfolding viewOf
+algorithm-spelled Ed25519 = refl
+algorithm-spelled (Ecdsa Nistp256) = refl
+algorithm-spelled (Ecdsa Nistp384) = refl
+algorithm-spelled (Ecdsa Nistp521) = refl
+
+pub curve-spelled : (k : Curve) → viewOf nameTable (curvePlace k) ≡ curveName k
+unfolding viewOf
+curve-spelled Nistp256 = refl
+curve-spelled Nistp384 = refl
+curve-spelled Nistp521 = refl
+
+pub cipher-spelled : (c : Cipher) → viewOf nameTable (cipherPlace c) ≡ cipherName c
+unfolding viewOf
+cipher-spelled cipher.None = refl
+cipher-spelled cipher.TripleDesCbc = refl
+cipher-spelled cipher.Aes128Cbc = refl
+cipher-spelled cipher.Aes192Cbc = refl
+cipher-spelled cipher.Aes256Cbc = refl
+cipher-spelled cipher.Aes128Ctr = refl
+cipher-spelled cipher.Aes192Ctr = refl
+cipher-spelled cipher.Aes256Ctr = refl
+cipher-spelled cipher.Aes128Gcm = refl
+cipher-spelled cipher.Aes256Gcm = refl
+
+-- how long the names are
+pub cipher-length : (c : Cipher) → cipherPlace c .length ≡ length (cipherName c)
+cipher-length cipher.None = refl
+cipher-length cipher.TripleDesCbc = refl
+cipher-length cipher.Aes128Cbc = refl
+cipher-length cipher.Aes192Cbc = refl
+cipher-length cipher.Aes256Cbc = refl
+cipher-length cipher.Aes128Ctr = refl
+cipher-length cipher.Aes192Ctr = refl
+cipher-length cipher.Aes256Ctr = refl
+cipher-length cipher.Aes128Gcm = refl
+cipher-length cipher.Aes256Gcm = refl
+
+pub kdf-length : (k : Kdf) → (kdfPlace k .length ≡ length (kdfName k)) × (length (kdfName k) ≤ 6)
+kdf-length kdf.None = (refl, omega arith)
+kdf-length kdf.Bcrypt = (refl, omega arith)
+
+pub kdf-spelled : (k : Kdf) → viewOf nameTable (kdfPlace k) ≡ kdfName k
+unfolding viewOf
+kdf-spelled kdf.None = refl
+kdf-spelled kdf.Bcrypt = refl
