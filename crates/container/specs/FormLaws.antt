@@ -9,6 +9,7 @@ use lib.Dec.{leb}
 use lib.ListN.{getD}
 use Rattle.fields.specs.Bytes.{AllBytes, sameBytes, same-true, same-self}
 use Rattle.fields.specs.Fields.{viewOf}
+use Rattle.fields.specs.declared.Fault.{Fault}
 use Rattle.fields.specs.Place.{clash, by-bool}
 use Rattle.names.specs.declared.Algorithm.{Algorithm}
 use Rattle.names.specs.declared.Algorithm.the-variants.{Ed25519, Ecdsa}
@@ -17,9 +18,11 @@ use Rattle.format.specs.Laws.{key-small, standing-same}
 use Rattle.keys.specs.Keys.{onAlgorithm}
 use Rattle.section.specs.declared.Kind.the-variants.{Plain, Encrypted}
 use Rattle.container.specs.declared.Fields.{Fields}
+use Rattle.container.specs.declared.ImageRead.{ImageRead}
 use Rattle.container.specs.declared.ImageRead.the-variants as read
+use Rattle.container.specs.declared.FormRead.the-variants as form-read
 use Rattle.container.specs.Container.{readAt}
-use Rattle.container.specs.Form.{rewritten, formOf, scalarInForm}
+use Rattle.container.specs.Form.{rewritten, formOf, formReadAt, scalarInForm}
 use Rattle.container.specs.Read.{PlainText, EncryptedText, ImageText, plain-text, encrypted-text, image-text}
 
 -- whether two answers are the same
@@ -27,7 +30,7 @@ abbrev pub agree : Bool → Bool → Bool
 agree true z = z
 agree false z = not z
 
-agree-true : (w z : Bool) → agree w z ≡ true → w ≡ z
+pub agree-true : (w z : Bool) → agree w z ≡ true → w ≡ z
 agree-true true true e = refl
 agree-true true false e = sym e
 agree-true false true e = e
@@ -101,3 +104,41 @@ form-scalar s all f e = go (image-text s all f e)
     go : ImageText s all f e → formOf s f ≡ scalarInForm s f
     go (plain-text plain p) = form-agrees s f p plain ∙ sym (scalar-agrees s f p plain)
     go (encrypted-text encrypted p) = form-encrypted s f p encrypted ∙ sym (scalar-encrypted s f encrypted)
+
+-- ---- what a read with the form says of the read
+
+by-read : {P : Type 0} (w : ImageRead) → ((g : Fault) → w ≡ read.Refused g → P) → ((f : Fields) → w ≡ read.Record f → P) → P
+by-read (read.Refused g) refused record′ = refused g refl
+by-read (read.Record f) refused record′ = record′ f refl
+
+pub form-refused : (s : List ℕ) (g : Fault) → formReadAt s ≡ form-read.Refused g → readAt s ≡ read.Refused g
+unfolding formReadAt
+form-refused s g e =
+    by-read (readAt s)
+    (λ h w. let i : form-read.Refused h ≡ form-read.Refused g = rw w at e in w ∙ ap read.Refused (let o : h ≡ g = cc in o))
+    (λ f w. let i = rw w at e in clash cc)
+
+pub form-record : (s : List ℕ) (f : Fields) (form : Bool) → formReadAt s ≡ form-read.Record f form → (readAt s ≡ read.Record f) × (form ≡ formOf s f)
+unfolding formReadAt
+form-record s f form e =
+    by-read (readAt s)
+    (λ h w. let i = rw w at e in clash cc)
+    (λ h w.
+    let i : form-read.Record h (formOf s h) ≡ form-read.Record f form = rw w at e in
+    let o : h ≡ f = cc in
+    let b : formOf s h ≡ form = cc in
+    (w ∙ ap read.Record o, sym b ∙ ap (formOf s) o))
+
+-- an accepted image whose record is plain
+pub plain-of : (s : List ℕ) (all : AllBytes s) (f : Fields) → readAt s ≡ read.Record f → f .section .kind ≡ Plain → PlainText s f
+plain-of s all f e plain = go (image-text s all f e)
+  where
+    go : ImageText s all f e → PlainText s f
+    go (plain-text kind p) = p
+    go (encrypted-text kind p) = clash (let o : Plain ≡ Encrypted = sym plain ∙ kind in cc)
+
+-- in the form the scalar stands by the rule
+pub form-rule :
+    (s : List ℕ) (f : Fields) (p : PlainText s f) → f .section .kind ≡ Plain → formOf s f ≡ true
+    → needsLeadingZero (f .header .algorithm) (viewOf s (f .section .scalar)) ≡ p .zero
+form-rule s f p plain e = agree-true _ (p .zero) (sym (form-agrees s f p plain) ∙ e)

@@ -13,7 +13,6 @@ use Rattle.fields.specs.Rest.{rest}
 use Rattle.fields.specs.declared.Cursor.{Cursor}
 use Rattle.fields.specs.declared.Fault.{Fault}
 use Rattle.fields.specs.declared.Refusal.the-variants.{Crypto}
-use Rattle.names.specs.declared.Algorithm.{Algorithm}
 use Rattle.names.specs.declared.Cipher.{Cipher}
 use Rattle.names.specs.declared.Cipher.the-variants as cipher
 use Rattle.names.specs.declared.Kdf.{Kdf}

@@ -11,7 +11,7 @@ use Rattle.names.specs.declared.Kdf.{Kdf}
 use Rattle.names.specs.declared.Kdf.the-variants as kdf
 use Rattle.names.specs.Ciphers.{cipherName, kdfName}
 use Rattle.format.specs.Format.{magic, options, header, blob, privateField, short, paddingBytes, content, section, plainImage, encryptedImage}
-use Rattle.format.specs.Laws.{header-then, content-then}
+use Rattle.format.specs.Laws.{content-then}
 
 -- up to and with the blob's length
 unfoldable pub front : Cipher → Kdf → List ℕ → ℕ → ℕ → List ℕ

@@ -14,7 +14,7 @@ use Rattle.names.specs.declared.Kdf.{Kdf}
 use Rattle.names.specs.declared.Kdf.the-variants as kdf
 use Rattle.format.specs.Format.{publicLength, privateLength, options, short, writtenImage}
 use Rattle.format.specs.Lengths.{blobLength, privateFieldLength, written-length}
-use Rattle.buffer.specs.Puts.{isPut, next-fits, placed-fits}
+use Rattle.buffer.specs.Puts.{next-fits, placed-fits}
 use Rattle.buffer.specs.Runs.{isRun}
 use Rattle.writer.specs.declared.Written.the-variants as written
 use Rattle.writer.specs.Writing.{refused, sized, isSized, optionsFit}

@@ -1,0 +1,216 @@
+-- An accepted plain image in the form, written afresh with another comment, is its shell with that comment.
+use Prim.Native.Nat.{ℕ, _+_, _-_, _≤_, _<_}
+use native.Mathlib.Omega.{arith}
+use mathlib.Core.Path.{_≡_, refl, sym, _∙_, ap, ap₂}
+use mathlib.Core.Bool.{Bool, true, false}
+use mathlib.Core.List.{List, [], _∷_, _++_, append-assoc, append-nil}
+use borrow.Author.Tests.{eq-eqb, ltb-true, ltb-false}
+use lib.Dec.{ltb}
+use lib.ListN.{length, take, drop, getD, length-append, length-take, List·getD-eq-default}
+use lib.Seq.{slice, length-take-le, take-at, drop-at, take-take, getD-take}
+use Rattle.fields.specs.Bytes.{uint32, string, join, AllBytes}
+use Rattle.fields.specs.Fields.{viewOf}
+use Rattle.fields.specs.Rest.{length-uint32}
+use Rattle.names.specs.declared.Algorithm.{Algorithm}
+use Rattle.names.specs.declared.Cipher.the-variants as cipher
+use Rattle.names.specs.declared.Kdf.the-variants as kdf
+use Rattle.utf8.specs.Utf8.{utf8}
+use Rattle.format.specs.Format.{standing, needsLeadingZero, blob, privateField, short, paddingBytes, content, section, header, plainImage, writtenImage}
+use Rattle.format.specs.Laws.{content-then, section-length}
+use Rattle.format.specs.Lengths.{content-length}
+use Rattle.section.specs.Read.{beforeComment}
+use Rattle.container.specs.declared.Fields.{Fields}
+use Rattle.container.specs.Form.{formOf}
+use Rattle.container.specs.Read.{PlainText}
+use Rattle.container.specs.FormLaws.{form-rule}
+use Rattle.section.specs.declared.Kind.the-variants.{Plain}
+use Rattle.buffer.specs.Puts.{splice, zeros}
+use Rattle.writer.specs.declared.Written.{Written}
+use Rattle.writer.specs.declared.Written.the-variants as written
+use Rattle.writer.specs.Writing.{left, sized, plainReply, plainLeft}
+use Rattle.comment.specs.Change.{onWritten, afresh, afreshReply, afreshLeft, commentField, recordReply, recordLeft}
+use Rattle.comment.specs.Shell.{bare, shellAt, shellFields, renewed, isRenewed}
+
+-- ---- an image regrouped: only the section's length, the comment and the padding depend on the comment
+
+-- what stands in a section before the comment
+unfoldable pub middle : ℕ → Algorithm → List ℕ → List ℕ → List ℕ
+middle n a point stored = join (uint32 n ∷ uint32 n ∷ blob a point ∷ privateField a point stored ∷ [])
+
+pub middle-length : (n : ℕ) (a : Algorithm) (point stored : List ℕ) → length (middle n a point stored) ≡ beforeComment a point stored
+unfolding middle
+middle-length n a point stored = simp (length-append, length-uint32) (omega arith)
+
+middle-then :
+    (n : ℕ) (a : Algorithm) (point stored comment t : List ℕ) → content n a point stored comment ++ t ≡ middle n a point stored ++ (string comment ++ t)
+unfolding middle
+middle-then n a point stored comment t = content-then n a point stored comment t ∙ simp append-assoc
+
+-- the section's length without its padding
+abbrev bareOf : ℕ → Algorithm → List ℕ → List ℕ → List ℕ → ℕ
+bareOf n a point stored comment = length (middle n a point stored) + (4 + length comment)
+
+bare-is : (n : ℕ) (a : Algorithm) (point stored comment : List ℕ) → length (content n a point stored comment) ≡ bareOf n a point stored comment
+bare-is n a point stored comment = content-length n a point stored comment ∙ omega (arith, middle-length n a point stored)
+
+section-is :
+    (n : ℕ) (a : Algorithm) (point stored comment : List ℕ)
+    → section n a point stored comment ≡ content n a point stored comment ++ take (short (length (content n a point stored comment))) paddingBytes
+unfolding section
+section-is n a point stored comment = refl
+
+section-then :
+    (n : ℕ) (a : Algorithm) (point stored comment : List ℕ)
+    → string (section n a point stored comment)
+    ≡ uint32 (bareOf n a point stored comment + short (bareOf n a point stored comment))
+    ++ (middle n a point stored ++ (string comment ++ take (short (bareOf n a point stored comment)) paddingBytes))
+unfolding string
+section-then n a point stored comment =
+    ap₂ (λ (k : ℕ) (l : List ℕ). uint32 k ++ l)
+    (section-length n a point stored comment ∙ ap (λ (k : ℕ). k + short k) (bare-is n a point stored comment))
+    (section-is n a point stored comment ∙ middle-then n a point stored comment _
+    ∙ ap (λ (k : ℕ). middle n a point stored ++ (string comment ++ take (short k) paddingBytes)) (bare-is n a point stored comment))
+
+pub regrouped :
+    (n : ℕ) (a : Algorithm) (point stored comment : List ℕ)
+    → plainImage n a point stored comment
+    ≡ header cipher.None kdf.None [] 0 (blob a point)
+    ++ (uint32 (bareOf n a point stored comment + short (bareOf n a point stored comment))
+    ++ (middle n a point stored ++ (string comment ++ take (short (bareOf n a point stored comment)) paddingBytes)))
+unfolding plainImage
+regrouped n a point stored comment =
+    ap (λ (l : List ℕ). header cipher.None kdf.None [] 0 (blob a point) ++ l)
+    (append-nil (string (section n a point stored comment)) ∙ section-then n a point stored comment)
+
+-- ---- the places of the shell
+
+-- a part that stands between two others
+between : (x m t : List ℕ) (i j : ℕ) → length x ≡ i → length x + length m ≡ j → slice i j (x ++ (m ++ t)) ≡ m
+between x m t i j ei ej =
+    ap (λ (l : List ℕ). drop i (take j l)) (sym (append-assoc x m t))
+    ∙ ap (drop i) (take-at (x ++ m) t j (length-append x m ∙ ej)) ∙ drop-at x m i ei
+
+module _ (old : List ℕ) (n : ℕ) (inside : n ≤ length old) (f : Fields) (p : PlainText (take n old) f) where
+  -- where the section's length and the comment's field are, and what stands before and between them
+  pub record Standing (front between : List ℕ) : Type 0 where
+    pub section-field : f .header .section + 4 ≤ commentField f
+    pub comment-field : commentField f ≤ n
+    pub whole-field : 4 ≤ f .section .comment .start
+    pub apart : commentField f ≡ f .header .section + 4 + length between
+    pub before : take (f .header .section) old ≡ front
+    pub middle-stands : slice (f .header .section + 4) (commentField f) old ≡ between
+
+  pub stands :
+      Standing (header cipher.None kdf.None [] 0 (blob (f .header .algorithm) (viewOf (take n old) (f .header .point))))
+      (middle (f .section .checkint) (f .header .algorithm) (viewOf (take n old) (f .header .point))
+      (standing (p .zero) (viewOf (take n old) (f .section .scalar))))
+  stands =
+      let s = take n old in
+      let c = f .section .checkint in
+      let a = f .header .algorithm in
+      let point = viewOf s (f .header .point) in
+      let stored = standing (p .zero) (viewOf s (f .section .scalar)) in
+      let comment = viewOf s (f .section .comment) in
+      let front = header cipher.None kdf.None [] 0 (blob a point) in
+      let m = middle c a point stored in
+      let k = uint32 (bareOf c a point stored comment + short (bareOf c a point stored comment)) in
+      let t = string comment ++ take (short (bareOf c a point stored comment)) paddingBytes in
+      let text : s ≡ front ++ (k ++ (m ++ t)) = p .text ∙ regrouped c a point stored comment in
+      let text₂ : s ≡ (front ++ k) ++ (m ++ t) = text ∙ sym (append-assoc front k (m ++ t)) in
+      let long : n ≡ length front + (4 + (length m + length t)) =
+      sym (length-take-le n old inside) ∙ ap length text ∙ simp (length-append, length-uint32) in
+      let ms = middle-length c a point stored in
+      let at : f .header .section ≡ length front = p .section-place in
+      let field : commentField f ≡ f .header .section + 4 + length m = omega (arith, p .comment-place, ms) in
+      record {
+        section-field = omega (arith, field);
+        comment-field = omega (arith, field, at, long);
+        whole-field = omega (arith, p .comment-place);
+        apart = field;
+        before = sym (take-take (f .header .section) n old (omega (arith, at, long))) ∙ ap (take (f .header .section)) text ∙ take-at front (k ++ (m ++ t)) _ (sym at);
+        middle-stands =
+            ap (drop (f .header .section + 4)) (sym (take-take (commentField f) n old (omega (arith, field, at, long))))
+            ∙ ap (slice (f .header .section + 4) (commentField f)) text₂
+            ∙ between (front ++ k) m t (f .header .section + 4) (commentField f)
+            (length-append front k ∙ omega (arith, at, length-uint32 (bareOf c a point stored comment + short (bareOf c a point stored comment))))
+            (omega (arith, field, at, length-append front k, length-uint32 (bareOf c a point stored comment + short (bareOf c a point stored comment))));
+      }
+
+  -- the image written afresh with any comment
+  pub afresh-shell :
+      needsLeadingZero (f .header .algorithm) (viewOf (take n old) (f .section .scalar)) ≡ p .zero → (comment : List ℕ)
+      → afresh (take n old) f comment ≡ shellAt old (f .header .section) (commentField f) comment
+  unfolding afresh writtenImage shellAt shellFields
+  afresh-shell rule comment =
+      let s = take n old in
+      let c = f .section .checkint in
+      let a = f .header .algorithm in
+      let point = viewOf s (f .header .point) in
+      let stored = standing (p .zero) (viewOf s (f .section .scalar)) in
+      let same : bareOf c a point stored comment ≡ bare (f .header .section) (commentField f) comment = omega (arith, stands .apart) in
+      rw rule
+      (regrouped c a point stored comment
+      ∙ rw (stands .before, stands .middle-stands, same, append-nil))
+
+-- ---- the change of an accepted plain image in the form
+
+-- all bytes of a beginning are bytes
+pub all-take : (n : ℕ) (l : List ℕ) → AllBytes l → AllBytes (take n l)
+all-take n l all i = go (ltb i n) refl
+  where
+    go : (b : Bool) → ltb i n ≡ b → getD (take n l) i 0 < 256
+    go true e = rw (getD-take n l i 0 (ltb-true i n e)) (all i)
+    go false e =
+        let past : length (take n l) ≤ i = omega (arith, ltb-false i n e, length-take n l) in
+        rw (List·getD-eq-default (take n l) 0 past) (omega arith)
+
+-- what is left by what is answered
+left-renewed :
+    (w : Written) (image : List ℕ) (n : ℕ) (old : List ℕ)
+    → onWritten w (λ g. old) (λ k. splice (left w image old) k (zeros (n - k))) ≡ renewed w image n old
+left-renewed (written.Refused g) image n old = refl
+left-renewed (written.Length k) image n old = refl
+
+-- the record's own material passes the plain writer's first tests
+pub afresh-sized :
+    (s : List ℕ) (f : Fields) → PlainText s f → (comment : List ℕ) → utf8 comment ≡ true → (room : ℕ)
+    → afreshReply s f comment room ≡ sized (afresh s f comment) room
+unfolding afreshReply plainReply afresh
+afresh-sized s f p comment text room = rw (eq-eqb _ _ (p .key-fits .long), eq-eqb _ _ (p .key-fits .private), p .key-fits .tag, text)
+
+record-plain :
+    (s : List ℕ) (f : Fields) (comment : List ℕ) (room : ℕ) → f .section .kind ≡ Plain → formOf s f ≡ true → utf8 comment ≡ true
+    → recordReply s f comment room ≡ afreshReply s f comment room
+unfolding recordReply
+record-plain s f comment room plain form text = rw (form, text, plain)
+
+pub record-sized :
+    (s : List ℕ) (f : Fields) → PlainText s f → (comment : List ℕ) (room : ℕ) → f .section .kind ≡ Plain → formOf s f ≡ true → utf8 comment ≡ true
+    → recordReply s f comment room ≡ sized (afresh s f comment) room
+record-sized s f p comment room plain form text = record-plain s f comment room plain form text ∙ afresh-sized s f p comment text room
+
+-- what the plain writer leaves
+afresh-leaves :
+    (s : List ℕ) (f : Fields) → PlainText s f → (comment : List ℕ) → utf8 comment ≡ true → (old : List ℕ)
+    → afreshLeft s f comment old ≡ left (sized (afresh s f comment) (length old)) (afresh s f comment) old
+unfolding afreshLeft afreshReply plainLeft afresh
+afresh-leaves s f p comment text old = ap (λ (w : Written). left w (afresh s f comment) old) (afresh-sized s f p comment text (length old))
+
+pub record-left :
+    (s : List ℕ) (f : Fields) → PlainText s f → (comment : List ℕ) (n : ℕ) (old : List ℕ) → f .section .kind ≡ Plain → formOf s f ≡ true
+    → utf8 comment ≡ true → recordLeft s f comment n old ≡ renewed (sized (afresh s f comment) (length old)) (afresh s f comment) n old
+unfolding recordLeft
+record-left s f p comment n old plain form text =
+    rw (record-sized s f p comment (length old) plain form text, afresh-leaves s f p comment text old)
+    (left-renewed (sized (afresh s f comment) (length old)) (afresh s f comment) n old)
+
+-- a renewal of the shell is the change
+pub record-renewed :
+    (old : List ℕ) (n : ℕ) → n ≤ length old → (f : Fields) → PlainText (take n old) f → (comment : List ℕ) (r : Written) (out : List ℕ)
+    → f .section .kind ≡ Plain → formOf (take n old) f ≡ true → utf8 comment ≡ true
+    → isRenewed (shellAt old (f .header .section) (commentField f) comment) n old r out
+    → (r ≡ recordReply (take n old) f comment (length old)) × (out ≡ recordLeft (take n old) f comment n old)
+record-renewed old n inside f p comment r out plain form text w =
+    let s = take n old in
+    let shell = afresh-shell old n inside f p (form-rule s f p plain form) comment in
+    rw (record-sized s f p comment (length old) plain form text, record-left s f p comment n old plain form text, shell) w

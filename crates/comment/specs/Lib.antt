@@ -1,0 +1,3 @@
+pub mod Change
+pub mod Shell
+pub mod Afresh
