@@ -5,7 +5,7 @@ use mathlib.Core.Path.{_≡_, refl, sym, ap, _∙_}
 use mathlib.Core.List.{List, [], _∷_, _++_, append-assoc, append-nil}
 use lib.ListN.{length, drop, length-append}
 use lib.Seq.{drop-append-seam, drop-drop}
-use Rattle.fields.specs.Bytes.{join}
+use Rattle.fields.specs.Bytes.{uint32, string, join}
 use Rattle.buffer.specs.Puts.{splice, isPut, placed-fits, next-fits, splice-length, drop-splice, splice-nil, splice-same, splice-splice}
 
 -- Of `fields`, to be put into `old` from `a` on, `more` are still to be put; the next goes at `at`, and the buffer is `out`. There is
@@ -103,6 +103,11 @@ pub last-runs :
     {old : List ℕ} {a : ℕ} {fields : List (List ℕ)} {xs : List (List ℕ)} {at : ℕ} {out : List ℕ} {r : ℕ} {out′ : List ℕ}
     → Left old a fields xs at out → isRun out at (join xs) r out′ → Left old a fields [] r out′
 last-runs {old} {a} {fields} {xs} {at} {out} l p = runs xs (rw append-nil l) p
+
+-- a string whose bytes are put in two parts
+pub string-joined : (n : ℕ) (a b : List ℕ) → n ≡ length a + length b → join (uint32 n ∷ a ∷ b ∷ []) ≡ string (a ++ b)
+unfolding string
+string-joined n a b e = rw (append-nil, e, length-append)
 
 -- ---- what stands in a buffer already
 

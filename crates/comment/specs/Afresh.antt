@@ -25,10 +25,11 @@ use Rattle.container.specs.Read.{PlainText}
 use Rattle.container.specs.FormLaws.{form-rule}
 use Rattle.section.specs.declared.Kind.the-variants.{Plain}
 use Rattle.buffer.specs.Puts.{splice, zeros}
-use Rattle.writer.specs.declared.Written.{Written}
-use Rattle.writer.specs.declared.Written.the-variants as written
-use Rattle.writer.specs.Writing.{left, sized, plainReply, plainLeft}
-use Rattle.comment.specs.Change.{onWritten, afresh, afreshReply, afreshLeft, commentField, recordReply, recordLeft}
+use Rattle.reply.specs.declared.Written.{Written}
+use Rattle.reply.specs.declared.Written.the-variants as written
+use Rattle.plain.specs.Plain.{plainReply, plainLeft}
+use Rattle.reply.specs.Reply.{onWritten, left, sized}
+use Rattle.comment.specs.Change.{afresh, afreshReply, afreshLeft, commentField, recordReply, recordLeft}
 use Rattle.comment.specs.Shell.{bare, shellAt, shellFields, renewed, isRenewed}
 
 -- ---- an image regrouped: only the section's length, the comment and the padding depend on the comment

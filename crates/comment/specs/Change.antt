@@ -6,7 +6,6 @@ use mathlib.Core.List.{List}
 use lib.Dec.{leb}
 use lib.ListN.{length, take}
 use Rattle.fields.specs.Fields.{fault, viewOf}
-use Rattle.fields.specs.declared.Fault.{Fault}
 use Rattle.fields.specs.declared.Refusal.the-variants.{Length, CharacterEncoding, Encrypted, Form, Size}
 use Rattle.utf8.specs.Utf8.{utf8}
 use Rattle.format.specs.Format.{writtenImage}
@@ -14,14 +13,10 @@ use Rattle.container.specs.Container.{onRead, readAt}
 use Rattle.container.specs.Form.{onKind, formOf}
 use Rattle.container.specs.declared.Fields.{Fields}
 use Rattle.buffer.specs.Puts.{splice, zeros}
-use Rattle.writer.specs.declared.Written.{Written}
-use Rattle.writer.specs.declared.Written.the-variants as written
-use Rattle.writer.specs.Writing.{refused, unless, plainReply, plainLeft}
-
--- by what was answered
-abbrev pub onWritten : {R : Type 0} → Written → (Fault → R) → (ℕ → R) → R
-onWritten (written.Refused f) refused accepted = refused f
-onWritten (written.Length n) refused accepted = accepted n
+use Rattle.reply.specs.declared.Written.{Written}
+use Rattle.reply.specs.declared.Written.the-variants as written
+use Rattle.plain.specs.Plain.{plainReply, plainLeft}
+use Rattle.reply.specs.Reply.{onWritten, refused, unless}
 
 -- ---- written afresh: the plain writer, given the material that the record's views give, the record's checkint, and the new comment
 

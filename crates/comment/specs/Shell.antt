@@ -14,9 +14,9 @@ use Rattle.format.specs.Format.{short, paddingBytes}
 use Rattle.format.specs.Laws.{padding-length}
 use Rattle.buffer.specs.Puts.{splice, zeros, isPut, zeros-length, next-fits, placed-fits, splice-length}
 use Rattle.buffer.specs.Runs.{Left, Here, start, step, skip, finish}
-use Rattle.writer.specs.declared.Written.{Written}
-use Rattle.writer.specs.declared.Written.the-variants as written
-use Rattle.writer.specs.Writing.{refused, sized}
+use Rattle.reply.specs.declared.Written.{Written}
+use Rattle.reply.specs.declared.Written.the-variants as written
+use Rattle.reply.specs.Reply.{refused, sized}
 
 -- the section's length without its padding, by what stands before the comment's field
 abbrev pub bare : ℕ → ℕ → List ℕ → ℕ

@@ -6,21 +6,14 @@ ghost use lib.ListN.{length, take};
 ghost use Rattle.container.specs.Container.{readAt};
 ghost use Rattle.container.specs.Form.{formOf};
 ghost use Rattle.container.specs.declared.ImageRead.the-variants as read;
-ghost use Rattle.writer.specs.Writing.{refused};
 ghost use Rattle.comment.specs.Change.{recordReply, recordLeft, changeReply, changeLeft};
 ghost use Rattle.comment.specs.Shell.{shellAt, isRenewed};
 use container::Fields;
 use container::FormRead;
 use fields::Fault;
 use fields::Refusal;
+use reply::Written;
 use section::Kind;
-use writer::Written;
-
-fn refused(why: Refusal) -> Written
-    ensures { λ r. ⌜ r ≡ refused why ⌝ }
-{
-    Written::Refused(Fault { why: why, at: 0 })
-}
 
 // What n has more than m.
 fn more(n: usize, m: usize) -> usize
@@ -39,16 +32,16 @@ fn renew(lent: &mut [u8], n: usize, section: usize, field: usize, comment: &[u8]
     ensures { λ r. ⌜ isRenewed (shellAt (now (lent .entry)) section field (now (comment .entry))) n (now (lent .entry)) r (now (lent .exit)) ⌝ }
 {
     if 65535 < comment.len() {
-        return refused(Refusal::Size);
+        return reply::refused(Refusal::Size);
     }
     let content = field - (section + 4) + (4 + comment.len());
     let padding = buffer::padding(content);
     let size = section + 4 + (content + padding);
     if 65535 < size {
-        return refused(Refusal::Size);
+        return reply::refused(Refusal::Size);
     }
     if lent.len() < size {
-        return refused(Refusal::Room);
+        return reply::refused(Refusal::Room);
     }
     buffer::put_uint32(lent, section, content + padding);
     let a = buffer::put_string(lent, field, comment);
@@ -68,10 +61,10 @@ fn change_record(lent: &mut [u8], n: usize, f: Fields, form: bool, comment: &[u8
     let kind = section.kind;
     let old = section.comment;
     match kind {
-        Kind::Encrypted => refused(Refusal::Encrypted),
+        Kind::Encrypted => reply::refused(Refusal::Encrypted),
         Kind::Plain => {
             if !form {
-                return refused(Refusal::Form);
+                return reply::refused(Refusal::Form);
             }
             let field = old.start - 4;
             if !utf8::is_utf8(comment) {
@@ -90,10 +83,10 @@ pub fn change_comment(lent: &mut [u8], n: usize, comment: &[u8]) -> Written
     ensures { λ r. ⌜ (r ≡ changeReply (now (lent .entry)) n (now (comment .entry))) × (now (lent .exit) ≡ changeLeft (now (lent .entry)) n (now (comment .entry))) ⌝ }
 {
     if 65535 < n {
-        return refused(Refusal::Size);
+        return reply::refused(Refusal::Size);
     }
     if lent.len() < n {
-        return refused(Refusal::Length);
+        return reply::refused(Refusal::Length);
     }
     match container::read_with_form(&lent[..n]) {
         FormRead::Refused(f) => Written::Refused(f),

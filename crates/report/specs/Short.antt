@@ -12,6 +12,7 @@ use Rattle.names.specs.declared.Cipher.{Cipher}
 use Rattle.names.specs.declared.Curve.the-variants.{Nistp256, Nistp384, Nistp521}
 use Rattle.names.specs.declared.Kdf.{Kdf}
 use Rattle.names.specs.Algorithms.{algorithmName}
+use Rattle.names.specs.Ciphers.{row}
 use Rattle.buffer.specs.Decimal.{decimal-short}
 use Rattle.buffer.specs.Runs.{join-append}
 use Rattle.spelling.specs.Spelling.{kdf-length}

@@ -1,3 +1,1 @@
-pub mod Writing
-pub mod Sized
-pub mod Parts
+pub mod Rewrite

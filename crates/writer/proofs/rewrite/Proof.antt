@@ -1,6 +1,6 @@
 -- `writer::rewrite` meets its contract: read, then written. Rests on the callees' contracts.
 use mathlib.Core.Path.{refl}
-use Rattle.writer.specs.Writing.{rewriteReply, rewriteLeft}
+use Rattle.writer.specs.Rewrite.{rewriteReply, rewriteLeft}
 use borrow.Author.Needs.{needs}
 use Rattle.writer.proofs.rewrite.Statement.{statement}
 use Rattle.writer.proofs.rewrite.Tie as tie

@@ -1,6 +1,6 @@
 -- `writer::rewrite_record` meets its contract: the kind picks the writer, which is handed the record's views. Rests on the callees'
 -- contracts.
-use Rattle.writer.specs.Writing.{recordReply, recordLeft}
+use Rattle.writer.specs.Rewrite.{recordReply, recordLeft}
 use borrow.Author.Needs.{needs}
 use Rattle.writer.proofs.rewrite_record.Statement.{statement}
 use Rattle.writer.proofs.rewrite_record.Tie as tie

@@ -1,0 +1,2 @@
+pub mod Encrypted
+pub mod Parts

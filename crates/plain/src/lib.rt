@@ -1,0 +1,244 @@
+// The plain writer: key material and a comment to an image. It checks all, in the paper's order, before it
+// changes a byte.
+ghost use mathlib.Core.Path.{_≡_};
+ghost use mathlib.Core.List.{_++_};
+ghost use Prim.Native.Nat.{_+_, _<_};
+ghost use lib.ListN.{length, getD};
+ghost use lib.Dec.{leb};
+ghost use Rattle.fields.specs.Bytes.{string};
+ghost use Rattle.names.specs.declared.Algorithm.the-variants.{Ecdsa};
+ghost use Rattle.format.specs.Format.{curveField, publicLength, privateLength, pointTag, blob, privateField, standing, needsLeadingZero, short, section, writtenImage};
+ghost use Rattle.format.specs.Lengths.{blobLength, privateFieldLength, contentLength};
+ghost use Rattle.buffer.specs.Puts.{isPut};
+ghost use Rattle.buffer.specs.Runs.{isRun};
+ghost use Rattle.keys.specs.Material.{publicOf, privateOf, checkintOf};
+ghost use Rattle.reply.specs.Reply.{isSized};
+ghost use Rattle.plain.specs.Plain.{isPlain};
+use fields::Part;
+use fields::Refusal;
+use keys::Checkint;
+use keys::Material;
+use names::Algorithm;
+use names::Curve;
+use reply::Written;
+
+fn put_curve(out: &mut [u8], at: usize, algorithm: Algorithm) -> usize
+    ensures { λ r. ⌜ isPut (now (out .entry)) at (curveField algorithm) r (now (out .exit)) ⌝ }
+{
+    match algorithm {
+        Algorithm::Ed25519 => at,
+        Algorithm::Ecdsa(curve) => spelling::put_name_string(out, at, spelling::curve_name(curve)),
+    }
+}
+
+// A public key: the algorithm's name, the curve's, the public string or point.
+fn put_key(out: &mut [u8], at: usize, algorithm: Algorithm, point: &[u8]) -> usize
+    ensures { λ r. ⌜ isRun (now (out .entry)) at (blob algorithm (now (point .entry))) r (now (out .exit)) ⌝ }
+{
+    let a = spelling::put_name_string(out, at, spelling::algorithm_name(algorithm));
+    let b = put_curve(out, a, algorithm);
+    buffer::put_string(out, b, point)
+}
+
+// Two parts in one string.
+fn put_two(out: &mut [u8], at: usize, first: &[u8], second: &[u8]) -> usize
+    requires { ⌜ length (now first) + length (now second) < 256 ⌝ }
+    ensures { λ r. ⌜ isRun (now (out .entry)) at (string (now (first .entry) ++ now (second .entry))) r (now (out .exit)) ⌝ }
+{
+    let a = buffer::put_uint32(out, at, first.len() + second.len());
+    let b = buffer::put(out, a, first);
+    buffer::put(out, b, second)
+}
+
+// A scalar of any size, after a zero where its first byte asks for one.
+fn put_scalar(out: &mut [u8], at: usize, scalar: &[u8]) -> usize
+    requires { ⌜ length (now scalar) < 255 ⌝ }
+    ensures { λ r. ⌜ isRun (now (out .entry)) at (string (standing (leb 0x80 (getD (now (scalar .entry)) 0 0)) (now (scalar .entry)))) r (now (out .exit)) ⌝ }
+{
+    if keys::needs_leading_zero(scalar) {
+        return put_two(out, at, b"\0", scalar);
+    }
+    buffer::put_string(out, at, scalar)
+}
+
+// The private bytes: seed and public string in one string, or the scalar.
+fn put_private(
+    out: &mut [u8],
+    at: usize,
+    algorithm: Algorithm,
+    point: &[u8],
+    scalar: &[u8],
+) -> usize
+    requires { ⌜ (length (now point) < 134) × (length (now scalar) < 67) ⌝ }
+    ensures { λ r. ⌜ isRun (now (out .entry)) at (privateField algorithm (now (point .entry)) (standing (needsLeadingZero algorithm (now (scalar .entry))) (now (scalar .entry)))) r (now (out .exit)) ⌝ }
+{
+    match algorithm {
+        Algorithm::Ed25519 => put_two(out, at, scalar, point),
+        Algorithm::Ecdsa(_) => put_scalar(out, at, scalar),
+    }
+}
+
+// The length of a public key, and of the private bytes as they are written.
+
+fn blob_length(algorithm: Algorithm) -> usize
+    ensures { λ r. ⌜ (r ≡ blobLength algorithm) × (r < 256) ⌝ }
+{
+    match algorithm {
+        Algorithm::Ed25519 => 51,
+        Algorithm::Ecdsa(curve) => match curve {
+            Curve::Nistp256 => 104,
+            Curve::Nistp384 => 136,
+            Curve::Nistp521 => 172,
+        },
+    }
+}
+
+fn scalar_length(curve: Curve, scalar: &[u8]) -> usize
+    ensures { λ r. ⌜ (r ≡ privateFieldLength (Ecdsa curve) (now (scalar .entry))) × (r < 256) ⌝ }
+{
+    let size = curve.size();
+    if keys::needs_leading_zero(scalar) {
+        return 5 + size;
+    }
+    4 + size
+}
+
+fn private_length(algorithm: Algorithm, scalar: &[u8]) -> usize
+    ensures { λ r. ⌜ (r ≡ privateFieldLength algorithm (now (scalar .entry))) × (r < 256) ⌝ }
+{
+    match algorithm {
+        Algorithm::Ed25519 => 68,
+        Algorithm::Ecdsa(curve) => scalar_length(curve, scalar),
+    }
+}
+
+// Puts every field of a section. The caller has seen to lengths and room.
+fn put_section(
+    out: &mut [u8],
+    at: usize,
+    algorithm: Algorithm,
+    point: &[u8],
+    scalar: &[u8],
+    checkint: u32,
+    comment: &[u8],
+    padding: usize,
+) -> usize
+    requires { ⌜ (length (now point) ≡ publicLength algorithm) × (length (now scalar) ≡ privateLength algorithm) ⌝ }
+    requires { ⌜ padding ≡ short (contentLength algorithm (now scalar) (length (now comment))) ⌝ }
+    ensures { λ r. ⌜ isRun (now (out .entry)) at (section checkint algorithm (now (point .entry)) (standing (needsLeadingZero algorithm (now (scalar .entry))) (now (scalar .entry))) (now (comment .entry))) r (now (out .exit)) ⌝ }
+{
+    let a = buffer::put_uint32(out, at, checkint as usize);
+    let b = buffer::put_uint32(out, a, checkint as usize);
+    let c = put_key(out, b, algorithm, point);
+    let d = put_private(out, c, algorithm, point, scalar);
+    let e = buffer::put_string(out, d, comment);
+    buffer::put_padding(out, e, padding)
+}
+
+// Puts every field of a plain image. The caller has seen to lengths and room.
+fn put_plain(
+    out: &mut [u8],
+    algorithm: Algorithm,
+    point: &[u8],
+    scalar: &[u8],
+    checkint: u32,
+    comment: &[u8],
+    content: usize,
+) -> usize
+    requires { ⌜ (length (now point) ≡ publicLength algorithm) × (length (now scalar) ≡ privateLength algorithm) ⌝ }
+    requires { ⌜ (content ≡ contentLength algorithm (now scalar) (length (now comment))) × (content < 65536) ⌝ }
+    ensures { λ r. ⌜ isRun (now (out .entry)) 0 (writtenImage checkint algorithm (now (point .entry)) (now (scalar .entry)) (now (comment .entry))) r (now (out .exit)) ⌝ }
+{
+    let padding = buffer::padding(content);
+    let front = b"openssh-key-v1\0\0\0\0\x04none\0\0\0\x04none\0\0\0\0\0\0\0\x01";
+    let a = buffer::put(out, 0, front);
+    let b = buffer::put_uint32(out, a, blob_length(algorithm));
+    let c = put_key(out, b, algorithm, point);
+    let d = buffer::put_uint32(out, c, content + padding);
+    put_section(out, d, algorithm, point, scalar, checkint, comment, padding)
+}
+
+// A plain image of parts whose lengths are their algorithm's, if its size and the room allow.
+fn write_sized(
+    algorithm: Algorithm,
+    point: &[u8],
+    scalar: &[u8],
+    checkint: u32,
+    comment: &[u8],
+    out: &mut [u8],
+) -> Written
+    requires { ⌜ (length (now point) ≡ publicLength algorithm) × (length (now scalar) ≡ privateLength algorithm) ⌝ }
+    ensures { λ r. ⌜ isSized (writtenImage checkint algorithm (now (point .entry)) (now (scalar .entry)) (now (comment .entry))) (now (out .entry)) r (now (out .exit)) ⌝ }
+{
+    if 65535 < comment.len() {
+        return reply::refused(Refusal::Size);
+    }
+    let key = blob_length(algorithm);
+    let private = private_length(algorithm, scalar);
+    let content = 8 + (key + private) + (4 + comment.len());
+    let size = 47 + key + (content + buffer::padding(content));
+    if 65535 < size {
+        return reply::refused(Refusal::Size);
+    }
+    if out.len() < size {
+        return reply::refused(Refusal::Room);
+    }
+    Written::Length(put_plain(out, algorithm, point, scalar, checkint, comment, content))
+}
+
+// An uncompressed point begins with 4.
+fn tagged(algorithm: Algorithm, point: &[u8]) -> bool
+    ensures { λ r. ⌜ r ≡ pointTag algorithm (now (point .entry)) ⌝ }
+{
+    match algorithm {
+        Algorithm::Ed25519 => true,
+        Algorithm::Ecdsa(_) => keys::byte(point, 0) == 4,
+    }
+}
+
+// A plain image of lent parts: the public string or point, the seed or scalar.
+pub fn write_parts(
+    algorithm: Algorithm,
+    point: &[u8],
+    scalar: &[u8],
+    checkint: u32,
+    comment: &[u8],
+    out: &mut [u8],
+) -> Written
+    ensures { λ r. ⌜ isPlain algorithm (now (point .entry)) (now (scalar .entry)) checkint (now (comment .entry)) (now (out .entry)) r (now (out .exit)) ⌝ }
+{
+    if point.len() != keys::public_length(algorithm) {
+        return reply::refused(Refusal::Length);
+    }
+    if scalar.len() != keys::private_length(algorithm) {
+        return reply::refused(Refusal::Length);
+    }
+    if !tagged(algorithm, point) {
+        return reply::refused(Refusal::FormatEncoding);
+    }
+    if !utf8::is_utf8(comment) {
+        return reply::refused(Refusal::CharacterEncoding);
+    }
+    write_sized(algorithm, point, scalar, checkint, comment, out)
+}
+
+// A plain image of key material, with the given checkint or the derived one.
+pub fn write_plain(m: Material, given: Checkint, comment: &[u8], out: &mut [u8]) -> Written
+    ensures { λ r. ⌜ isPlain (m .algorithm) (publicOf m) (privateOf m) (checkintOf given (privateOf m)) (now (comment .entry)) (now (out .entry)) r (now (out .exit)) ⌝ }
+{
+    let algorithm = m.algorithm;
+    let public = m.public;
+    let private = m.private;
+    let publics = Part {
+        start: 0,
+        length: m.public_length,
+    };
+    let privates = Part {
+        start: 0,
+        length: m.private_length,
+    };
+    let checkint = m.checkint(given);
+    let point = fields::view(&public, publics);
+    let scalar = fields::view(&private, privates);
+    write_parts(algorithm, point, scalar, checkint, comment, out)
+}

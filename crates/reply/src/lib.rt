@@ -1,0 +1,16 @@
+// What a writer answers: the length of what it wrote, or the refusal, which is at 0.
+ghost use mathlib.Core.Path.{_≡_};
+ghost use Rattle.reply.specs.Reply.{refused};
+use fields::Fault;
+use fields::Refusal;
+
+pub enum Written {
+    Length(usize),
+    Refused(Fault),
+}
+
+pub fn refused(why: Refusal) -> Written
+    ensures { λ r. ⌜ r ≡ refused why ⌝ }
+{
+    Written::Refused(Fault { why: why, at: 0 })
+}

@@ -1,0 +1,39 @@
+-- Document 01, 'Writing': writing an image's record, with its own checkint where it is plain.
+use Prim.Native.Nat.{ℕ}
+use mathlib.Core.Path.{_≡_}
+use mathlib.Core.List.{List}
+use lib.ListN.{length}
+use Rattle.fields.specs.Fields.{viewOf}
+use Rattle.container.specs.Container.{onRead, readAt}
+use Rattle.container.specs.Form.{onKind}
+use Rattle.container.specs.declared.Fields.{Fields}
+use Rattle.reply.specs.declared.Written.{Written}
+use Rattle.reply.specs.declared.Written.the-variants as written
+use Rattle.plain.specs.Plain.{plainReply, plainLeft}
+use Rattle.encrypted.specs.Encrypted.{encryptedReply, encryptedLeft}
+
+unfoldable pub recordReply : List ℕ → Fields → ℕ → Written
+recordReply s f room =
+    onKind (f .section .kind)
+    (plainReply (f .header .algorithm) (viewOf s (f .header .point)) (viewOf s (f .section .scalar)) (f .section .checkint)
+    (viewOf s (f .section .comment)) room)
+    (encryptedReply (f .header .cipher) (f .header .kdf) (viewOf s (f .header .salt)) (f .header .rounds) (viewOf s (f .header .blob))
+    (viewOf s (f .section .ciphertext)) (viewOf s (f .section .tag)) room)
+
+unfoldable pub recordLeft : List ℕ → Fields → List ℕ → List ℕ
+recordLeft s f old =
+    onKind (f .section .kind)
+    (plainLeft (f .header .algorithm) (viewOf s (f .header .point)) (viewOf s (f .section .scalar)) (f .section .checkint)
+    (viewOf s (f .section .comment)) old)
+    (encryptedLeft (f .header .cipher) (f .header .kdf) (viewOf s (f .header .salt)) (f .header .rounds) (viewOf s (f .header .blob))
+    (viewOf s (f .section .ciphertext)) (viewOf s (f .section .tag)) old)
+
+abbrev pub isRewrite : List ℕ → Fields → List ℕ → Written → List ℕ → Type 0
+isRewrite s f old r out = (r ≡ recordReply s f (length old)) × (out ≡ recordLeft s f old)
+
+-- a refused image gets the reader's refusal
+unfoldable pub rewriteReply : List ℕ → ℕ → Written
+rewriteReply s room = onRead (readAt s) written.Refused (λ f. recordReply s f room)
+
+unfoldable pub rewriteLeft : List ℕ → List ℕ → List ℕ
+rewriteLeft s old = onRead (readAt s) (λ f. old) (λ f. recordLeft s f old)
