@@ -1,0 +1,172 @@
+-- Demand 2, the form: write after read gives the image exactly where it is in the form; an accepted plain image isn't in the form
+-- exactly for a zero before a scalar byte below 0x80 and for no zero before one of 0x80 or more; every accepted encrypted image is.
+use Prim.Native.Nat.{ℕ, _+_, _%_, _≤_, _<_, _^_}
+use native.Mathlib.Omega.{arith}
+use mathlib.Core.Path.{_≡_, refl, sym, _∙_, ap, ap₂}
+use mathlib.Core.Bool.{Bool, true, false, not}
+use mathlib.Core.List.{List, []}
+use borrow.Author.Tests.{eq-eqb, le-leb, lt-leb, leb-true, leb-false}
+use lib.Dec.{leb}
+use lib.ListN.{length, take, getD}
+use Rattle.fields.specs.Bytes.{AllBytes, sameBytes, same-true, same-self}
+use Rattle.fields.specs.Fields.{whole, viewOf}
+use Rattle.fields.specs.Place.{clash}
+use Rattle.fields.specs.Rest.{rest-whole}
+use Rattle.fields.specs.declared.Part.{Part}
+use Rattle.names.specs.declared.Algorithm.{Algorithm}
+use Rattle.names.specs.declared.Algorithm.the-variants.{Ed25519, Ecdsa}
+use Rattle.names.specs.declared.Curve.{Curve}
+use Rattle.names.specs.declared.Kdf.{Kdf}
+use Rattle.names.specs.declared.Kdf.the-variants as kdf
+use Rattle.format.specs.Format.{OptionsFit, blob, publicLength, pointTag, mayStand, needsLeadingZero, writtenImage, encryptedImage}
+use Rattle.keys.specs.Keys.{afterZero, blobAt}
+use Rattle.keys.specs.Back.{blob-back}
+use Rattle.section.specs.declared.Kind.the-variants.{Plain, Encrypted}
+use Rattle.container.specs.declared.Fields.{Fields}
+use Rattle.container.specs.declared.ImageRead.the-variants as read
+use Rattle.container.specs.Container.{readAt}
+use Rattle.container.specs.Form.{rewritten, formOf, scalarInForm}
+use Rattle.container.specs.Read.{PlainText, EncryptedText, ImageText, plain-text, encrypted-text, image-text}
+use Rattle.container.specs.FormLaws.{agree, form-agrees, form-encrypted, plain-of}
+use Rattle.buffer.specs.Puts.{splice, take-splice}
+use Rattle.reply.specs.declared.Written.{Written}
+use Rattle.reply.specs.declared.Written.the-variants as written
+use Rattle.reply.specs.Reply.{left, sized}
+use Rattle.plain.specs.Plain.{plainReply, plainLeft}
+use Rattle.encrypted.specs.Encrypted.{optionsFit, encryptedReply, encryptedLeft}
+use Rattle.writer.specs.Rewrite.{recordReply, recordLeft, rewriteReply, rewriteLeft}
+use Rattle.claims.specs.Reading.{sized-held}
+
+-- ---- which images are in the form
+
+-- every accepted encrypted image is in the form
+pub encrypted-in-form :
+    (s : List ℕ) (all : AllBytes s) (f : Fields) → readAt s ≡ read.Record f → f .section .kind ≡ Encrypted → formOf s f ≡ true
+encrypted-in-form s all f e kind = go (image-text s all f e)
+  where
+    go : ImageText s all f e → formOf s f ≡ true
+    go (plain-text plain p) = let o : Plain ≡ Encrypted = sym plain ∙ kind in cc
+    go (encrypted-text encrypted p) = form-encrypted s f p encrypted
+
+-- what breaks the form: a zero stands before a scalar byte below 0x80, or none before one of 0x80 or more
+pub data Slip (s : List ℕ) (f : Fields) : Type 0 where
+  needless : (k : Curve) → f .header .algorithm ≡ Ecdsa k → afterZero s (f .section .scalar) ≡ true → getD (viewOf s (f .section .scalar)) 0 0 < 0x80 → Slip s f
+  missing : (k : Curve) → f .header .algorithm ≡ Ecdsa k → afterZero s (f .section .scalar) ≡ false → 0x80 ≤ getD (viewOf s (f .section .scalar)) 0 0 → Slip s f
+
+agree-with-true : (w : Bool) → agree w true ≡ w
+agree-with-true true = refl
+agree-with-true false = refl
+
+agree-with-false : (w : Bool) → agree w false ≡ not w
+agree-with-false true = refl
+agree-with-false false = refl
+
+not-is-false : (w : Bool) → not w ≡ false → w ≡ true
+not-is-false true e = refl
+not-is-false false e = sym e
+
+slip-by :
+    (s : List ℕ) (f : Fields) (a : Algorithm) → f .header .algorithm ≡ a → (zero : Bool) → afterZero s (f .section .scalar) ≡ zero
+    → mayStand a zero ≡ true → agree (needsLeadingZero a (viewOf s (f .section .scalar))) zero ≡ false → Slip s f
+slip-by s f Ed25519 q true z may w = clash cc
+slip-by s f Ed25519 q false z may w = clash cc
+slip-by s f (Ecdsa k) q true z may w = needless k q z (leb-false _ _ (sym (agree-with-true _) ∙ w))
+slip-by s f (Ecdsa k) q false z may w = missing k q z (leb-true _ _ (not-is-false _ (sym (agree-with-false (leb 0x80 (getD (viewOf s (f .section .scalar)) 0 0))) ∙ w)))
+
+-- the rule by the first byte
+rule-by : (k : Curve) (a : Algorithm) (scalar : List ℕ) (b : Bool) → a ≡ Ecdsa k → leb 0x80 (getD scalar 0 0) ≡ b → needsLeadingZero a scalar ≡ b
+rule-by k a scalar b q w = rw q w
+
+module _ (s : List ℕ) (all : AllBytes s) (f : Fields) (e : readAt s ≡ read.Record f) (plain : f .section .kind ≡ Plain) where
+  -- an accepted plain image that isn't in the form has one of the two slips
+  pub form-fails : formOf s f ≡ false → Slip s f
+  form-fails broken =
+      let p = plain-of s all f e plain in
+      slip-by s f (f .header .algorithm) refl (p .zero) (p .after) (p .key-fits .may) (sym (form-agrees s f p plain) ∙ broken)
+
+  -- and either slip takes it out of the form
+  pub slip-fails : Slip s f → formOf s f ≡ false
+  slip-fails (needless k q z below) =
+      let p = plain-of s all f e plain in
+      form-agrees s f p plain
+      ∙ ap₂ agree (rule-by k (f .header .algorithm) (viewOf s (f .section .scalar)) false q (lt-leb _ _ below)) (sym (p .after) ∙ z)
+  slip-fails (missing k q z above) =
+      let p = plain-of s all f e plain in
+      form-agrees s f p plain
+      ∙ ap₂ agree (rule-by k (f .header .algorithm) (viewOf s (f .section .scalar)) true q (le-leb _ _ above)) (sym (p .after) ∙ z)
+
+-- ---- write after read
+
+pub sized-fits : (image : List ℕ) (room : ℕ) → length image ≤ 65535 → length image ≤ room → sized image room ≡ written.Length (length image)
+unfolding sized
+sized-fits image room h k = rw (le-leb _ _ h, le-leb _ _ k)
+
+options-told : (k : Kdf) (salt : List ℕ) (rounds : ℕ) → OptionsFit k salt rounds → optionsFit k salt rounds ≡ true
+options-told kdf.None salt rounds h = rw (h .0, h .1)
+options-told kdf.Bcrypt salt rounds h = refl
+
+module _ (s : List ℕ) (all : AllBytes s) (f : Fields) (e : readAt s ≡ read.Record f) where
+  -- an accepted image's record passes every test of its writer but size and room
+  plain-again : PlainText s f → (room : ℕ) → plainReply (f .header .algorithm) (viewOf s (f .header .point)) (viewOf s (f .section .scalar)) (f .section .checkint)
+      (viewOf s (f .section .comment)) room
+      ≡ sized (writtenImage (f .section .checkint) (f .header .algorithm) (viewOf s (f .header .point)) (viewOf s (f .section .scalar)) (viewOf s (f .section .comment))) room
+  unfolding plainReply
+  plain-again p room = rw (eq-eqb _ _ (p .key-fits .long), eq-eqb _ _ (p .key-fits .private), p .key-fits .tag, p .key-fits .text)
+
+  encrypted-again : EncryptedText s f → (room : ℕ) → encryptedReply (f .header .cipher) (f .header .kdf) (viewOf s (f .header .salt)) (f .header .rounds)
+      (viewOf s (f .header .blob)) (viewOf s (f .section .ciphertext)) (viewOf s (f .section .tag)) room
+      ≡ sized (encryptedImage (f .header .cipher) (f .header .kdf) (viewOf s (f .header .salt)) (f .header .rounds) (viewOf s (f .header .blob))
+      (viewOf s (f .section .ciphertext)) (viewOf s (f .section .tag))) room
+  unfolding encryptedReply
+  encrypted-again p room =
+      let key = viewOf s (f .header .blob) in
+      let fits = p .seal-fits in
+      let whole-good : (0 ≤ length key) × (length key ≤ length key) = (omega arith, omega arith) in
+      let b = blob-back key (whole key) whole-good (f .header .algorithm) (viewOf s (f .header .point)) (fits .long) (fits .tag-byte) (rest-whole key ∙ p .content) in
+      rw (fits .encrypts, options-told (f .header .kdf) (viewOf s (f .header .salt)) (f .header .rounds) (fits .options-fit), b .1, eq-eqb _ _ (fits .blocks), eq-eqb _ _ (fits .tag-long))
+
+  rewrite-sized : (room : ℕ) → rewriteReply s room ≡ sized (rewritten s f) room
+  unfolding rewriteReply recordReply rewritten
+  rewrite-sized room = rw e (go (image-text s all f e))
+    where
+      go : ImageText s all f e → recordReply s f room ≡ sized (rewritten s f) room
+      go (plain-text kind p) = rw kind (plain-again p room)
+      go (encrypted-text kind p) = rw kind (encrypted-again p room)
+
+  rewrite-left : (old : List ℕ) → rewriteLeft s old ≡ left (sized (rewritten s f) (length old)) (rewritten s f) old
+  unfolding rewriteLeft recordLeft rewritten plainLeft encryptedLeft
+  rewrite-left old = rw e (go (image-text s all f e))
+    where
+      go : ImageText s all f e → recordLeft s f old ≡ left (sized (rewritten s f) (length old)) (rewritten s f) old
+      go (plain-text kind p) = rw (kind, plain-again p (length old))
+      go (encrypted-text kind p) = rw (kind, encrypted-again p (length old))
+
+  image-small : length s ≤ 65535
+  image-small = go (image-text s all f e)
+    where
+      go : ImageText s all f e → length s ≤ 65535
+      go (plain-text kind p) = p .fits
+      go (encrypted-text kind p) = p .fits
+
+  -- in the form, writing the record into a buffer with room gives the image
+  pub rewrite-in-form :
+      (old : List ℕ) → formOf s f ≡ true → length s ≤ length old → (rewriteReply s (length old) ≡ written.Length (length s)) × (take (length s) (rewriteLeft s old) ≡ s)
+  unfolding formOf
+  rewrite-in-form old form room =
+      let same : rewritten s f ≡ s = same-true (rewritten s f) s form in
+      let fit : 0 + length s ≤ length old = omega arith in
+      let answer : sized (rewritten s f) (length old) ≡ written.Length (length s) = rw same (sized-fits s (length old) image-small room) in
+      let end : length s ≡ 0 + length s = omega arith in
+      (rewrite-sized (length old) ∙ answer, rw (rewrite-left old, answer, same) (ap (λ (i : ℕ). take i (splice old 0 s)) end ∙ take-splice old 0 s fit))
+
+  -- and where it gives the image, the image is in the form
+  pub rewrite-gives :
+      (old : List ℕ) (k : ℕ) → rewriteReply s (length old) ≡ written.Length k → take k (rewriteLeft s old) ≡ s → formOf s f ≡ true
+  unfolding formOf
+  rewrite-gives old k w same =
+      let answer : sized (rewritten s f) (length old) ≡ written.Length k = sym (rewrite-sized (length old)) ∙ w in
+      let h = sized-held (rewritten s f) (length old) k answer in
+      let fit : 0 + length (rewritten s f) ≤ length old = omega (arith, h .1) in
+      let end : k ≡ 0 + length (rewritten s f) = omega (arith, h .2) in
+      let image : take k (rewriteLeft s old) ≡ rewritten s f = rw (rewrite-left old, answer, end) (take-splice old 0 (rewritten s f) fit) in
+      ap (λ (l : List ℕ). sameBytes (rewritten s f) l) (sym same ∙ image) ∙ same-self (rewritten s f)
