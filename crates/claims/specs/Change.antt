@@ -28,7 +28,7 @@ use Rattle.reply.specs.declared.Written.the-variants as written
 use Rattle.reply.specs.Reply.{onWritten, refused, unless}
 use Rattle.plain.specs.Plain.{plainReply, plainLeft}
 use Rattle.comment.specs.Change.{afresh, afreshReply, afreshLeft, commentField, recordReply, changeReply, changeLeft}
-use Rattle.claims.specs.Laid.{laid, laid-image, laid-zeros, laid-rest, laid-length, changed-laid}
+use Rattle.claims.specs.Laid.{laid, laid-out, laid-length, changed-laid}
 use Rattle.claims.specs.Reading.{held, plain-accepted, plain-written}
 
 -- what an accepted change was given: a plain image in the form, whose record the plain writer takes with the new comment
@@ -145,14 +145,13 @@ change-changes old n comment k e =
     let s = take n old in
     let image = afresh s f comment in
     let l = change-laid old n comment k h e in
+    let o = laid-out image n k old (changeLeft old n comment) (l .0) (l .2) in
     let fit : length image + (n - length image) ≤ length old = omega (arith, l .1, h .inside) in
     record {
       accepted = h;
-      written-afresh =
-          rw (l .2, l .0) (laid-image image (n - length image) old)
-          ∙ sym (plain-is old n comment k h);
-      zeroed = rw (l .2, l .0) (laid-zeros image (n - length image) old);
-      stays = rw (l .2, l .0) (laid-rest image (n - length image) old);
+      written-afresh = o .0 ∙ sym (plain-is old n comment k h);
+      zeroed = o .1;
+      stays = o .2;
       same-length = rw (l .2) (laid-length image (n - length image) old fit);
     }
 

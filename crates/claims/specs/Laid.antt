@@ -43,6 +43,13 @@ changed-laid old image n k end room inside =
     ∙ ap (λ (i : ℕ). drop i old) end-is in
     rw (end, take-append-seam image tail, past) (append-assoc image z (drop (length image + (n - length image)) old))
 
+-- what is found in a buffer so laid, by the two ends
+pub laid-out :
+    (image : List ℕ) (n k : ℕ) (old out : List ℕ) → k ≡ length image → out ≡ laid image (n - length image) old
+    → (take k out ≡ image) × (take (n - k) (drop k out) ≡ zeros (n - k)) × (drop (k + (n - k)) out ≡ drop (k + (n - k)) old)
+laid-out image n k old out e o =
+    rw (o, e) (laid-image image (n - length image) old, laid-zeros image (n - length image) old, laid-rest image (n - length image) old)
+
 -- ---- an image laid over another
 
 zeros-append : (m n : ℕ) → zeros m ++ zeros n ≡ zeros (m + n)
