@@ -2,13 +2,12 @@
 -- comment, leaves; old bytes past the new end become zero; what lies past both ends stays; a refused change leaves every byte.
 use Prim.Native.Nat.{ℕ, _+_, _-_, _≤_}
 use native.Mathlib.Omega.{arith}
-use mathlib.Core.Path.{_≡_, refl, sym, _∙_, ap}
+use mathlib.Core.Path.{_≡_, refl, sym, _∙_}
 use mathlib.Core.Bool.{Bool, true, false, cond}
 use mathlib.Core.List.{List}
-use borrow.Author.Tests.{leb-true, le-leb}
+use borrow.Author.Tests.{leb-true}
 use lib.Dec.{leb}
 use lib.ListN.{length, take, drop}
-use lib.Seq.{take-take, drop-at, take-at}
 use Rattle.fields.specs.Fields.{fault, viewOf}
 use Rattle.fields.specs.Place.{clash}
 use Rattle.fields.specs.declared.Fault.{Fault}
@@ -21,11 +20,10 @@ use Rattle.container.specs.declared.ImageRead.{ImageRead}
 use Rattle.container.specs.declared.ImageRead.the-variants as read
 use Rattle.container.specs.Container.{onRead, readAt}
 use Rattle.container.specs.Form.{onKind, formOf}
-use Rattle.format.specs.Format.{writtenImage}
-use Rattle.buffer.specs.Puts.{splice, zeros, zeros-length, splice-length, take-splice, drop-splice}
+use Rattle.buffer.specs.Puts.{splice, zeros}
 use Rattle.reply.specs.declared.Written.{Written}
 use Rattle.reply.specs.declared.Written.the-variants as written
-use Rattle.reply.specs.Reply.{onWritten, refused, unless}
+use Rattle.reply.specs.Reply.{refused}
 use Rattle.plain.specs.Plain.{plainReply, plainLeft}
 use Rattle.comment.specs.Change.{afresh, afreshReply, afreshLeft, commentField, recordReply, changeReply, changeLeft}
 use Rattle.claims.specs.Laid.{laid, laid-out, laid-length, changed-laid}

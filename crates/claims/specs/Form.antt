@@ -1,10 +1,10 @@
 -- Demand 2, the form: write after read gives the image exactly where it is in the form; an accepted plain image isn't in the form
 -- exactly for a zero before a scalar byte below 0x80 and for no zero before one of 0x80 or more; every accepted encrypted image is.
-use Prim.Native.Nat.{ℕ, _+_, _%_, _≤_, _<_, _^_}
+use Prim.Native.Nat.{ℕ, _+_, _≤_, _<_}
 use native.Mathlib.Omega.{arith}
 use mathlib.Core.Path.{_≡_, refl, sym, _∙_, ap, ap₂}
 use mathlib.Core.Bool.{Bool, true, false, not}
-use mathlib.Core.List.{List, []}
+use mathlib.Core.List.{List}
 use borrow.Author.Tests.{eq-eqb, le-leb, lt-leb, leb-true, leb-false}
 use lib.Dec.{leb}
 use lib.ListN.{length, take, getD}
@@ -12,24 +12,22 @@ use Rattle.fields.specs.Bytes.{AllBytes, sameBytes, same-true, same-self}
 use Rattle.fields.specs.Fields.{whole, viewOf}
 use Rattle.fields.specs.Place.{clash}
 use Rattle.fields.specs.Rest.{rest-whole}
-use Rattle.fields.specs.declared.Part.{Part}
 use Rattle.names.specs.declared.Algorithm.{Algorithm}
 use Rattle.names.specs.declared.Algorithm.the-variants.{Ed25519, Ecdsa}
 use Rattle.names.specs.declared.Curve.{Curve}
 use Rattle.names.specs.declared.Kdf.{Kdf}
 use Rattle.names.specs.declared.Kdf.the-variants as kdf
-use Rattle.format.specs.Format.{OptionsFit, blob, publicLength, pointTag, mayStand, needsLeadingZero, writtenImage, encryptedImage}
-use Rattle.keys.specs.Keys.{afterZero, blobAt}
+use Rattle.format.specs.Format.{OptionsFit, blob, mayStand, needsLeadingZero, writtenImage, encryptedImage}
+use Rattle.keys.specs.Keys.{afterZero}
 use Rattle.keys.specs.Back.{blob-back}
 use Rattle.section.specs.declared.Kind.the-variants.{Plain, Encrypted}
 use Rattle.container.specs.declared.Fields.{Fields}
 use Rattle.container.specs.declared.ImageRead.the-variants as read
 use Rattle.container.specs.Container.{readAt}
-use Rattle.container.specs.Form.{rewritten, formOf, scalarInForm}
+use Rattle.container.specs.Form.{rewritten, formOf}
 use Rattle.container.specs.Read.{PlainText, EncryptedText, ImageText, plain-text, encrypted-text, image-text}
 use Rattle.container.specs.FormLaws.{agree, form-agrees, form-encrypted, plain-of}
 use Rattle.buffer.specs.Puts.{splice, take-splice}
-use Rattle.reply.specs.declared.Written.{Written}
 use Rattle.reply.specs.declared.Written.the-variants as written
 use Rattle.reply.specs.Reply.{left, sized}
 use Rattle.plain.specs.Plain.{plainReply, plainLeft}

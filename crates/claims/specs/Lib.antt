@@ -3,3 +3,6 @@ pub mod Sealed
 pub mod Form
 pub mod Laid
 pub mod Change
+pub mod Bytes
+pub mod Again
+pub mod Sequence

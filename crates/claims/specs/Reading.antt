@@ -1,29 +1,24 @@
 -- Demand 2: reading and writing. Read after write gives the record; write after read gives the image exactly where it is in the
 -- form; what the definition of the format admits within the limits is not refused.
-use Prim.Native.Nat.{ℕ, _+_, _%_, _≤_, _<_, _^_}
+use Prim.Native.Nat.{ℕ, _+_, _≤_, _<_, _^_}
 use native.Mathlib.Omega.{arith}
-use mathlib.Core.Path.{_≡_, refl, sym, _∙_, ap}
-use mathlib.Core.Bool.{Bool, true, false, not, _&&_}
-use mathlib.Core.List.{List, []}
-use borrow.Author.Tests.{eqb-true, leb-true, le-leb}
-use lib.Dec.{eqb, leb}
-use lib.ListN.{length, take, getD}
-use Rattle.fields.specs.Bytes.{AllBytes, both-true, same-true, same-self, length-zero}
-use Rattle.fields.specs.Fields.{whole, viewOf}
-use Rattle.fields.specs.Place.{clash, by-bool}
-use Rattle.fields.specs.declared.Part.{Part}
-use Rattle.fields.specs.declared.Fault.{Fault}
+use mathlib.Core.Path.{_≡_, refl, sym, ap}
+use mathlib.Core.Bool.{Bool, true, false, not}
+use mathlib.Core.List.{List}
+use borrow.Author.Tests.{eqb-true, leb-true}
+use lib.Dec.{leb}
+use lib.ListN.{length, take}
+use Rattle.fields.specs.Place.{clash}
 use Rattle.fields.specs.declared.Refusal.{Refusal}
 use Rattle.names.specs.declared.Algorithm.{Algorithm}
 use Rattle.names.specs.declared.Algorithm.the-variants.{Ed25519, Ecdsa}
-use Rattle.utf8.specs.Utf8.{utf8}
-use Rattle.format.specs.Format.{publicLength, privateLength, pointTag, standing, mayStand, needsLeadingZero, short, content, writtenImage}
+use Rattle.format.specs.Format.{standing, mayStand, needsLeadingZero, short, content, plainImage, writtenImage}
 use Rattle.section.specs.Back.{KeyFits}
 use Rattle.container.specs.Back.{PlainImageBack, plain-image-back}
-use Rattle.buffer.specs.Puts.{splice, take-splice}
+use Rattle.buffer.specs.Puts.{take-splice}
 use Rattle.reply.specs.declared.Written.{Written}
 use Rattle.reply.specs.declared.Written.the-variants as written
-use Rattle.reply.specs.Reply.{refused, unless, left, sized}
+use Rattle.reply.specs.Reply.{refused, unless, sized}
 use Rattle.plain.specs.Plain.{plainReply, plainLeft}
 
 -- ---- an accepted write meets every condition
@@ -100,3 +95,13 @@ module _ (a : Algorithm) (point scalar : List ℕ) (n : ℕ) (comment : List ℕ
       let w = plain-written old k e in
       plain-image-back (take k (plainLeft a point scalar n comment old)) n a (needsLeadingZero a scalar) point scalar comment
       (omega (arith, ap length w, h .small)) small (h .fits) w
+
+-- what the definition of the format admits within the limits is not refused: a key that fits, its scalar in either form that it may
+-- have
+pub plain-admitted :
+    (n : ℕ) (a : Algorithm) (zero : Bool) (point scalar comment : List ℕ) → n < 2 ^ 32 → KeyFits a zero point scalar comment
+    → length (plainImage n a point (standing zero scalar) comment) ≤ 65535
+    → PlainImageBack (plainImage n a point (standing zero scalar) comment) n a point scalar comment
+    (short (length (content n a point (standing zero scalar) comment)))
+plain-admitted n a zero point scalar comment small fits limit =
+    plain-image-back (plainImage n a point (standing zero scalar) comment) n a zero point scalar comment limit small fits refl

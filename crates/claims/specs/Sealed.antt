@@ -3,15 +3,14 @@ use Prim.Native.Nat.{ℕ, _+_, _%_, _≤_, _<_, _^_}
 use native.Mathlib.Omega.{arith}
 use mathlib.Core.Path.{_≡_, refl, sym, _∙_, ap}
 use mathlib.Core.Bool.{Bool, true, false, not}
-use mathlib.Core.List.{List, []}
+use mathlib.Core.List.{List}
 use borrow.Author.Tests.{eqb-true}
 use lib.Dec.{eqb}
 use lib.ListN.{length, take}
 use Rattle.fields.specs.Bytes.{AllBytes, both-true, length-zero}
 use Rattle.fields.specs.Fields.{whole, viewOf}
 use Rattle.fields.specs.Place.{clash}
-use Rattle.fields.specs.Rest.{rest, rest-whole}
-use Rattle.fields.specs.declared.Fault.{Fault}
+use Rattle.fields.specs.Rest.{rest-whole}
 use Rattle.fields.specs.declared.Part.{Part}
 use Rattle.fields.specs.declared.Refusal.the-variants.{Length, Crypto}
 use Rattle.names.specs.declared.Algorithm.{Algorithm}
@@ -19,7 +18,7 @@ use Rattle.names.specs.declared.Cipher.{Cipher}
 use Rattle.names.specs.declared.Kdf.{Kdf}
 use Rattle.names.specs.declared.Kdf.the-variants as kdf
 use Rattle.names.specs.Ciphers.{isNone, blockSize, tagLength}
-use Rattle.format.specs.Format.{OptionsFit, publicLength, pointTag, blob, encryptedImage}
+use Rattle.format.specs.Format.{OptionsFit, blob, encryptedImage}
 use Rattle.keys.specs.declared.Blob.{Blob}
 use Rattle.keys.specs.declared.Blob.the-variants as answer
 use Rattle.keys.specs.Keys.{onBlob, blobAt}
@@ -137,3 +136,11 @@ module _ (c : Cipher) (k : Kdf) (salt : List ℕ) (rounds : ℕ) (key ciphertext
             (omega (arith, ap length w, h .small)) (h .fits)
             (w ∙ ap (λ (b : List ℕ). encryptedImage c k salt rounds b ciphertext tag) (h .public));
       }
+
+-- what the definition of the format admits within the limits is not refused
+pub encrypted-admitted :
+    (c : Cipher) (k : Kdf) (salt : List ℕ) (rounds : ℕ) (a : Algorithm) (point ciphertext tag : List ℕ) → SealFits c k salt rounds a point ciphertext tag
+    → length (encryptedImage c k salt rounds (blob a point) ciphertext tag) ≤ 65535
+    → EncryptedImageBack (encryptedImage c k salt rounds (blob a point) ciphertext tag) c k salt rounds a point ciphertext tag
+encrypted-admitted c k salt rounds a point ciphertext tag fits limit =
+    encrypted-image-back (encryptedImage c k salt rounds (blob a point) ciphertext tag) c k salt rounds a point ciphertext tag limit fits refl

@@ -1,0 +1,144 @@
+-- An image that a change left is read again with the same record but for the comment, and a further change answers as it would have
+-- answered on the first image.
+use Prim.Native.Nat.{ℕ, _+_, _-_, _≤_}
+use mathlib.Core.Path.{_≡_, refl, sym, _∙_, ap, ap₂}
+use mathlib.Core.Bool.{Bool, true, cond}
+use mathlib.Core.List.{List, []}
+use lib.ListN.{length, take}
+use Rattle.fields.specs.Bytes.{AllBytes, sameBytes, same-self}
+use Rattle.fields.specs.Fields.{fault, viewOf}
+use Rattle.fields.specs.declared.Refusal.the-variants.{CharacterEncoding}
+use Rattle.names.specs.declared.Algorithm.{Algorithm}
+use Rattle.names.specs.declared.Cipher.the-variants as cipher
+use Rattle.names.specs.declared.Kdf.the-variants as kdf
+use Rattle.utf8.specs.Utf8.{utf8}
+use Rattle.format.specs.Format.{standing, needsLeadingZero, blob, header, writtenImage}
+use Rattle.section.specs.declared.Kind.the-variants as kind
+use Rattle.section.specs.Read.{beforeComment}
+use Rattle.container.specs.declared.Fields.{Fields}
+use Rattle.container.specs.declared.ImageRead.the-variants as read
+use Rattle.container.specs.Container.{readAt}
+use Rattle.container.specs.Form.{rewritten, formOf}
+use Rattle.container.specs.Read.{PlainText}
+use Rattle.container.specs.FormLaws.{plain-of, form-rule}
+use Rattle.container.specs.Back.{PlainImageBack, plain-image-back}
+use Rattle.reply.specs.declared.Written.{Written}
+use Rattle.reply.specs.declared.Written.the-variants as written
+use Rattle.plain.specs.Plain.{plainReply}
+use Rattle.comment.specs.Change.{afresh, afreshReply, commentField, recordReply}
+use Rattle.comment.specs.Afresh.{all-take, afresh-shell}
+use Rattle.claims.specs.Bytes.{all-shell}
+use Rattle.claims.specs.Reading.{plain-accepted}
+
+-- a plain image in the form and its record: what every change of it begins with
+pub record Base (s : List ℕ) (f : Fields) : Type 0 where
+  pub was-read : readAt s ≡ read.Record f
+  pub plain : f .section .kind ≡ kind.Plain
+  pub form : formOf s f ≡ true
+
+-- where the comment's bytes begin, by the key alone
+abbrev commentPlace : Algorithm → List ℕ → List ℕ → ℕ
+commentPlace a point scalar =
+    length (header cipher.None kdf.None [] 0 (blob a point)) + 4 + beforeComment a point (standing (needsLeadingZero a scalar) scalar) + 4
+
+place-of :
+    (s : List ℕ) → AllBytes s → (f : Fields) → Base s f
+    → f .section .comment .start ≡ commentPlace (f .header .algorithm) (viewOf s (f .header .point)) (viewOf s (f .section .scalar))
+place-of s all f b =
+    let p = plain-of s all f (b .was-read) (b .plain) in
+    let rule = form-rule s f p (b .plain) (b .form) in
+    let a = f .header .algorithm in
+    let point = viewOf s (f .header .point) in
+    let scalar = viewOf s (f .section .scalar) in
+    p .comment-place ∙ ap₂ (λ (i : ℕ) (zero : Bool). i + 4 + beforeComment a point (standing zero scalar) + 4) (p .section-place) (sym rule)
+
+-- what a change answers, by the base
+pub base-reply :
+    (s : List ℕ) (f : Fields) → Base s f → (comment : List ℕ) (room : ℕ)
+    → recordReply s f comment room ≡ cond (utf8 comment) (afreshReply s f comment room) (written.Refused (fault CharacterEncoding (commentField f)))
+unfolding recordReply
+base-reply s f b comment room = rw (b .form, b .plain)
+
+-- two records of the same key and checkint
+pub record SameKey (s : List ℕ) (f : Fields) (t : List ℕ) (g : Fields) : Type 0 where
+  pub algorithm : g .header .algorithm ≡ f .header .algorithm
+  pub point : viewOf t (g .header .point) ≡ viewOf s (f .header .point)
+  pub scalar : viewOf t (g .section .scalar) ≡ viewOf s (f .section .scalar)
+  pub checkint : g .section .checkint ≡ f .section .checkint
+
+module _ (s : List ℕ) (f : Fields) (t : List ℕ) (g : Fields) (k : SameKey s f t g) where
+  pub same-afresh : (comment : List ℕ) → afresh t g comment ≡ afresh s f comment
+  unfolding afresh
+  same-afresh comment = rw (k .algorithm, k .point, k .scalar, k .checkint)
+
+  same-reply : (comment : List ℕ) (room : ℕ) → afreshReply t g comment room ≡ afreshReply s f comment room
+  unfolding afreshReply
+  same-reply comment room = rw (k .algorithm, k .point, k .scalar, k .checkint)
+
+  same-place : AllBytes s → AllBytes t → Base s f → Base t g → commentField g ≡ commentField f
+  same-place hs ht bs bt =
+      let same :
+      commentPlace (g .header .algorithm) (viewOf t (g .header .point)) (viewOf t (g .section .scalar))
+      ≡ commentPlace (f .header .algorithm) (viewOf s (f .header .point)) (viewOf s (f .section .scalar)) = rw (k .algorithm, k .point, k .scalar) in
+      ap (λ (i : ℕ). i - 4) (place-of t ht g bt ∙ same ∙ sym (place-of s hs f bs))
+
+  -- a change of either answers the same
+  pub same-change :
+      AllBytes s → AllBytes t → Base s f → Base t g → (comment : List ℕ) (room : ℕ) → recordReply t g comment room ≡ recordReply s f comment room
+  same-change hs ht bs bt comment room =
+      base-reply t g bt comment room
+      ∙ ap₂ (λ (w : Written) (i : ℕ). cond (utf8 comment) w (written.Refused (fault CharacterEncoding i))) (same-reply comment room) (same-place hs ht bs bt)
+      ∙ sym (base-reply s f bs comment room)
+
+-- ---- an image that a change left
+
+-- a written image that is read back is in the form
+back-form :
+    (t : List ℕ) (n : ℕ) (a : Algorithm) (point scalar comment : List ℕ) (padding : ℕ) → t ≡ writtenImage n a point scalar comment
+    → (b : PlainImageBack t n a point scalar comment padding) → formOf t (b .fields) ≡ true
+unfolding formOf rewritten
+back-form t n a point scalar comment padding e b =
+    rw (b .plain, b .same-checkint, b .same-algorithm, b .same-point, b .same-scalar, b .same-comment)
+    (ap (λ (l : List ℕ). sameBytes l t) (sym e) ∙ same-self t)
+
+-- the record with which it is read again
+pub record ReadAgain (s : List ℕ) (f : Fields) (comment : List ℕ) : Type 0 where
+  pub fields : Fields
+  pub base : Base (afresh s f comment) fields
+  pub same-key : SameKey s f (afresh s f comment) fields
+
+module _ (old : List ℕ) (n : ℕ) (inside : n ≤ length old) (all : AllBytes old) (f : Fields) (b : Base (take n old) f) where
+  text-of : PlainText (take n old) f
+  text-of = plain-of (take n old) (all-take n old all) f (b .was-read) (b .plain)
+
+  -- it is made of bytes
+  pub afresh-bytes : (comment : List ℕ) → AllBytes comment → AllBytes (afresh (take n old) f comment)
+  afresh-bytes comment bytes =
+      rw (afresh-shell old n inside f text-of (form-rule (take n old) f text-of (b .plain) (b .form)) comment)
+      (all-shell old (f .header .section) (commentField f) comment all bytes)
+
+  pub read-again :
+      (comment : List ℕ) (k : ℕ)
+      → plainReply (f .header .algorithm) (viewOf (take n old) (f .header .point)) (viewOf (take n old) (f .section .scalar)) (f .section .checkint) comment (length old)
+      ≡ written.Length k
+      → ReadAgain (take n old) f comment
+  unfolding afresh writtenImage
+  read-again comment k e =
+      let s = take n old in
+      let a = f .header .algorithm in
+      let point = viewOf s (f .header .point) in
+      let scalar = viewOf s (f .section .scalar) in
+      let c = f .section .checkint in
+      let h = plain-accepted a point scalar c comment (length old) k e in
+      let r = plain-image-back (afresh s f comment) c a (needsLeadingZero a scalar) point scalar comment (h .small) (text-of .checkint-fits) (h .fits) refl in
+      record {
+        fields = r .fields;
+        base = record { was-read = r .read; plain = r .plain; form = back-form (afresh s f comment) c a point scalar comment _ refl r };
+        same-key =
+            record {
+              algorithm = r .same-algorithm;
+              point = r .same-point;
+              scalar = r .same-scalar;
+              checkint = r .same-checkint;
+            };
+      }
