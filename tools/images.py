@@ -5,10 +5,13 @@ between: 'section.scalar', 'options.salt'. The lengths follow the contents, unle
 """
 import copy
 import hashlib
+import pathlib
 from dataclasses import dataclass
 from typing import NamedTuple
 
 from fields import ALGORITHMS, CIPHERS, ED25519, MAGIC, SIZES
+
+CORPUS = pathlib.Path(__file__).resolve().parent / "corpus"
 
 
 @dataclass
@@ -226,3 +229,9 @@ ALL_ENCRYPTED = {
     "none aes128-cbc": encrypted(0, b"aes128-cbc", kdf=b"none"),
 }
 GOOD = {**ALL_PLAIN, **ALL_ENCRYPTED}
+
+
+def corpus():
+    """Real files without their armour."""
+    for path in sorted(CORPUS.glob("*.bin")):
+        yield Case(path.stem, path.read_bytes())

@@ -1,10 +1,12 @@
 #!/usr/bin/env python3
-"""Makes the stored vectors of crates/replay anew: the images, and what must be answered to each.
+"""Makes the stored vectors of crates/replay and crates/replay_writing anew: the images and the calls, and what must be
+answered to each.
 
-    python3 tools/make_vectors.py            writes crates/replay/data/vectors and crates/replay/stdout
+    python3 tools/make_vectors.py            writes data/vectors, data/calls and stdout of the two crates
     python3 tools/make_vectors.py --check    only compares them with what would be written; exit status 1 if they differ
 
-It comes out the same each time: the images are made here or stored in tools/corpus, and the answers are model.py's.
+It comes out the same each time: the images are made here or stored in tools/corpus, and the answers are those of model.py
+and model_writing.py. Of the calls of the writers and of the comment change calls.py says how they are stored and printed.
 In the file of images each is its length, 4 bytes big-endian, and its bytes. For each image there are in stdout
   - `read` and 25 numbers: number, count, at, kind, algorithm, cipher, KDF, rounds, checkint, padding, section (where
     its length, or the ciphertext's, begins), then start and length of blob, point, scalar, comment, salt, ciphertext
@@ -16,24 +18,34 @@ import collections
 import pathlib
 import sys
 
+import calls
 import model
+from cases_change import change_rows
+from cases_encrypted import encrypted_rows
 from cases_header import header_cases
 from cases_marked import marked_cases
+from cases_plain import plain_rows
+from cases_rewrite import rewrite_rows
 from cases_section import section_cases
 from damage import damages
 from fields import content
-from images import Case
+from images import corpus
 
-TOOLS = pathlib.Path(__file__).resolve().parent
-REPLAY = TOOLS.parent / "crates" / "replay"
+CRATES = pathlib.Path(__file__).resolve().parent.parent / "crates"
+REPLAY = CRATES / "replay"
+WRITING = CRATES / "replay_writing"
 PARTS = ["blob", "point", "scalar", "comment", "salt", "ciphertext", "tag"]
 NUMBERS = ["number", "count", "at", "kind", "algorithm", "cipher", "kdf", "rounds", "checkint", "padding", "section"]
-MUST_OCCUR = [0, 1, 2, 3, 4, 5, 6, 7, 11]
+MUST_OCCUR = {
+    "read": [0, 1, 2, 3, 4, 5, 6, 7, 11],
+    "plain": [0, 1, 2, 7, 9, 11],
+    "encrypted": [0, 1, 2, 3, 4, 6, 9, 11],
+    "rewrite": [0, 1, 2, 3, 4, 5, 6, 7, 9, 11],
+    "change": [0, 1, 2, 3, 4, 5, 6, 7, 8, 9, 10, 11],
+}
 
 
-def corpus():
-    for path in sorted((TOOLS / "corpus").glob("*.bin")):
-        yield Case(path.stem, path.read_bytes())
+# ---- images
 
 
 def all_cases():
@@ -77,31 +89,76 @@ def expected(image):
     return numbers_line("read", numbers + places) + numbers_line("views", sums) + model.report(image)
 
 
+# ---- calls
+
+
+def all_rows():
+    yield from plain_rows()
+    yield from encrypted_rows()
+    yield from rewrite_rows()
+    yield from change_rows()
+
+
+def hold_call(row, call, reply, before, after):
+    """The model's reply and buffer must be what the maker of the call meant, and what was written must be read back."""
+    if call.reply not in (None, reply) or call.after not in (None, after):
+        sys.exit(f"{row.title}: meant {call.reply}, but the model says {reply}, or leaves another buffer")
+    if reply.number != 0 and after != before:
+        sys.exit(f"{row.title}: refused, but the buffer is changed")
+    if reply.number == 0 and not model.form(after[: reply.length]):
+        sys.exit(f"{row.title}: what was written isn't read back as in the form")
+
+
+def rows():
+    """Every row once with its answers, in the order in which they were made."""
+    once = {}
+    for row in all_rows():
+        answers = list(calls.answers(row))
+        befores = [row.buffer, *(after for _, _, after in answers)]
+        for before, (call, reply, after) in zip(befores, answers):
+            hold_call(row, call, reply, before, after)
+        once.setdefault(calls.stored(row), answers)
+    return once
+
+
+# ---- both
+
+
 def made():
-    """The files by their paths, and the images."""
-    vectors = images()
+    """The files by their paths, and how often each entry gives each reply number."""
+    vectors, written = images(), rows()
     data = b"".join(len(image).to_bytes(4, "big") + image for image in vectors)
-    text = "".join(expected(image) for image in vectors).encode()
-    return {REPLAY / "data" / "vectors": data, REPLAY / "stdout": text}, vectors
+    text = "".join(expected(image) for image in vectors)
+    answers = [answer for row in written.values() for answer in row]
+    lines = "".join(calls.line(call.entry, reply, after) for call, reply, after in answers)
+    count = collections.Counter(("read", model.read(image).number) for image in vectors)
+    count.update((call.entry, reply.number) for call, reply, _ in answers)
+    files = {
+        REPLAY / "data" / "vectors": data,
+        REPLAY / "stdout": text.encode(),
+        WRITING / "data" / "calls": b"".join(written),
+        WRITING / "stdout": lines.encode(),
+    }
+    return files, count, vectors
 
 
-def summary(files, vectors):
-    count = collections.Counter(model.read(image).number for image in vectors)
-    for number in sorted(count):
-        print(f"reply {number}: {count[number]}")
-    if any(number not in count for number in MUST_OCCUR):
-        sys.exit("a reply number doesn't occur")
+def summary(files, count, vectors):
+    for entry, must_occur in MUST_OCCUR.items():
+        found = {number: times for (of, number), times in sorted(count.items()) if of == entry}
+        replies = ", ".join(f"{number}: {times}" for number, times in found.items())
+        print(f"{entry}: {sum(found.values())} (reply {replies})")
+        if sorted(found) != must_occur:
+            sys.exit(f"{entry}: the reply numbers should be {must_occur}")
     not_in_form = sum(model.read(image).number == 0 and not model.form(image) for image in vectors)
-    print(f"accepted but not in the form: {not_in_form}")
-    print(f"images: {len(vectors)}")
+    print(f"read, accepted but not in the form: {not_in_form}")
     for path, content_of in files.items():
-        print(f"{path.relative_to(REPLAY)}: {len(content_of)} bytes")
+        print(f"{path.relative_to(CRATES)}: {len(content_of)} bytes")
 
 
 def check(files):
     different = [path for path, wanted in files.items() if not path.exists() or path.read_bytes() != wanted]
     for path in different:
-        print(f"different: {path.relative_to(REPLAY.parent.parent)}")
+        print(f"different: {path.relative_to(CRATES.parent)}")
     return 1 if different else 0
 
 
@@ -113,8 +170,8 @@ def store(files):
 
 
 def main():
-    files, vectors = made()
-    summary(files, vectors)
+    files, count, vectors = made()
+    summary(files, count, vectors)
     return check(files) if "--check" in sys.argv[1:] else store(files)
 
 

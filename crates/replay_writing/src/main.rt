@@ -1,0 +1,339 @@
+// Replays the stored calls of the writers and of the comment change: reads them from the file `calls` and
+// writes for each its reply and the whole lent buffer afterwards.
+//
+// Every number in the file is four bytes, big-endian. The calls stand in rows: how many they are, the
+// buffer that is lent to them one after another, the length of the image in it, and the calls. A call is
+// its code, three numbers and four texts:
+//   0 plain      algorithm, 1 to derive the checkint or 0, checkint; public, private, comment, nothing
+//   1 encrypted  cipher, KDF, rounds; salt, blob, ciphertext, tag
+//   2 rewrite    0, 0, 0; image, nothing, nothing, nothing
+//   3 change     0 for the length that the last accepted call answered, or 1 for the number that follows,
+//                its upper half and its lower half; comment, nothing, nothing, nothing
+// A text is how many pieces it has, and then each piece: the length of a unit, the length of the piece, and
+// the unit, which is to be repeated over the piece.
+use fields::Part;
+use keys::Checkint;
+use keys::Material;
+use libc::STDOUT_FILENO;
+use names::Algorithm;
+use names::Cipher;
+use names::Curve;
+use names::Kdf;
+use reply::Written;
+
+fn word(w: &[u8]) {
+    io::write_all(STDOUT_FILENO, w);
+}
+
+// A number after a space.
+fn say_number(n: usize) {
+    word(b" ");
+    io::print_decimal(STDOUT_FILENO, n as u64);
+}
+
+// ---- reading the file
+
+fn joined(a: u8, b: u8, c: u8, d: u8) -> u32 {
+    (((a as u32) * 256 + (b as u32)) * 256 + (c as u32)) * 256 + (d as u32)
+}
+
+// A number; 0 at the end of the file.
+fn number(fd: i32) -> u32 {
+    let mut head = [0u8; 4];
+    io::read_full(fd, &mut head);
+    joined(head[0], head[1], head[2], head[3])
+}
+
+// Each byte from `from` up to `end` becomes the one that stands `unit` before it.
+fn repeat(buf: &mut [u8], from: usize, end: usize, unit: usize) {
+    if buf.len() < end {
+        return;
+    }
+    if from < unit {
+        return;
+    }
+    let mut i = from;
+    while i < end {
+        buf[i] = buf[i - unit];
+        i += 1;
+    }
+}
+
+// One piece of a text, put at a place; answers the place after it.
+fn piece(fd: i32, buf: &mut [u8], at: usize) -> usize {
+    let unit = number(fd) as usize;
+    let length = number(fd) as usize;
+    if buf.len() < at {
+        return at;
+    }
+    if buf.len() - at < length {
+        return at;
+    }
+    if length < unit {
+        return at;
+    }
+    io::read_full(fd, &mut buf[at..at + unit]);
+    repeat(buf, at + unit, at + length, unit);
+    at + length
+}
+
+// A text, put at a place; answers the place after it.
+fn text(fd: i32, buf: &mut [u8], start: usize) -> usize {
+    let mut left = number(fd);
+    let mut at = start;
+    while left > 0 {
+        at = piece(fd, buf, at);
+        left -= 1;
+    }
+    at
+}
+
+// What a call is given: three numbers, and where its four texts end that stand one after another.
+struct Given {
+    x: u32,
+    y: u32,
+    z: u32,
+    a: usize,
+    b: usize,
+    c: usize,
+    d: usize,
+}
+
+fn read_given(fd: i32, texts: &mut [u8]) -> Given {
+    let x = number(fd);
+    let y = number(fd);
+    let z = number(fd);
+    let a = text(fd, texts, 0);
+    let b = text(fd, texts, a);
+    let c = text(fd, texts, b);
+    let d = text(fd, texts, c);
+    Given {
+        x: x,
+        y: y,
+        z: z,
+        a: a,
+        b: b,
+        c: c,
+        d: d,
+    }
+}
+
+// The bytes from a place up to another.
+fn between(bytes: &[u8], start: usize, end: usize) -> &[u8] {
+    let part = Part {
+        start: start,
+        length: std::num::wrapping_sub_usize(end, start),
+    };
+    fields::view(bytes, part)
+}
+
+// ---- codes
+
+fn algorithm_of(code: u32) -> Algorithm {
+    match code {
+        0 => Algorithm::Ed25519,
+        1 => Algorithm::Ecdsa(Curve::Nistp256),
+        2 => Algorithm::Ecdsa(Curve::Nistp384),
+        _ => Algorithm::Ecdsa(Curve::Nistp521),
+    }
+}
+
+fn cipher_of(code: u32) -> Cipher {
+    match code {
+        0 => Cipher::None,
+        1 => Cipher::TripleDesCbc,
+        2 => Cipher::Aes128Cbc,
+        3 => Cipher::Aes192Cbc,
+        4 => Cipher::Aes256Cbc,
+        5 => Cipher::Aes128Ctr,
+        6 => Cipher::Aes192Ctr,
+        7 => Cipher::Aes256Ctr,
+        8 => Cipher::Aes128Gcm,
+        _ => Cipher::Aes256Gcm,
+    }
+}
+
+fn kdf_of(code: u32) -> Kdf {
+    if code == 0 {
+        return Kdf::None;
+    }
+    Kdf::Bcrypt
+}
+
+fn checkint_of(derive: u32, value: u32) -> Checkint {
+    if derive == 1 {
+        return Checkint::Derived;
+    }
+    Checkint::Given(value)
+}
+
+// The length that was carried on, or the one that the file gives.
+fn length_of(of: Given, n: usize) -> usize {
+    if of.x == 0 {
+        return n;
+    }
+    (of.y as usize) * 4294967296 + (of.z as usize)
+}
+
+// ---- the calls
+
+fn call_plain(of: Given, texts: &[u8], lent: &mut [u8]) -> Written {
+    let public = between(texts, 0, of.a);
+    let private = between(texts, of.a, of.b);
+    let comment = between(texts, of.b, of.c);
+    let m = Material::new(algorithm_of(of.x), public, private);
+    plain::write_plain(m, checkint_of(of.y, of.z), comment, lent)
+}
+
+fn call_encrypted(of: Given, texts: &[u8], lent: &mut [u8]) -> Written {
+    let cipher = cipher_of(of.x);
+    let kdf = kdf_of(of.y);
+    let salt = between(texts, 0, of.a);
+    let blob = between(texts, of.a, of.b);
+    let ciphertext = between(texts, of.b, of.c);
+    let tag = between(texts, of.c, of.d);
+    encrypted::write_encrypted(cipher, kdf, salt, of.z, blob, ciphertext, tag, lent)
+}
+
+// The entry with this code.
+fn call(code: u32, of: Given, n: usize, texts: &[u8], lent: &mut [u8]) -> Written {
+    match code {
+        0 => call_plain(of, texts, lent),
+        1 => call_encrypted(of, texts, lent),
+        2 => writer::rewrite(between(texts, 0, of.a), lent),
+        _ => comment::change_comment(lent, length_of(of, n), between(texts, 0, of.a)),
+    }
+}
+
+// Reads what an entry is to be given, and calls it.
+fn stored_call(fd: i32, code: u32, n: usize, lent: &mut [u8]) -> Written {
+    let mut texts = [0u8; 70000];
+    let of = read_given(fd, &mut texts);
+    call(code, of, n, &texts, lent)
+}
+
+// ---- what is written of each call
+
+fn wide(x: u8) -> u64 {
+    x as u64
+}
+
+fn say_hex(bytes: &[u8]) {
+    let mut i: usize = 0;
+    while i < bytes.len() {
+        io::print_hex(STDOUT_FILENO, wide(bytes[i]), 2);
+        i += 1;
+    }
+}
+
+// One byte more of a long buffer, which is taken as a single big-endian number modulo a prime.
+fn next_rest(rest: u64, byte: u8) -> u64 {
+    ((rest % 72057594037927931) * 256 + (byte as u64)) % 72057594037927931
+}
+
+fn rest_of(bytes: &[u8]) -> u64 {
+    let mut rest: u64 = 0;
+    let mut i: usize = 0;
+    while i < bytes.len() {
+        rest = next_rest(rest, bytes[i]);
+        i += 1;
+    }
+    rest
+}
+
+// A short buffer byte by byte, a long one by what remains of it modulo the prime.
+fn say_buffer(bytes: &[u8]) {
+    say_number(bytes.len());
+    if bytes.len() <= 256 {
+        word(b" hex:");
+        say_hex(bytes);
+    } else {
+        word(b" mod:");
+        io::print_decimal(STDOUT_FILENO, rest_of(bytes));
+    }
+    word(b"\n");
+}
+
+fn say_entry(code: u32) {
+    let names = b"plain    encryptedrewrite  change   ";
+    let start = (code as usize) * 9;
+    word(between(names, start, start + 9));
+}
+
+fn say_numbers(number: usize, count: usize, at: usize, length: usize) {
+    say_number(number);
+    say_number(count);
+    say_number(at);
+    say_number(length);
+}
+
+// The reply; answers the length of the image in the buffer from now on.
+fn say_reply(written: Written, n: usize) -> usize {
+    match written {
+        Written::Refused(f) => {
+            let why = f.why;
+            say_numbers(why.number() as usize, why.count(), f.at, 0);
+            n
+        }
+        Written::Length(length) => {
+            say_numbers(0, 0, 0, length);
+            length
+        }
+    }
+}
+
+// ---- the rows
+
+// One call on the lent buffer; answers the length of the image in it from now on.
+fn called(fd: i32, n: usize, lent: &mut [u8]) -> usize {
+    let code = number(fd);
+    say_entry(code);
+    let written = stored_call(fd, code, n, lent);
+    let length = say_reply(written, n);
+    say_buffer(lent);
+    length
+}
+
+fn all_calls(fd: i32, calls: u32, length: usize, lent: &mut [u8]) {
+    let mut n = length;
+    let mut left = calls;
+    while left > 0 {
+        n = called(fd, n, lent);
+        left -= 1;
+    }
+}
+
+// One row; whether there was one.
+fn row(fd: i32) -> bool {
+    let calls = number(fd);
+    if calls == 0 {
+        return false;
+    }
+    let mut buffer = [0u8; 66000];
+    let room = text(fd, &mut buffer, 0);
+    let n = number(fd) as usize;
+    if room > 66000 {
+        return false;
+    }
+    all_calls(fd, calls, n, &mut buffer[0..room]);
+    true
+}
+
+// A proved loop has to end, so it counts its turns down.
+fn all(fd: i32) {
+    let mut turns = u64::MAX;
+    while turns > 0 && row(fd) {
+        turns -= 1;
+    }
+}
+
+fn main() {
+    let path = b"calls";
+    let fd = os::open_read(path);
+    if fd < 0 {
+        os::fail(path);
+        return;
+    }
+    all(fd);
+    libc::close(fd);
+}

@@ -1,0 +1,162 @@
+"""Calls of the writers and of the comment change, in rows: each row has a lent buffer and the calls that are made on it one
+after another. How they are stored for crates/replay_writing, and what it must print.
+
+In the file of calls every number is 4 bytes, big-endian. A row is how many calls it has, the buffer that is lent to them, the
+length of the image in it, and the calls. A call is its code, three numbers and four texts:
+  0 plain      algorithm, 1 to derive the checkint or 0, checkint; public, private, comment, nothing
+  1 encrypted  cipher, KDF, rounds; salt, blob, ciphertext, tag
+  2 rewrite    0, 0, 0; image, nothing, nothing, nothing
+  3 change     0 for the length that the last accepted call answered, the lent image's until one was, or 1 for the number
+               that follows, its upper half and its lower half; comment, nothing, nothing, nothing
+A text is how many pieces it has, and each piece is the length of a unit, the length of the piece, and the unit, which is
+repeated over the piece. So 65,301 times one byte take 13 bytes.
+
+For each call a line is printed: the entry, number, count, at, the length that was written, the buffer's length and all of
+the buffer: `hex:` and its bytes if it has up to 256, else `mod:` and what remains if the buffer, as one big-endian number,
+is divided by a prime just below 2**56. A change of any single byte always shows there.
+"""
+import re
+from typing import NamedTuple
+
+import model_writing
+from images import point_of, scalar_of
+from model_writing import Reply
+
+CODES = {"plain": 0, "encrypted": 1, "rewrite": 2, "change": 3}
+PRIME = 2**56 - 5
+SHORT = 256
+LARGE = 66000  # the longest buffer that the program takes: it has room for an image above the limit
+TEXTS = 70000  # what the texts of a call may have together
+FILL = b"\xa1\xb2\xc3\xd4\xe5\xf6\x97"  # no zeros, and no run of one byte
+REPEATED = re.compile(rb"(.{1,13}?)\1{11,}", re.DOTALL)
+
+
+class Call(NamedTuple):
+    """An entry and its arguments, without the buffer. Where it is said: the reply that is meant, and the buffer after it."""
+
+    entry: str
+    arguments: tuple
+    reply: Reply = None
+    after: bytes = None
+
+
+class Row(NamedTuple):
+    title: str
+    buffer: bytes
+    calls: list
+    n: int = 0  # the length of the image that the buffer begins with
+
+
+# ---- what the cases are made of
+
+
+def refuses(number, count=0, at=0):
+    return Reply(number, count, at, 0)
+
+
+def writes(length):
+    return Reply(0, 0, 0, length)
+
+
+def filled(length):
+    """A buffer in which every change shows."""
+    return (FILL * (length // len(FILL) + 1))[:length]
+
+
+def lent(image, extra=0):
+    """A buffer that begins with an image and goes on with so many other bytes."""
+    return image + filled(extra)
+
+
+def plain(algorithm, public=None, private=None, checkint=0x01020304, comment=b"oven-12", reply=None, after=None):
+    """A call of the plain writer. The checkint None is the derived one."""
+    public = point_of(algorithm) if public is None else public
+    private = scalar_of(algorithm) if private is None else private
+    return Call("plain", (algorithm, public, private, checkint, comment), reply, after)
+
+
+def encrypted(cipher, kdf, salt, rounds, blob, ciphertext, tag, reply=None, after=None):
+    return Call("encrypted", (cipher, kdf, salt, rounds, blob, ciphertext, tag), reply, after)
+
+
+def rewrite(image, reply=None, after=None):
+    return Call("rewrite", (image,), reply, after)
+
+
+def change(comment, reply=None, n=None, after=None):
+    """A comment change; without an n it is given the length that the last accepted call answered."""
+    return Call("change", (n, comment), reply, after)
+
+
+# ---- what the model says
+
+
+def answers(row):
+    """Each call of a row with its reply and the buffer after it."""
+    buffer, n = row.buffer, row.n
+    for call in row.calls:
+        arguments = call.arguments
+        if call.entry == "change" and arguments[0] is None:
+            arguments = (n, arguments[1])
+        reply, buffer = getattr(model_writing, call.entry)(*arguments, buffer=buffer)
+        n = reply.length if reply.number == 0 else n
+        yield call, reply, buffer
+
+
+def line(entry, reply, buffer):
+    """What is printed of a call."""
+    if len(buffer) <= SHORT:
+        whole = "hex:" + buffer.hex()
+    else:
+        whole = f"mod:{int.from_bytes(buffer, 'big') % PRIME}"
+    return " ".join([f"{entry:<9}", *map(str, reply), str(len(buffer)), whole]) + "\n"
+
+
+# ---- how it is stored
+
+
+def numbers(*values):
+    return b"".join(value.to_bytes(4, "big") for value in values)
+
+
+def piece(unit, length):
+    return numbers(len(unit), length) + unit
+
+
+def text(whole):
+    pieces, place = [], 0
+    for run in REPEATED.finditer(whole):
+        if run.start() > place:
+            pieces.append(piece(whole[place : run.start()], run.start() - place))
+        pieces.append(piece(run.group(1), run.end() - run.start()))
+        place = run.end()
+    if place < len(whole):
+        pieces.append(piece(whole[place:], len(whole) - place))
+    return numbers(len(pieces)) + b"".join(pieces)
+
+
+def stored_arguments(entry, arguments):
+    """The three numbers and the texts of a call."""
+    if entry == "plain":
+        algorithm, public, private, checkint, comment = arguments
+        return numbers(algorithm, checkint is None, checkint or 0), [public, private, comment]
+    if entry == "encrypted":
+        cipher, kdf, salt, rounds, *texts = arguments
+        return numbers(cipher, kdf, rounds), [salt, *texts]
+    if entry == "rewrite":
+        return numbers(0, 0, 0), [*arguments]
+    n, comment = arguments
+    return numbers(n is not None, *divmod(n or 0, 2**32)), [comment]
+
+
+def stored_call(call):
+    head, texts = stored_arguments(call.entry, call.arguments)
+    assert sum(map(len, texts)) <= TEXTS
+    texts += [b""] * (4 - len(texts))
+    return numbers(CODES[call.entry]) + head + b"".join(map(text, texts))
+
+
+def stored(row):
+    assert len(row.buffer) <= LARGE
+    head = numbers(len(row.calls)) + text(row.buffer) + numbers(row.n)
+    return head + b"".join(map(stored_call, row.calls))

@@ -1,0 +1,11 @@
+#!/bin/sh
+# tools/run_program.sh NAME: runs the built program target/bin/NAME, from standard input to standard output. Programs are for x86-64;
+# the kit brings their loader and, for another processor, an emulator.
+set -eu
+root=$(cd "$(dirname "$0")/.." && pwd)
+kit=$(dirname "$(dirname "$(rt doc)")")
+tools=$kit/on/$(uname -m)/toolchain
+[ -d "$tools" ] || tools=$kit/toolchain
+emulator=$tools/bin/qemu-x86_64
+[ -x "$emulator" ] || emulator=
+exec ${emulator:+"$emulator"} "$tools/lib/ld-linux-x86-64.so.2" --library-path "$tools/lib" "$root/target/bin/$1"
