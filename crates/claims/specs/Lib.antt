@@ -1,3 +1,5 @@
+-- Demand 2: Reading, Sealed, Form. Demand 3: Change, Sequence. The marked examples: Marked. The paper's wrong programs: ShutOut.
+-- The others hold what these rest on.
 pub mod Reading
 pub mod Sealed
 pub mod Form
@@ -5,4 +7,8 @@ pub mod Laid
 pub mod Change
 pub mod Bytes
 pub mod Again
+pub mod Kept
 pub mod Sequence
+pub mod Sizes
+pub mod Marked
+pub mod ShutOut

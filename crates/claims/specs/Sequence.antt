@@ -1,36 +1,26 @@
 -- Demand 3, any sequence of changes, refused ones among them. The first bytes, as many as the last answered length, are what the last
 -- accepted comment alone would give, or the first image; bytes past every end reached stay; those between the last end and the
 -- furthest are zero.
-use Prim.Native.Nat.{ℕ, _+_, _-_, _≤_}
+use Prim.Native.Nat.{ℕ, _+_, _-_}
 use native.Mathlib.Omega.{arith}
-use mathlib.Core.Path.{_≡_, refl, sym, _∙_, ap, ap₂}
+use mathlib.Core.Path.{_≡_, refl, sym, _∙_, ap}
 use mathlib.Core.List.{List, [], _∷_}
-use borrow.Author.Tests.{le-leb}
 use lib.ListN.{length, take, drop}
 use Rattle.fields.specs.Bytes.{AllBytes}
 use Rattle.fields.specs.Fields.{viewOf}
 use Rattle.fields.specs.declared.Fault.{Fault}
 use Rattle.container.specs.declared.Fields.{Fields}
-use Rattle.container.specs.declared.ImageRead.the-variants as read
-use Rattle.container.specs.Container.{readAt}
 use Rattle.buffer.specs.Puts.{zeros}
 use Rattle.reply.specs.declared.Written.{Written}
 use Rattle.reply.specs.declared.Written.the-variants as written
 use Rattle.reply.specs.Reply.{onWritten}
-use Rattle.plain.specs.Plain.{plainReply}
-use Rattle.comment.specs.Change.{afresh, recordReply, changeReply, changeLeft}
-use Rattle.comment.specs.Afresh.{all-take}
-use Rattle.claims.specs.Laid.{laid, laid-image, laid-length, laid-out, relaid}
-use Rattle.claims.specs.Reading.{plain-accepted}
-use Rattle.claims.specs.Change.{change-accepted, change-laid, refused-stays}
-use Rattle.claims.specs.Again.{Base, ReadAgain, read-again, afresh-bytes, same-afresh, same-change}
+use Rattle.plain.specs.Plain.{plainLeft}
+use Rattle.comment.specs.Change.{afresh, changeReply, changeLeft}
+use Rattle.claims.specs.Laid.{laid, laid-out}
+use Rattle.claims.specs.Change.{ChangeAccepted, change-accepted, change-laid, change-changes, refused-stays}
+use Rattle.claims.specs.Kept.{State, Kept, one-record, imageOf, reply-again, left-again}
 
 -- ---- a sequence of changes
-
--- a buffer, and the length that the last accepted change answered, the first image's until one was
-pub record State : Type 0 where
-  pub buf : List ℕ
-  pub n : ℕ
 
 pub data Last : Type 0 where
   none : Last
@@ -63,97 +53,6 @@ furthest (c ∷ cs) s far = furthest cs (after c s) (far + (after c s .n - far))
 pub data Texts : List (List ℕ) → Type 0 where
   no-texts : Texts []
   texts : (c : List ℕ) (cs : List (List ℕ)) → AllBytes c → Texts cs → Texts (c ∷ cs)
-
--- ---- one change after others
-
-change-of :
-    (old : List ℕ) (n : ℕ) (f : Fields) → n ≤ 65535 → n ≤ length old → Base (take n old) f → (comment : List ℕ)
-    → changeReply old n comment ≡ recordReply (take n old) f comment (length old)
-unfolding changeReply
-change-of old n f small inside b comment = rw (le-leb _ _ small, le-leb _ _ inside, b .was-read)
-
--- what holds after changes of which `comment` was the last accepted
-pub record Kept (s : State) (comment : List ℕ) (far : ℕ) (u : State) : Type 0 where
-  pub fields : Fields
-  pub small : s .n ≤ 65535
-  pub inside : s .n ≤ length (s .buf)
-  pub base : Base (take (s .n) (s .buf)) fields
-  pub answered : changeReply (s .buf) (s .n) comment ≡ written.Length (u .n)
-  pub writes :
-      plainReply (fields .header .algorithm) (viewOf (take (s .n) (s .buf)) (fields .header .point)) (viewOf (take (s .n) (s .buf)) (fields .section .scalar))
-      (fields .section .checkint) comment (length (s .buf))
-      ≡ written.Length (u .n)
-  pub bytes : AllBytes comment
-  pub size : u .n ≡ length (afresh (take (s .n) (s .buf)) fields comment)
-  pub stands : u .buf ≡ laid (afresh (take (s .n) (s .buf)) fields comment) (far - u .n) (s .buf)
-  pub reached : u .n ≤ far
-  pub first-end : s .n ≤ far
-  pub room : far ≤ length (s .buf)
-
--- an image is read in one way
-one-record : (s : List ℕ) (f g : Fields) → readAt s ≡ read.Record f → readAt s ≡ read.Record g → f ≡ g
-one-record s f g e w = let o : read.Record f ≡ read.Record g = sym e ∙ w in cc
-
-module _ (s : State) (all : AllBytes (s .buf)) (comment : List ℕ) (far : ℕ) (u : State) (k : Kept s comment far u) where
-  -- the image with another comment
-  imageOf : List ℕ → List ℕ
-  imageOf c = afresh (take (s .n) (s .buf)) (k .fields) c
-
-  again : ReadAgain (take (s .n) (s .buf)) (k .fields) comment
-  again = read-again (s .buf) (s .n) (k .inside) all (k .fields) (k .base) comment (u .n) (k .writes)
-
-  first-bytes : take (u .n) (u .buf) ≡ imageOf comment
-  unfolding imageOf
-  first-bytes = ap₂ (λ (i : ℕ) (l : List ℕ). take i l) (k .size) (k .stands) ∙ laid-image (imageOf comment) (far - u .n) (s .buf)
-
-  same-room : length (u .buf) ≡ length (s .buf)
-  unfolding imageOf
-  same-room = ap length (k .stands) ∙ laid-length (imageOf comment) (far - u .n) (s .buf) (omega (arith, k .size, k .reached, k .room))
-
-  small-again : u .n ≤ 65535
-  unfolding imageOf afresh
-  small-again =
-      let h = plain-accepted _ _ _ _ comment (length (s .buf)) (u .n) (k .writes) in
-      omega (arith, h .small, h .size)
-
-  inside-again : u .n ≤ length (u .buf)
-  inside-again = omega (arith, same-room, k .reached, k .room)
-
-  base-again : Base (take (u .n) (u .buf)) (again .fields)
-  unfolding imageOf
-  base-again = rw first-bytes (again .base)
-
-  -- a further change answers as it would have on the first image
-  reply-again : (c : List ℕ) → changeReply (u .buf) (u .n) c ≡ changeReply (s .buf) (s .n) c
-  unfolding imageOf
-  reply-again c =
-      let g = again .fields in
-      change-of (u .buf) (u .n) g small-again inside-again base-again c
-      ∙ ap₂ (λ (t : List ℕ) (room : ℕ). recordReply t g c room) first-bytes same-room
-      ∙ same-change (take (s .n) (s .buf)) (k .fields) (imageOf comment) g (again .same-key) (all-take (s .n) (s .buf) all)
-      (afresh-bytes (s .buf) (s .n) (k .inside) all (k .fields) (k .base) comment (k .bytes)) (k .base) (again .base) c (length (s .buf))
-      ∙ sym (change-of (s .buf) (s .n) (k .fields) (k .small) (k .inside) (k .base) c)
-
-  -- and leaves what it would have left, with zeros up to the furthest end
-  left-again :
-      (c : List ℕ) (m : ℕ) → changeReply (u .buf) (u .n) c ≡ written.Length m
-      → (m ≡ length (imageOf c)) × (changeLeft (u .buf) (u .n) c ≡ laid (imageOf c) (far - m) (s .buf)) × (m ≤ length (s .buf))
-  unfolding imageOf
-  left-again c m e =
-      let h = change-accepted (u .buf) (u .n) c m e in
-      let l = change-laid (u .buf) (u .n) c m h e in
-      let same : afresh (take (u .n) (u .buf)) (h .fields) c ≡ imageOf c =
-      ap₂ (λ (t : List ℕ) (g : Fields). afresh t g c) first-bytes (one-record (take (u .n) (u .buf)) (h .fields) (again .fields) (h .was-read) (base-again .was-read))
-      ∙ same-afresh (take (s .n) (s .buf)) (k .fields) (imageOf comment) (again .fields) (again .same-key) c in
-      let size : m ≡ length (imageOf c) = l .0 ∙ ap length same in
-      let far-is : length (imageOf comment) + (far - u .n) - length (imageOf c) ≡ far - m = omega (arith, k .size, size, k .reached) in (
-        size,
-        l .2 ∙ ap (λ (x : List ℕ). laid x (u .n - length x) (u .buf)) same
-            ∙ ap₂ (λ (i : ℕ) (b : List ℕ). laid (imageOf c) (i - length (imageOf c)) b) (k .size) (k .stands)
-            ∙ relaid (imageOf comment) (imageOf c) (far - u .n) (s .buf)
-            ∙ ap (λ (z : ℕ). laid (imageOf c) z (s .buf)) far-is,
-        omega (arith, l .0, l .1, same-room),
-      )
 
 -- ---- after a change
 
@@ -283,3 +182,15 @@ ends s (last comment) far t h = kept-ends s comment far t h
 pub sequence :
     (s : State) → AllBytes (s .buf) → (cs : List (List ℕ)) → Texts cs → Ends s (lastOf cs s none) (furthest cs s (s .n)) (changes cs s)
 sequence s all cs t = ends s (lastOf cs s none) (furthest cs s (s .n)) (changes cs s) (run s all cs t none (s .n) s (refl, refl))
+
+-- and that image is the plain writer's: of the first record's own material and checkint, with the last accepted comment
+pub sequence-afresh :
+    (s : State) (comment : List ℕ) (far : ℕ) (t : State) → Ends s (last comment) far t
+    → (h : ChangeAccepted (s .buf) (s .n) comment (t .n))
+    × (take (t .n) (t .buf)
+    ≡ take (t .n)
+    (plainLeft (h .fields .header .algorithm) (viewOf (take (s .n) (s .buf)) (h .fields .header .point))
+    (viewOf (take (s .n) (s .buf)) (h .fields .section .scalar)) (h .fields .section .checkint) comment (s .buf)))
+sequence-afresh s comment far t e =
+    let c = change-changes (s .buf) (s .n) comment (t .n) (e .0) in
+    (c .accepted, e .1 ∙ c .written-afresh)

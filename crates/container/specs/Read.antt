@@ -30,7 +30,8 @@ use Rattle.section.specs.declared.Section.{Section}
 use Rattle.section.specs.declared.SectionRead.the-variants as section-read
 use Rattle.section.specs.Section.{plainAt, encryptedAt}
 use Rattle.section.specs.Back.{KeyFits}
-use Rattle.section.specs.Read.{by-section, beforeComment, PlainRead, plain-read, EncryptedRead, encrypted-read}
+use Rattle.section.specs.Read.{by-section, beforeComment, PlainRead, plain-read}
+use Rattle.section.specs.ReadEncrypted.{EncryptedRead, encrypted-read}
 use Rattle.container.specs.declared.Fields.{Fields}
 use Rattle.container.specs.declared.ImageRead.the-variants as read
 use Rattle.container.specs.Container.{kdfNamePlace, sectionAt, readAt}

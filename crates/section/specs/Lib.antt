@@ -1,3 +1,4 @@
 pub mod Section
 pub mod Back
 pub mod Read
+pub mod ReadEncrypted

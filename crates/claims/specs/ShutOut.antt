@@ -1,0 +1,209 @@
+-- What the contracts shut out: no program that meets its contract refuses everything, replies the same always, stores nothing, makes
+-- up the count of number 6, or changes the first comment and only says so for later ones. A program here is any function of what it
+-- is given.
+use Prim.Native.Nat.{ℕ, zero, suc, _-_, _<_, _^_}
+use native.Mathlib.Omega.{arith}
+use mathlib.Core.Path.{_≡_, refl, sym, _∙_, ap}
+use mathlib.Core.Bool.{true}
+use mathlib.Core.List.{List, [], _∷_}
+use borrow.Author.Tests.{le-leb}
+use lib.ListN.{length, take, getD, replicate}
+use lib.Seq.{take-length}
+use Rattle.fields.specs.Bytes.{uint32, string, same-self}
+use Rattle.fields.specs.Place.{clash}
+use Rattle.fields.specs.Refusals.{numberOf, countOf}
+use Rattle.fields.specs.declared.Fault.{Fault}
+use Rattle.names.specs.declared.Algorithm.{Algorithm}
+use Rattle.names.specs.declared.Algorithm.the-variants.{Ed25519}
+use Rattle.format.specs.Format.{magic, blob, header, standing, needsLeadingZero, short, content, section, plainImage, writtenImage}
+use Rattle.container.specs.declared.ImageRead.{ImageRead}
+use Rattle.container.specs.declared.ImageRead.the-variants as read
+use Rattle.container.specs.Container.{readAt}
+use Rattle.container.specs.Back.{PlainImageBack, plain-image-back}
+use Rattle.container.specs.Form.{rewritten, formOf}
+use Rattle.reply.specs.declared.Written.{Written}
+use Rattle.reply.specs.declared.Written.the-variants as written
+use Rattle.plain.specs.Plain.{plainReply, plainLeft, isPlain}
+use Rattle.comment.specs.Change.{afreshReply, afreshLeft, recordReply, changeReply, changeLeft}
+use Rattle.claims.specs.Reading.{PlainAccepted, plain-accepted, plain-written}
+use Rattle.claims.specs.Laid.{laid, laid-length, changed-laid, laid-out}
+use Rattle.claims.specs.Sizes.{Key, Ascii, ed25519-takes}
+use Rattle.claims.specs.Marked.{other-scalars, marked}
+
+-- ---- plain writers
+
+-- what a writer is given: algorithm, public bytes, private bytes, checkint, comment, and the buffer
+pub record Writer : Type 0 where
+  pub reply : Algorithm → List ℕ → List ℕ → ℕ → List ℕ → List ℕ → Written
+  pub leaves : Algorithm → List ℕ → List ℕ → ℕ → List ℕ → List ℕ → List ℕ
+
+-- that it meets the contract of a plain write, whatever it is given
+abbrev pub MeetsPlain : Writer → Type 0
+MeetsPlain w =
+    (a : Algorithm) (point scalar : List ℕ) (n : ℕ) (comment old : List ℕ)
+    → isPlain a point scalar n comment old (w .reply a point scalar n comment old) (w .leaves a point scalar n comment old)
+
+-- an Ed25519 key, as good as any
+abbrev bytes32 : List ℕ
+bytes32 = replicate 32 0
+
+key : Key Ed25519 bytes32 bytes32
+key = record { long = refl; tag = refl; private = refl }
+
+-- comments of c letters
+letters : (c : ℕ) → Ascii (replicate c 97)
+letters zero k h = omega arith
+letters (suc c) zero h = omega arith
+letters (suc c) (suc k) h = letters c k (omega arith)
+
+-- without a comment it takes 234 bytes (M5), with one of 6 bytes 242 (M7)
+takes-234 : plainReply Ed25519 bytes32 bytes32 7 [] 300 ≡ written.Length 234
+takes-234 = marked .m5 bytes32 bytes32 7 [] key (letters 0) refl .answer 300 (omega arith)
+
+takes-242 : plainReply Ed25519 bytes32 bytes32 7 (replicate 6 97) 300 ≡ written.Length 242
+takes-242 = marked .m7 bytes32 bytes32 7 (replicate 6 97) key (letters 6) refl .answer 300 (omega arith)
+
+-- a buffer with room for both
+abbrev buffer : List ℕ
+buffer = replicate 300 0
+
+module _ (w : Writer) (meets : MeetsPlain w) where
+  -- no writer that meets the contract refuses everything: an Ed25519 key is written
+  pub refuses-all :
+      ((a : Algorithm) (point scalar : List ℕ) (n : ℕ) (comment old : List ℕ) → (g : Fault) × (w .reply a point scalar n comment old ≡ written.Refused g)) → ⊥
+  refuses-all refuses =
+      let r = refuses Ed25519 bytes32 bytes32 7 [] buffer in
+      let e : written.Refused (r .0) ≡ written.Length 234 = sym (r .1) ∙ meets Ed25519 bytes32 bytes32 7 [] buffer .0 ∙ takes-234 in
+      clash cc
+
+  -- none replies the same always: M5 and M7 have different lengths
+  pub replies-same :
+      (r : Written) → ((a : Algorithm) (point scalar : List ℕ) (n : ℕ) (comment old : List ℕ) → w .reply a point scalar n comment old ≡ r) → ⊥
+  replies-same r same =
+      let e₁ : r ≡ written.Length 234 = sym (same Ed25519 bytes32 bytes32 7 [] buffer) ∙ meets Ed25519 bytes32 bytes32 7 [] buffer .0 ∙ takes-234 in
+      let e₂ : r ≡ written.Length 242 =
+      sym (same Ed25519 bytes32 bytes32 7 (replicate 6 97) buffer) ∙ meets Ed25519 bytes32 bytes32 7 (replicate 6 97) buffer .0 ∙ takes-242 in
+      let e : _≡_ {A = ℕ} 234 242 = cc in
+      omega arith
+
+  -- none stores nothing: where an image was written, the buffer begins with the magic
+  pub stores-nothing :
+      ((a : Algorithm) (point scalar : List ℕ) (n : ℕ) (comment old : List ℕ) → w .leaves a point scalar n comment old ≡ old) → ⊥
+  unfolding writtenImage plainImage header magic
+  stores-nothing same =
+      let kept : plainLeft Ed25519 bytes32 bytes32 7 [] buffer ≡ buffer = sym (meets Ed25519 bytes32 bytes32 7 [] buffer .1) ∙ same Ed25519 bytes32 bytes32 7 [] buffer in
+      let image : take 234 buffer ≡ writtenImage 7 Ed25519 bytes32 bytes32 [] =
+      ap (take 234) (sym kept) ∙ plain-written Ed25519 bytes32 bytes32 7 [] buffer 234 takes-234 in
+      let e : _≡_ {A = ℕ} 0 111 = ap (λ (l : List ℕ). getD l 0 0) image in
+      omega arith
+
+-- ---- readers
+
+-- no reader that meets the contract makes up the count, one for all refusals with number 6: a scalar field of 34 bytes has 2 too
+-- many (M13), one of 35 bytes 3
+pub made-up-count :
+    (reader : List ℕ → ImageRead) → ((s : List ℕ) → reader s ≡ readAt s)
+    → (count : ℕ) → ((s : List ℕ) (g : Fault) → reader s ≡ read.Refused g → numberOf (g .why) ≡ 6 → countOf (g .why) ≡ count) → ⊥
+made-up-count reader meets count same =
+    let two = other-scalars .1 in
+    let three = other-scalars .3 in
+    let e₁ = same _ _ (meets _ ∙ two .read) (two .number-is) in
+    let e₂ = same _ _ (meets _ ∙ three .read) (three .number-is) in
+    let c₁ = two .count-is in
+    let c₂ = three .count-is in
+    omega arith
+
+-- ---- comment changes
+
+-- what a comment change is given: the buffer, the image's length, the comment
+pub record Changer : Type 0 where
+  pub reply : List ℕ → ℕ → List ℕ → Written
+  pub leaves : List ℕ → ℕ → List ℕ → List ℕ
+
+-- that it meets the contract of a change, whatever it is given
+abbrev pub MeetsChange : Changer → Type 0
+MeetsChange w = (old : List ℕ) (n : ℕ) (comment : List ℕ) → (w .reply old n comment ≡ changeReply old n comment) × (w .leaves old n comment ≡ changeLeft old n comment)
+
+-- a written image in a buffer of its length, changed to a comment that takes the same length, becomes the image with that comment
+module _ (a : Algorithm) (point scalar : List ℕ) (n : ℕ) (fit : n < 2 ^ 32) (first second : List ℕ) (k : ℕ)
+    (was : PlainAccepted a point scalar n first k k) (fits : plainReply a point scalar n second k ≡ written.Length k) where
+  abbrev s : List ℕ
+  s = writtenImage n a point scalar first
+
+  back : PlainImageBack s n a point scalar first (short (length (content n a point (standing (needsLeadingZero a scalar) scalar) first)))
+  unfolding writtenImage
+  back = plain-image-back s n a (needsLeadingZero a scalar) point scalar first (was .small) fit (was .fits) refl
+
+  all : take k s ≡ s
+  all = ap (λ (i : ℕ). take i s) (was .size) ∙ take-length s
+
+  in-form : formOf s (back .fields) ≡ true
+  unfolding formOf rewritten
+  in-form =
+      rw (back .plain, back .same-checkint, back .same-algorithm, back .same-point, back .same-scalar, back .same-comment) (same-self s)
+
+  change-reply : changeReply s k second ≡ written.Length k
+  unfolding changeReply recordReply afreshReply
+  change-reply =
+      let will = plain-accepted a point scalar n second k k fits in
+      rw (all, le-leb k 65535 (omega (arith, was .small, was .size)), le-leb k (length s) (omega (arith, was .size)), back .read, back .plain, in-form)
+      (rw (will .fits .text, back .same-checkint, back .same-algorithm, back .same-point, back .same-scalar, sym (was .size)) fits)
+
+  change-leaves : changeLeft s k second ≡ writtenImage n a point scalar second
+  unfolding changeLeft afreshLeft plainLeft
+  change-leaves =
+      let will = plain-accepted a point scalar n second k k fits in
+      let image = writtenImage n a point scalar second in
+      let room : plainReply a point scalar n second (length s) ≡ written.Length k = rw (sym (was .size)) fits in
+      let out : changeLeft s k second ≡ laid image (k - length image) s =
+      rw (change-reply, all, back .read, back .same-checkint, back .same-algorithm, back .same-point, back .same-scalar, room)
+      (changed-laid s image k k (will .size) (omega (arith, was .size, will .size)) (omega (arith, was .size))) in
+      let long : length (changeLeft s k second) ≡ k =
+      ap length out ∙ laid-length image (k - length image) s (omega (arith, was .size, will .size)) ∙ sym (was .size) in
+      sym (take-length (changeLeft s k second)) ∙ ap (λ (i : ℕ). take i (changeLeft s k second)) long
+      ∙ laid-out image k k s (changeLeft s k second) (will .size) out .0
+
+-- the key's image with a comment of one letter
+abbrev lettered : ℕ → List ℕ
+lettered letter = writtenImage 7 Ed25519 bytes32 bytes32 (letter ∷ [])
+
+takes-letter : (letter : ℕ) → letter < 0x80 → plainReply Ed25519 bytes32 bytes32 7 (letter ∷ []) 234 ≡ written.Length 234
+takes-letter letter h = ed25519-takes 1 234 4 refl (omega arith) refl bytes32 bytes32 7 (letter ∷ []) key text refl .answer 234 (omega arith)
+  where
+    text : Ascii (letter ∷ [])
+    text zero l = h
+    text (suc k) l = omega arith
+
+-- one letter changed to another
+relettered :
+    (x y : ℕ) → x < 0x80 → y < 0x80
+    → (changeReply (lettered x) 234 (y ∷ []) ≡ written.Length 234) × (changeLeft (lettered x) 234 (y ∷ []) ≡ lettered y)
+relettered x y hx hy =
+    let h = plain-accepted Ed25519 bytes32 bytes32 7 (x ∷ []) 234 234 (takes-letter x hx) in (
+      change-reply Ed25519 bytes32 bytes32 7 (omega arith) (x ∷ []) (y ∷ []) 234 h (takes-letter y hy),
+      change-leaves Ed25519 bytes32 bytes32 7 (omega arith) (x ∷ []) (y ∷ []) 234 h (takes-letter y hy),
+    )
+
+-- the letter stands in the image
+letter-at : (letter : ℕ) → getD (lettered letter) 229 0 ≡ letter
+unfolding writtenImage plainImage header magic blob section content string uint32
+letter-at letter = refl
+
+-- no comment change that meets the contract changes the first comment and only says so for later ones, leaving the buffer as the
+-- first change left it wherever it accepts the next
+pub first-only :
+    (w : Changer) → MeetsChange w
+    → ((old : List ℕ) (n : ℕ) (first second : List ℕ) (k m : ℕ) → w .reply old n first ≡ written.Length k
+    → w .reply (w .leaves old n first) k second ≡ written.Length m → w .leaves (w .leaves old n first) k second ≡ w .leaves old n first)
+    → ⊥
+first-only w meets stays =
+    let to-b = relettered 97 98 (omega arith) (omega arith) in
+    let to-c = relettered 98 99 (omega arith) (omega arith) in
+    let b : w .leaves (lettered 97) 234 (98 ∷ []) ≡ lettered 98 = meets (lettered 97) 234 (98 ∷ []) .1 ∙ to-b .1 in
+    let c : w .leaves (lettered 98) 234 (99 ∷ []) ≡ lettered 99 = meets (lettered 98) 234 (99 ∷ []) .1 ∙ to-c .1 in
+    let same : w .leaves (lettered 98) 234 (99 ∷ []) ≡ lettered 98 =
+    rw b at
+    (stays (lettered 97) 234 (98 ∷ []) (99 ∷ []) 234 234 (meets (lettered 97) 234 (98 ∷ []) .0 ∙ to-b .0)
+    (rw b (meets (lettered 98) 234 (99 ∷ []) .0 ∙ to-c .0))) in
+    let e : _≡_ {A = ℕ} 99 98 = sym (letter-at 99) ∙ ap (λ (l : List ℕ). getD l 229 0) (sym c ∙ same) ∙ letter-at 98 in
+    omega arith
