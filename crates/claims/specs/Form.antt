@@ -5,7 +5,7 @@ use native.Mathlib.Omega.{arith}
 use mathlib.Core.Path.{_≡_, refl, sym, _∙_, ap, ap₂}
 use mathlib.Core.Bool.{Bool, true, false, not}
 use mathlib.Core.List.{List}
-use borrow.Author.Tests.{eq-eqb, le-leb, lt-leb, leb-true, leb-false}
+use borrow.Author.Tests.{eq-eqb, le-leb, lt-leb, leb-true, leb-false, not-false}
 use lib.Dec.{leb}
 use lib.ListN.{length, take, getD}
 use Rattle.fields.specs.Bytes.{AllBytes, sameBytes, same-true, same-self}
@@ -33,6 +33,8 @@ use Rattle.reply.specs.Reply.{left, sized}
 use Rattle.plain.specs.Plain.{plainReply, plainLeft}
 use Rattle.encrypted.specs.Encrypted.{optionsFit, encryptedReply, encryptedLeft}
 use Rattle.writer.specs.Rewrite.{recordReply, recordLeft, rewriteReply, rewriteLeft}
+use Rattle.comment.specs.Change.{afresh, afreshReply}
+use Rattle.comment.specs.Afresh.{afresh-sized}
 use Rattle.claims.specs.Reading.{sized-held}
 
 -- ---- which images are in the form
@@ -59,17 +61,13 @@ agree-with-false : (w : Bool) → agree w false ≡ not w
 agree-with-false true = refl
 agree-with-false false = refl
 
-not-is-false : (w : Bool) → not w ≡ false → w ≡ true
-not-is-false true e = refl
-not-is-false false e = sym e
-
 slip-by :
     (s : List ℕ) (f : Fields) (a : Algorithm) → f .header .algorithm ≡ a → (zero : Bool) → afterZero s (f .section .scalar) ≡ zero
     → mayStand a zero ≡ true → agree (needsLeadingZero a (viewOf s (f .section .scalar))) zero ≡ false → Slip s f
 slip-by s f Ed25519 q true z may w = clash cc
 slip-by s f Ed25519 q false z may w = clash cc
 slip-by s f (Ecdsa k) q true z may w = needless k q z (leb-false _ _ (sym (agree-with-true _) ∙ w))
-slip-by s f (Ecdsa k) q false z may w = missing k q z (leb-true _ _ (not-is-false _ (sym (agree-with-false (leb 0x80 (getD (viewOf s (f .section .scalar)) 0 0))) ∙ w)))
+slip-by s f (Ecdsa k) q false z may w = missing k q z (leb-true _ _ (not-false _ (sym (agree-with-false (leb 0x80 (getD (viewOf s (f .section .scalar)) 0 0))) ∙ w)))
 
 -- the rule by the first byte
 rule-by : (k : Curve) (a : Algorithm) (scalar : List ℕ) (b : Bool) → a ≡ Ecdsa k → leb 0x80 (getD scalar 0 0) ≡ b → needsLeadingZero a scalar ≡ b
@@ -108,8 +106,8 @@ module _ (s : List ℕ) (all : AllBytes s) (f : Fields) (e : readAt s ≡ read.R
   plain-again : PlainText s f → (room : ℕ) → plainReply (f .header .algorithm) (viewOf s (f .header .point)) (viewOf s (f .section .scalar)) (f .section .checkint)
       (viewOf s (f .section .comment)) room
       ≡ sized (writtenImage (f .section .checkint) (f .header .algorithm) (viewOf s (f .header .point)) (viewOf s (f .section .scalar)) (viewOf s (f .section .comment))) room
-  unfolding plainReply
-  plain-again p room = rw (eq-eqb _ _ (p .key-fits .long), eq-eqb _ _ (p .key-fits .private), p .key-fits .tag, p .key-fits .text)
+  unfolding afreshReply afresh
+  plain-again p room = afresh-sized s f p (viewOf s (f .section .comment)) (p .key-fits .text) room
 
   encrypted-again : EncryptedText s f → (room : ℕ) → encryptedReply (f .header .cipher) (f .header .kdf) (viewOf s (f .header .salt)) (f .header .rounds)
       (viewOf s (f .header .blob)) (viewOf s (f .section .ciphertext)) (viewOf s (f .section .tag)) room

@@ -2,9 +2,9 @@
 use Prim.Native.Nat.{ℕ, _+_, _%_, _≤_, _<_, _^_}
 use native.Mathlib.Omega.{arith}
 use mathlib.Core.Path.{_≡_, refl, sym, _∙_, ap}
-use mathlib.Core.Bool.{Bool, true, false, not}
+use mathlib.Core.Bool.{true, false, not}
 use mathlib.Core.List.{List}
-use borrow.Author.Tests.{eqb-true}
+use borrow.Author.Tests.{eqb-true, not-true}
 use lib.Dec.{eqb}
 use lib.ListN.{length, take}
 use Rattle.fields.specs.Bytes.{AllBytes, both-true, length-zero}
@@ -46,10 +46,6 @@ options-hold kdf.None salt rounds small e =
     let b = both-true (eqb (length salt) 0) (eqb rounds 0) e in
     (length-zero salt (eqb-true _ _ (b .0)), eqb-true _ _ (b .1))
 options-hold kdf.Bcrypt salt rounds small e = small
-
-not-true-false : (b : Bool) → not b ≡ true → b ≡ false
-not-true-false true e = sym e
-not-true-false false e = refl
 
 module _ (c : Cipher) (k : Kdf) (salt : List ℕ) (rounds : ℕ) (key ciphertext tag : List ℕ) where
   -- what an accepted encrypted write was given: its blob is a public key's
@@ -99,7 +95,7 @@ module _ (c : Cipher) (k : Kdf) (salt : List ℕ) (rounds : ℕ) (key ciphertext
   encrypted-accepted room m all small e =
       let h₁ = held (not (isNone c)) _ _ m e in
       let h₂ = held (optionsFit k salt rounds) _ _ m (h₁ .1) in
-      sealed-held room m all (not-true-false (isNone c) (h₁ .0)) (options-hold k salt rounds small (h₂ .0))
+      sealed-held room m all (not-true (isNone c) (h₁ .0)) (options-hold k salt rounds small (h₂ .0))
       (by-blob key (blobAt key (whole key)) (λ a p. lastTests room) m refl (h₂ .1))
 
   -- the first bytes of the buffer are then the image
