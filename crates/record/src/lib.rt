@@ -2,11 +2,37 @@
 // own image, the empty part where the record lacks the field or its place isn't within the image.
 ghost use mathlib.Core.Path.{_≡_};
 ghost use Rattle.fields.specs.Fields.{isView};
+ghost use Rattle.record.specs.Reply.{isReply};
 use container::Fields;
 
 pub struct Record<'a> {
     pub image: &'a [u8],
     pub fields: Fields,
+}
+
+// What a read answers: the refusal's number, count and place, 0 where the image is accepted, and the record,
+// over no bytes and with no field where it is refused.
+pub struct Reply<'a> {
+    pub number: u8,
+    pub count: usize,
+    pub at: usize,
+    pub held: Record<'a>,
+}
+
+pub fn read<'a>(image: &'a [u8]) -> Reply<'a>
+    ensures { λ r. ⌜ isReply (r .number) (r .count) (r .at) (r .held .image) (r .held .fields) (image .entry) ⌝ }
+{
+    let found = found::find(image);
+    let over = found::held(image, found);
+    Reply {
+        number: found.number,
+        count: found.count,
+        at: found.at,
+        held: Record {
+            image: over,
+            fields: found.fields,
+        },
+    }
 }
 
 pub fn comment<'a>(r: Record<'a>) -> &'a [u8]

@@ -1,0 +1,41 @@
+-- `found::no_fields` meets its contract: each place is absent. Rests on the callee's contract.
+use borrow.Author.Needs.{needs}
+use Rattle.found.proofs.no_fields.Statement.{statement}
+use Rattle.found.proofs.no_fields.Tie as tie
+
+nowhere-requires : tie.Need-nowhere-requires
+nowhere-requires c κs = search needs
+
+nowhere-requires-2 : tie.Need-nowhere-requires-2
+nowhere-requires-2 c κs = search needs
+
+nowhere-requires-3 : tie.Need-nowhere-requires-3
+nowhere-requires-3 c κs = search needs
+
+nowhere-requires-4 : tie.Need-nowhere-requires-4
+nowhere-requires-4 c κs = search needs
+
+nowhere-requires-5 : tie.Need-nowhere-requires-5
+nowhere-requires-5 c κs = search needs
+
+nowhere-requires-6 : tie.Need-nowhere-requires-6
+nowhere-requires-6 c κs = search needs
+
+nowhere-requires-7 : tie.Need-nowhere-requires-7
+nowhere-requires-7 c κs = search needs
+
+returns : tie.Need-returns
+returns c = rw (c .before .before .before .before .before .before .nowhere .ensures, c .before .before .before .before .before .nowhere2 .ensures, c .before .before .before .before .nowhere3 .ensures, c .before .before .before .nowhere4 .ensures, c .before .before .nowhere5 .ensures, c .before .nowhere6 .ensures, c .nowhere7 .ensures)
+
+pub no-fields-spec : {M : Type 1} → statement M
+no-fields-spec =
+    tie.close
+    (tie.spec
+    nowhere-requires
+    nowhere-requires-2
+    nowhere-requires-3
+    nowhere-requires-4
+    nowhere-requires-5
+    nowhere-requires-6
+    nowhere-requires-7
+    returns)
