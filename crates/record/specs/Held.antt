@@ -2,16 +2,25 @@
 use Prim.Native.Nat.{ℕ, _+_, _≤_}
 use native.Mathlib.Nat.{add-zero}
 use native.Mathlib.Omega.{arith}
-use mathlib.Core.Path.{_≡_, sym, _∙_, ap, ap₂}
-use mathlib.Core.List.{List}
+use mathlib.Core.Path.{_≡_, refl, sym, _∙_, ap, ap₂}
+use mathlib.Core.Bool.{false}
+use mathlib.Core.List.{List, []}
+use lib.Dec.{eqb}
 use lib.ListN.{length}
 use lib.Seq.{take-all}
 use denote.Ref.{RefT, now}
-use Rattle.fields.specs.Fields.{part, viewOf, viewStart, isView}
+use Rattle.fields.specs.Fields.{part, absent, viewOf, viewStart, isView}
 use Rattle.fields.specs.Room.{view-in, start-in}
+use Rattle.fields.specs.Refusals.{numberOf}
 use Rattle.fields.specs.declared.Part.{Part}
+use Rattle.fields.specs.declared.Fault.{Fault}
+use Rattle.fields.specs.declared.Refusal.{Refusal}
+use Rattle.fields.specs.declared.Refusal.the-variants.{Length, FormatEncoding, Crypto, AlgorithmUnknown, PublicKey, TrailingData, CharacterEncoding, Encrypted, Room, Form, Size}
 use Rattle.container.specs.declared.Fields.{Fields}
-use Rattle.found.specs.Found.{foundAt, heldPart}
+use Rattle.container.specs.declared.ImageRead.the-variants as read
+use Rattle.container.specs.Container.{readAt}
+use Rattle.judge.specs.Judge.{by-read}
+use Rattle.found.specs.Found.{noFields, foundAt, heldPart}
 use Rattle.record.specs.Reply.{isReply}
 
 -- the whole of an image is the image
@@ -37,3 +46,55 @@ read-then-view image over v number count at fields p r accepted w =
       w .1 ∙ o .1,
       w .2 ∙ ap₂ (λ (i : ℕ) (s : List ℕ). i + viewStart s p) start same,
     )
+
+-- ---- so also for the comment of any image, a refused one's the empty part
+
+absent-view : (s : List ℕ) → (viewOf s absent ≡ []) × (viewStart s absent ≡ 0)
+absent-view s =
+    let fit : 0 + 0 ≤ length s = omega arith in
+    (view-in s absent fit, start-in s absent fit)
+
+absent-absent : (image over v : RefT (List ℕ)) → isView over image absent → isView v over absent → isView v image absent
+absent-absent image over v o w = (
+  w .0 ∙ absent-view (now over) .0 ∙ sym (absent-view (now image) .0),
+  w .1 ∙ o .1,
+  w .2 ∙ ap (λ (i : ℕ). over .ptr .1 + i) (absent-view (now over) .1) ∙ add-zero (over .ptr .1) ∙ o .2,
+)
+
+never-zero : (why : Refusal) → eqb (numberOf why) 0 ≡ false
+never-zero Length = refl
+never-zero FormatEncoding = refl
+never-zero Crypto = refl
+never-zero AlgorithmUnknown = refl
+never-zero PublicKey = refl
+never-zero (TrailingData left) = refl
+never-zero CharacterEncoding = refl
+never-zero Encrypted = refl
+never-zero Room = refl
+never-zero Form = refl
+never-zero Size = refl
+
+found-none : (s : List ℕ) (g : Fault) → readAt s ≡ read.Refused g → (foundAt s .fields ≡ noFields) × (eqb (foundAt s .number) 0 ≡ false)
+unfolding foundAt
+found-none s g e = rw e (refl, never-zero (g .why))
+
+found-zero : (s : List ℕ) (f : Fields) → readAt s ≡ read.Record f → foundAt s .number ≡ 0
+unfolding foundAt
+found-zero s f e = rw e
+
+pub read-then-comment :
+    (image over v : RefT (List ℕ)) (number count at : ℕ) (fields : Fields) → isReply number count at over fields image
+    → isView v over (fields .section .comment) → isView v image (foundAt (now image) .fields .section .comment)
+unfolding heldPart
+read-then-comment image over v number count at fields r w =
+    by-read (readAt (now image))
+    (λ g e.
+    let none = found-none (now image) g e in
+    let o : isView over image absent = rw (none .1) at (r .4) in
+    let lacks : fields ≡ noFields = r .3 ∙ none .0 in
+    let x : isView v over absent = rw lacks at w in
+    rw (none .0) (absent-absent image over v o x))
+    (λ f e.
+    let zero : number ≡ 0 = r .0 ∙ found-zero (now image) f e in
+    let x : isView v image (fields .section .comment) = read-then-view image over v number count at fields (fields .section .comment) r zero w in
+    rw (← r .3) x)

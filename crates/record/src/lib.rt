@@ -2,8 +2,12 @@
 // own image, the empty part where the record lacks the field or its place isn't within the image.
 ghost use mathlib.Core.Path.{_≡_};
 ghost use Rattle.fields.specs.Fields.{isView};
+ghost use lib.ListN.{length};
+ghost use Rattle.found.specs.Found.{foundAt};
 ghost use Rattle.record.specs.Reply.{isReply};
+ghost use Rattle.writer.specs.Rewrite.{handedReply, handedLeft};
 use container::Fields;
+use reply::Written;
 
 pub struct Record<'a> {
     pub image: &'a [u8],
@@ -75,4 +79,19 @@ pub fn tag<'a>(r: Record<'a>) -> &'a [u8]
     ensures { λ v. ⌜ isView v (r .entry .image) (r .entry .fields .section .tag) ⌝ }
 {
     container::tag(r.image, r.fields)
+}
+
+// The comment of an image; of a refused or an encrypted one, which has none, the empty part.
+pub fn comment_of(image: &[u8]) -> &[u8]
+    ensures { λ v. ⌜ isView v (image .entry) (foundAt (now (image .entry)) .fields .section .comment) ⌝ }
+{
+    let reply = read(image);
+    comment(reply.held)
+}
+
+// The record written again, if it is what an accepted read of its image gives.
+pub fn rewrite<'a, 'b>(r: Record<'a>, out: &'b mut [u8]) -> Written
+    ensures { λ w. ⌜ (w ≡ handedReply (now (r .entry .image)) (r .entry .fields) (length (now (out .entry)))) × (now (out .exit) ≡ handedLeft (now (r .entry .image)) (r .entry .fields) (now (out .entry))) ⌝ }
+{
+    writer::rewrite_record(r.image, r.fields, out)
 }

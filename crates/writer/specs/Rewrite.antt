@@ -1,12 +1,16 @@
 -- Document 01, 'Writing': writing an image's record, with its own checkint where it is plain.
 use Prim.Native.Nat.{ℕ}
 use mathlib.Core.Path.{_≡_}
+use mathlib.Core.Bool.{cond}
 use mathlib.Core.List.{List}
 use lib.ListN.{length}
 use Rattle.fields.specs.Fields.{viewOf}
+use Rattle.fields.specs.declared.Refusal.the-variants.{Length}
 use Rattle.container.specs.Container.{onRead, readAt}
 use Rattle.container.specs.Form.{onKind}
 use Rattle.container.specs.declared.Fields.{Fields}
+use Rattle.judge.specs.Judge.{isRead}
+use Rattle.reply.specs.Reply.{unless}
 use Rattle.reply.specs.declared.Written.{Written}
 use Rattle.reply.specs.declared.Written.the-variants as written
 use Rattle.plain.specs.Plain.{plainReply, plainLeft}
@@ -37,3 +41,10 @@ rewriteReply s room = onRead (readAt s) written.Refused (λ f. recordReply s f r
 
 unfoldable pub rewriteLeft : List ℕ → List ℕ → List ℕ
 rewriteLeft s old = onRead (readAt s) (λ f. old) (λ f. recordLeft s f old)
+
+-- a record that is handed in, and isn't what an accepted read of its image gives, gets 1 before all else
+unfoldable pub handedReply : List ℕ → Fields → ℕ → Written
+handedReply s f room = unless (isRead s f) Length (recordReply s f room)
+
+unfoldable pub handedLeft : List ℕ → Fields → List ℕ → List ℕ
+handedLeft s f old = cond (isRead s f) (recordLeft s f old) old

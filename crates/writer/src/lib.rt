@@ -1,13 +1,14 @@
 // An image's record written again.
 ghost use mathlib.Core.Path.{_≡_};
 ghost use lib.ListN.{length};
-ghost use Rattle.writer.specs.Rewrite.{isRewrite, rewriteReply, rewriteLeft};
+ghost use Rattle.writer.specs.Rewrite.{isRewrite, rewriteReply, rewriteLeft, handedReply, handedLeft};
 use container::Fields;
 use container::ImageRead;
+use fields::Refusal;
 use reply::Written;
 use section::Kind;
 
-fn rewrite_record(image: &[u8], f: Fields, out: &mut [u8]) -> Written
+fn write_record(image: &[u8], f: Fields, out: &mut [u8]) -> Written
     ensures { λ r. ⌜ isRewrite (now (image .entry)) f (now (out .entry)) r (now (out .exit)) ⌝ }
 {
     let header = f.header;
@@ -44,6 +45,16 @@ pub fn rewrite(image: &[u8], out: &mut [u8]) -> Written
 {
     match container::read(image) {
         ImageRead::Refused(f) => Written::Refused(f),
-        ImageRead::Record(f) => rewrite_record(image, f, out),
+        ImageRead::Record(f) => write_record(image, f, out),
     }
+}
+
+// A record that is handed in, written again: it has to be what an accepted read of its image gives.
+pub fn rewrite_record(image: &[u8], f: Fields, out: &mut [u8]) -> Written
+    ensures { λ r. ⌜ (r ≡ handedReply (now (image .entry)) f (length (now (out .entry)))) × (now (out .exit) ≡ handedLeft (now (image .entry)) f (now (out .entry))) ⌝ }
+{
+    if !judge::is_read(image, f) {
+        return reply::refused(Refusal::Length);
+    }
+    write_record(image, f, out)
 }

@@ -14,8 +14,8 @@ enum-known-f c = search needs
 enum-known-f-2 : tie.Need-enum-known-f-2
 enum-known-f-2 c = search needs
 
-rewrite-record-requires : tie.Need-rewrite-record-requires
-rewrite-record-requires c κs = search needs
+write-record-requires : tie.Need-write-record-requires
+write-record-requires c κs = search needs
 
 returns : tie.Need-returns
 unfolding rewriteReply rewriteLeft
@@ -26,7 +26,7 @@ same-length c = search needs
 
 returns-2 : tie.Need-returns-2
 unfolding rewriteReply rewriteLeft
-returns-2 c = rw (← c .before .before .before .before .before .before .before .read .ensures, c .before .before .before .before .before .f2 .given .1) (c .before .before .rewrite-record .ensures)
+returns-2 c = rw (← c .before .before .before .before .before .before .before .read .ensures, c .before .before .before .before .before .f2 .given .1) (c .before .before .write-record .ensures)
 
 pub rewrite-spec : {M : Type 1} → statement M
 rewrite-spec =
@@ -35,7 +35,7 @@ rewrite-spec =
     read-requires
     enum-known-f
     enum-known-f-2
-    rewrite-record-requires
+    write-record-requires
     returns
     same-length
     returns-2)

@@ -1,73 +1,43 @@
--- `writer::rewrite_record` meets its contract: the kind picks the writer, which is handed the record's views. Rests on the callees'
--- contracts.
-use Rattle.writer.specs.Rewrite.{recordReply, recordLeft}
+-- `writer::rewrite_record` meets its contract: the judgement picks the case. Rests on the callees' contracts.
+use mathlib.Core.Path.{refl}
+use borrow.Author.Tests.{not-true, not-false}
+use Rattle.writer.specs.Rewrite.{handedReply, handedLeft}
 use borrow.Author.Needs.{needs}
 use Rattle.writer.proofs.rewrite_record.Statement.{statement}
 use Rattle.writer.proofs.rewrite_record.Tie as tie
+use Rattle.writer.proofs.rewrite_record.Reads as reads
+use Rattle.writer.proofs.rewrite_record.Lts as lts
+use Rattle.judge.proofs.is_read.Reads as is-read-reads
+use Rattle.reply.proofs.refused.Reads as refused-reads
+use Rattle.writer.proofs.write_record.Reads as write-record-reads
 
-enum-told : tie.Need-enum-told
-enum-told c = search needs
+is-read-requires : tie.Need-is-read-requires
+is-read-requires c κs = search needs
 
-point-requires : tie.Need-point-requires
-point-requires c κs = search needs
+refused-requires : tie.Need-refused-requires
+refused-requires c κs = search needs
 
-scalar-requires : tie.Need-scalar-requires
-scalar-requires c κs = search needs
+returns : tie.Need-returns
+unfolding handedReply handedLeft
+returns c = rw (c .refused .ensures, ← c .before .before .is-read .ensures, not-true (c .before .before .is-read .result) (c .before .if1 .taken)) (refl, refl)
 
-comment-requires : tie.Need-comment-requires
-comment-requires c κs = search needs
-
-write-parts-requires : tie.Need-write-parts-requires
-write-parts-requires c κs = search needs
-
-enum-told-2 : tie.Need-enum-told-2
-enum-told-2 c = search needs
-
-salt-requires : tie.Need-salt-requires
-salt-requires c κs = search needs
-
-blob-requires : tie.Need-blob-requires
-blob-requires c κs = search needs
-
-ciphertext-requires : tie.Need-ciphertext-requires
-ciphertext-requires c κs = search needs
-
-tag-requires : tie.Need-tag-requires
-tag-requires c κs = search needs
-
-write-encrypted-requires : tie.Need-write-encrypted-requires
-write-encrypted-requires c κs = search needs
+write-record-requires : tie.Need-write-record-requires
+write-record-requires c κs = search needs
 
 same-length : tie.Need-same-length
 same-length c = search needs
 
-returns : tie.Need-returns
-unfolding recordReply recordLeft
-returns c = rw (c .before .before .before .before .before .before .before .enum-told .given .1, ← c .before .before .before .before .before .before .point .ensures .0, ← c .before .before .before .before .before .scalar .ensures .0, ← c .before .before .before .before .comment .ensures .0) (c .before .before .write-parts .ensures)
-
-same-length-2 : tie.Need-same-length-2
-same-length-2 c = search needs
-
 returns-2 : tie.Need-returns-2
-unfolding recordReply recordLeft
-returns-2 c = rw (c .before .before .before .before .before .before .before .before .enum-told2 .given .1, ← c .before .before .before .before .before .before .before .salt .ensures .0, ← c .before .before .before .before .before .before .blob .ensures .0, ← c .before .before .before .before .before .ciphertext .ensures .0, ← c .before .before .before .before .tag .ensures .0) (c .before .before .write-encrypted .ensures)
+unfolding handedReply handedLeft
+returns-2 c = rw (← c .before .before .before .before .before .is-read .ensures, not-false (c .before .before .before .before .before .is-read .result) (c .before .before .before .before .if1 .left)) (c .before .before .write-record .ensures)
 
 pub rewrite-record-spec : {M : Type 1} → statement M
 rewrite-record-spec =
     tie.close
     (tie.spec
-    enum-told
-    point-requires
-    scalar-requires
-    comment-requires
-    write-parts-requires
-    enum-told-2
-    salt-requires
-    blob-requires
-    ciphertext-requires
-    tag-requires
-    write-encrypted-requires
-    same-length
+    is-read-requires
+    refused-requires
     returns
-    same-length-2
+    write-record-requires
+    same-length
     returns-2)

@@ -1,0 +1,50 @@
+-- `judge::is_read` meets its contract: what the read answered picks the case. Rests on the callees' contracts.
+use Rattle.judge.specs.Judge.{isRead}
+use borrow.Author.Needs.{needs}
+use Rattle.judge.proofs.is_read.Statement.{statement}
+use Rattle.judge.proofs.is_read.Tie as tie
+use Rattle.judge.proofs.is_read.Reads as reads
+use Rattle.judge.proofs.is_read.Lts as lts
+use Rattle.container.proofs.read.Reads as read-reads
+use Rattle.judge.proofs.both.Reads as both-reads
+use Rattle.judge.proofs.same_header.Reads as same-header-reads
+use Rattle.judge.proofs.same_section.Reads as same-section-reads
+
+read-requires : tie.Need-read-requires
+read-requires c κs = search needs
+
+enum-told : tie.Need-enum-told
+enum-told c = search needs
+
+enum-known-g : tie.Need-enum-known-g
+enum-known-g c = search needs
+
+same-header-requires : tie.Need-same-header-requires
+same-header-requires c κs = search needs
+
+same-section-requires : tie.Need-same-section-requires
+same-section-requires c κs = search needs
+
+both-requires : tie.Need-both-requires
+both-requires c κs = search needs
+
+returns : tie.Need-returns
+unfolding isRead
+returns c = rw (← c .before .before .read .ensures, c .enum-told .given .1)
+
+returns-2 : tie.Need-returns-2
+unfolding isRead
+returns-2 c = rw (← c .before .before .before .before .before .before .read .ensures, c .before .before .before .before .g .given .1, ← c .before .before .same-header .ensures, ← c .before .same-section .ensures) (c .both .ensures)
+
+pub is-read-spec : {M : Type 1} → statement M
+is-read-spec =
+    tie.close
+    (tie.spec
+    read-requires
+    enum-told
+    enum-known-g
+    same-header-requires
+    same-section-requires
+    both-requires
+    returns
+    returns-2)

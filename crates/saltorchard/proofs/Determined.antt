@@ -1,0 +1,30 @@
+-- Any two replies that meet a public function's own contract are equal, and so are the buffers that they leave.
+-- Rests on the contracts being equations.
+use denote.Ref.{now}
+use Rattle.fields.specs.Determined.{Determined}
+use Rattle.buffer.specs.Determined.{DeterminedBuffer}
+use Rattle.saltorchard.proofs.saltorchard_read.Reads as saltorchard-read
+use Rattle.saltorchard.proofs.saltorchard_read.Kinds as saltorchard-read-kinds
+use Rattle.saltorchard.proofs.saltorchard_write_plain.Reads as saltorchard-write-plain
+use Rattle.saltorchard.proofs.saltorchard_write_plain.Kinds as saltorchard-write-plain-kinds
+use Rattle.saltorchard.proofs.saltorchard_write_encrypted.Reads as saltorchard-write-encrypted
+use Rattle.saltorchard.proofs.saltorchard_write_encrypted.Kinds as saltorchard-write-encrypted-kinds
+use Rattle.saltorchard.proofs.saltorchard_rewrite.Reads as saltorchard-rewrite
+use Rattle.saltorchard.proofs.saltorchard_rewrite.Kinds as saltorchard-rewrite-kinds
+use Rattle.saltorchard.proofs.saltorchard_change_comment.Reads as saltorchard-change-comment
+use Rattle.saltorchard.proofs.saltorchard_change_comment.Kinds as saltorchard-change-comment-kinds
+
+pub saltorchard-read-determined : Determined 1 saltorchard-read-kinds.ps saltorchard-read-kinds.r saltorchard-read.Post
+saltorchard-read-determined κs a r₁ r₂ s₁ s₂ p q = cc
+
+pub saltorchard-write-plain-determined : DeterminedBuffer 4 saltorchard-write-plain-kinds.ps saltorchard-write-plain-kinds.r saltorchard-write-plain.Post (λ κs s. now (s .1 .1 .1 .1 .1 .1 .0))
+saltorchard-write-plain-determined κs a r₁ r₂ s₁ s₂ p q = (cc, cc)
+
+pub saltorchard-write-encrypted-determined : DeterminedBuffer 5 saltorchard-write-encrypted-kinds.ps saltorchard-write-encrypted-kinds.r saltorchard-write-encrypted.Post (λ κs s. now (s .1 .1 .1 .1 .1 .1 .1 .0))
+saltorchard-write-encrypted-determined κs a r₁ r₂ s₁ s₂ p q = (cc, cc)
+
+pub saltorchard-rewrite-determined : DeterminedBuffer 2 saltorchard-rewrite-kinds.ps saltorchard-rewrite-kinds.r saltorchard-rewrite.Post (λ κs s. now (s .1 .0))
+saltorchard-rewrite-determined κs a r₁ r₂ s₁ s₂ p q = (cc, cc)
+
+pub saltorchard-change-comment-determined : DeterminedBuffer 2 saltorchard-change-comment-kinds.ps saltorchard-change-comment-kinds.r saltorchard-change-comment.Post (λ κs s. now (s .0))
+saltorchard-change-comment-determined κs a r₁ r₂ s₁ s₂ p q = (cc, cc)

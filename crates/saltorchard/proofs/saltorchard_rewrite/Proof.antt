@@ -1,0 +1,25 @@
+-- `saltorchard::saltorchard_rewrite` meets its contract: the reply is handed on. Rests on the callees' contracts.
+use Rattle.saltorchard.specs.Interface.{handed-on}
+use borrow.Author.Needs.{needs}
+use Rattle.saltorchard.proofs.saltorchard_rewrite.Statement.{statement}
+use Rattle.saltorchard.proofs.saltorchard_rewrite.Tie as tie
+use Rattle.saltorchard.proofs.saltorchard_rewrite.Reads as reads
+use Rattle.saltorchard.proofs.saltorchard_rewrite.Lts as lts
+use Rattle.saltorchard.proofs.reply_of.Reads as reply-of-reads
+use Rattle.writer.proofs.rewrite.Reads as rewrite-reads
+
+rewrite-requires : tie.Need-rewrite-requires
+rewrite-requires c κs = search needs
+
+reply-of-requires : tie.Need-reply-of-requires
+reply-of-requires c κs = search needs
+
+same-length : tie.Need-same-length
+same-length c = search needs
+
+returns : tie.Need-returns
+returns c = handed-on _ _ _ _ _ (c .reply-of .ensures) (c .before .before .before .rewrite .ensures)
+
+pub saltorchard-rewrite-spec : {M : Type 1} → statement M
+saltorchard-rewrite-spec =
+    tie.close (tie.spec rewrite-requires reply-of-requires same-length returns)

@@ -1,0 +1,60 @@
+-- `saltorchard::saltorchard_write_plain` meets its contract: the code picks the case. Rests on the callees' contracts.
+use mathlib.Core.Path.{refl}
+use Rattle.saltorchard.specs.Interface.{codedPlainReply, codedPlainLeft, handed-on}
+use borrow.Author.Needs.{needs}
+use Rattle.saltorchard.proofs.saltorchard_write_plain.Statement.{statement}
+use Rattle.saltorchard.proofs.saltorchard_write_plain.Tie as tie
+use Rattle.saltorchard.proofs.saltorchard_write_plain.Reads as reads
+use Rattle.saltorchard.proofs.saltorchard_write_plain.Lts as lts
+use Rattle.codes.proofs.algorithm_coded.Reads as algorithm-coded-reads
+use Rattle.plain.proofs.write_parts.Reads as write-parts-reads
+use Rattle.saltorchard.proofs.checkint_of.Reads as checkint-of-reads
+use Rattle.saltorchard.proofs.names_nothing.Reads as names-nothing-reads
+use Rattle.saltorchard.proofs.reply_of.Reads as reply-of-reads
+
+algorithm-coded-requires : tie.Need-algorithm-coded-requires
+algorithm-coded-requires c κs = search needs
+
+enum-told : tie.Need-enum-told
+enum-told c = search needs
+
+names-nothing-requires : tie.Need-names-nothing-requires
+names-nothing-requires c κs = search needs
+
+enum-known-a : tie.Need-enum-known-a
+enum-known-a c = search needs
+
+checkint-of-requires : tie.Need-checkint-of-requires
+checkint-of-requires c κs = search needs
+
+write-parts-requires : tie.Need-write-parts-requires
+write-parts-requires c κs = search needs
+
+reply-of-requires : tie.Need-reply-of-requires
+reply-of-requires c κs = search needs
+
+returns : tie.Need-returns
+unfolding codedPlainReply codedPlainLeft
+returns c = rw (← c .before .before .before .algorithm-coded .ensures, c .before .enum-told .given .1) (c .names-nothing .ensures, refl)
+
+same-length : tie.Need-same-length
+same-length c = search needs
+
+returns-2 : tie.Need-returns-2
+unfolding codedPlainReply codedPlainLeft
+returns-2 c = rw (← c .before .before .before .before .before .before .before .before .before .algorithm-coded .ensures, c .before .before .before .before .before .before .before .a .given .1, ← c .before .before .before .before .before .checkint-of .ensures) (handed-on _ _ _ _ _ (c .reply-of .ensures) (c .before .before .before .write-parts .ensures))
+
+pub saltorchard-write-plain-spec : {M : Type 1} → statement M
+saltorchard-write-plain-spec =
+    tie.close
+    (tie.spec
+    algorithm-coded-requires
+    enum-told
+    names-nothing-requires
+    enum-known-a
+    checkint-of-requires
+    write-parts-requires
+    reply-of-requires
+    returns
+    same-length
+    returns-2)
