@@ -2,8 +2,6 @@ use borrow.Author.Tests.{eq-eqb, ne-eqb}
 use Rattle.codes.specs.Codes.{kdfCoded}
 use Rattle.codes.proofs.kdf_coded.Statement.{statement}
 use Rattle.codes.proofs.kdf_coded.Tie as tie
-use Rattle.codes.proofs.kdf_coded.Reads as reads
-use Rattle.codes.proofs.kdf_coded.Lts as lts
 
 returns : tie.Need-returns
 unfolding kdfCoded

@@ -3,12 +3,6 @@ use Rattle.judge.specs.Judge.{isRead}
 use borrow.Author.Needs.{needs}
 use Rattle.judge.proofs.is_read.Statement.{statement}
 use Rattle.judge.proofs.is_read.Tie as tie
-use Rattle.judge.proofs.is_read.Reads as reads
-use Rattle.judge.proofs.is_read.Lts as lts
-use Rattle.container.proofs.read.Reads as read-reads
-use Rattle.judge.proofs.both.Reads as both-reads
-use Rattle.judge.proofs.same_header.Reads as same-header-reads
-use Rattle.judge.proofs.same_section.Reads as same-section-reads
 
 read-requires : tie.Need-read-requires
 read-requires c κs = search needs

@@ -3,13 +3,6 @@ use Rattle.judge.specs.Judge.{sameHeader}
 use borrow.Author.Needs.{needs}
 use Rattle.judge.proofs.same_header.Statement.{statement}
 use Rattle.judge.proofs.same_header.Tie as tie
-use Rattle.judge.proofs.same_header.Reads as reads
-use Rattle.judge.proofs.same_header.Lts as lts
-use Rattle.codes.proofs.cipher_code.Reads as cipher-code-reads
-use Rattle.codes.proofs.kdf_code.Reads as kdf-code-reads
-use Rattle.judge.proofs.both.Reads as both-reads
-use Rattle.judge.proofs.same_part.Reads as same-part-reads
-use Rattle.names.proofs.Algorithm.code.Reads as code-reads
 
 cipher-code-requires : tie.Need-cipher-code-requires
 cipher-code-requires c κs = search needs

@@ -3,11 +3,6 @@ use Rattle.judge.specs.Judge.{sameSection}
 use borrow.Author.Needs.{needs}
 use Rattle.judge.proofs.same_section.Statement.{statement}
 use Rattle.judge.proofs.same_section.Tie as tie
-use Rattle.judge.proofs.same_section.Reads as reads
-use Rattle.judge.proofs.same_section.Lts as lts
-use Rattle.judge.proofs.both.Reads as both-reads
-use Rattle.judge.proofs.kind_code.Reads as kind-code-reads
-use Rattle.judge.proofs.same_part.Reads as same-part-reads
 
 kind-code-requires : tie.Need-kind-code-requires
 kind-code-requires c κs = search needs

@@ -2,41 +2,36 @@
 use borrow.Author.Needs.{needs}
 use Rattle.saltorchard.proofs.accepted_image.Statement.{statement}
 use Rattle.saltorchard.proofs.accepted_image.Tie as tie
-use Rattle.saltorchard.proofs.accepted_image.Reads as reads
-use Rattle.saltorchard.proofs.accepted_image.Lts as lts
-use Rattle.codes.proofs.cipher_code.Reads as cipher-code-reads
-use Rattle.codes.proofs.kdf_code.Reads as kdf-code-reads
-use Rattle.names.proofs.Algorithm.code.Reads as code-reads
-use Rattle.saltorchard.proofs.form_code.Reads as form-code-reads
-use Rattle.saltorchard.proofs.kind_code.Reads as kind-code-reads
-use Rattle.saltorchard.proofs.place_of.Reads as place-of-reads
 
 kind-code-requires : tie.Need-kind-code-requires
 kind-code-requires c κs = search needs
 
+cast-t10 : tie.Need-cast-t10
+cast-t10 c = search needs
+
 code-requires : tie.Need-code-requires
 code-requires c κs = search needs
 
-cast-t11 : tie.Need-cast-t11
-cast-t11 c = search needs
+cast-t12 : tie.Need-cast-t12
+cast-t12 c = search needs
 
 cipher-code-requires : tie.Need-cipher-code-requires
 cipher-code-requires c κs = search needs
 
-cast-t13 : tie.Need-cast-t13
-cast-t13 c = search needs
+cast-t14 : tie.Need-cast-t14
+cast-t14 c = search needs
 
 kdf-code-requires : tie.Need-kdf-code-requires
 kdf-code-requires c κs = search needs
-
-cast-t15 : tie.Need-cast-t15
-cast-t15 c = search needs
 
 cast-t16 : tie.Need-cast-t16
 cast-t16 c = search needs
 
 cast-t17 : tie.Need-cast-t17
 cast-t17 c = search needs
+
+cast-t18 : tie.Need-cast-t18
+cast-t18 c = search needs
 
 form-code-requires : tie.Need-form-code-requires
 form-code-requires c κs = search needs
@@ -70,14 +65,15 @@ accepted-image-spec =
     tie.close
     (tie.spec
     kind-code-requires
+    cast-t10
     code-requires
-    cast-t11
+    cast-t12
     cipher-code-requires
-    cast-t13
+    cast-t14
     kdf-code-requires
-    cast-t15
     cast-t16
     cast-t17
+    cast-t18
     form-code-requires
     place-of-requires
     place-of-requires-2

@@ -3,9 +3,6 @@ use borrow.Author.Tests.{eq-eqb, ne-eqb}
 use borrow.Author.Needs.{needs}
 use Rattle.saltorchard.proofs.checkint_of.Statement.{statement}
 use Rattle.saltorchard.proofs.checkint_of.Tie as tie
-use Rattle.saltorchard.proofs.checkint_of.Reads as reads
-use Rattle.saltorchard.proofs.checkint_of.Lts as lts
-use Rattle.keys.proofs.derived_checkint.Reads as derived-checkint-reads
 
 returns : tie.Need-returns
 returns c = rw (eq-eqb _ _ (c .if1 .taken))

@@ -2,10 +2,6 @@
 use borrow.Author.Needs.{needs}
 use Rattle.saltorchard.proofs.names_nothing.Statement.{statement}
 use Rattle.saltorchard.proofs.names_nothing.Tie as tie
-use Rattle.saltorchard.proofs.names_nothing.Reads as reads
-use Rattle.saltorchard.proofs.names_nothing.Lts as lts
-use Rattle.reply.proofs.refused.Reads as refused-reads
-use Rattle.saltorchard.proofs.reply_of.Reads as reply-of-reads
 
 refused-requires : tie.Need-refused-requires
 refused-requires c κs = search needs

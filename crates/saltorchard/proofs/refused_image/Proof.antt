@@ -2,11 +2,6 @@
 use borrow.Author.Needs.{needs}
 use Rattle.saltorchard.proofs.refused_image.Statement.{statement}
 use Rattle.saltorchard.proofs.refused_image.Tie as tie
-use Rattle.saltorchard.proofs.refused_image.Reads as reads
-use Rattle.saltorchard.proofs.refused_image.Lts as lts
-use Rattle.fields.proofs.Refusal.count.Reads as count-reads
-use Rattle.fields.proofs.Refusal.number.Reads as number-reads
-use Rattle.saltorchard.proofs.nowhere.Reads as nowhere-reads
 
 number-requires : tie.Need-number-requires
 number-requires c κs = search needs

@@ -3,10 +3,6 @@ use Rattle.saltorchard.specs.Interface.{replyOf}
 use borrow.Author.Needs.{needs}
 use Rattle.saltorchard.proofs.reply_of.Statement.{statement}
 use Rattle.saltorchard.proofs.reply_of.Tie as tie
-use Rattle.saltorchard.proofs.reply_of.Reads as reads
-use Rattle.saltorchard.proofs.reply_of.Lts as lts
-use Rattle.fields.proofs.Refusal.count.Reads as count-reads
-use Rattle.fields.proofs.Refusal.number.Reads as number-reads
 
 enum-known-written : tie.Need-enum-known-written
 enum-known-written c = search needs

@@ -3,10 +3,6 @@ use Rattle.saltorchard.specs.Interface.{handed-on}
 use borrow.Author.Needs.{needs}
 use Rattle.saltorchard.proofs.saltorchard_change_comment.Statement.{statement}
 use Rattle.saltorchard.proofs.saltorchard_change_comment.Tie as tie
-use Rattle.saltorchard.proofs.saltorchard_change_comment.Reads as reads
-use Rattle.saltorchard.proofs.saltorchard_change_comment.Lts as lts
-use Rattle.comment.proofs.change_comment.Reads as change-comment-reads
-use Rattle.saltorchard.proofs.reply_of.Reads as reply-of-reads
 
 change-comment-requires : tie.Need-change-comment-requires
 change-comment-requires c κs = search needs

@@ -1,13 +1,8 @@
 -- `saltorchard::saltorchard_read` meets its contract: what the read answered picks the case. Rests on the callees' contracts.
-use Rattle.saltorchard.specs.Interface.{imageOf, onForm}
+use Rattle.saltorchard.specs.Interface.{imageOf}
 use borrow.Author.Needs.{needs}
 use Rattle.saltorchard.proofs.saltorchard_read.Statement.{statement}
 use Rattle.saltorchard.proofs.saltorchard_read.Tie as tie
-use Rattle.saltorchard.proofs.saltorchard_read.Reads as reads
-use Rattle.saltorchard.proofs.saltorchard_read.Lts as lts
-use Rattle.container.proofs.read_with_form.Reads as read-with-form-reads
-use Rattle.saltorchard.proofs.accepted_image.Reads as accepted-image-reads
-use Rattle.saltorchard.proofs.refused_image.Reads as refused-image-reads
 
 read-with-form-requires : tie.Need-read-with-form-requires
 read-with-form-requires c κs = search needs

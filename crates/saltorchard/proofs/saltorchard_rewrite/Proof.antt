@@ -3,10 +3,6 @@ use Rattle.saltorchard.specs.Interface.{handed-on}
 use borrow.Author.Needs.{needs}
 use Rattle.saltorchard.proofs.saltorchard_rewrite.Statement.{statement}
 use Rattle.saltorchard.proofs.saltorchard_rewrite.Tie as tie
-use Rattle.saltorchard.proofs.saltorchard_rewrite.Reads as reads
-use Rattle.saltorchard.proofs.saltorchard_rewrite.Lts as lts
-use Rattle.saltorchard.proofs.reply_of.Reads as reply-of-reads
-use Rattle.writer.proofs.rewrite.Reads as rewrite-reads
 
 rewrite-requires : tie.Need-rewrite-requires
 rewrite-requires c κs = search needs

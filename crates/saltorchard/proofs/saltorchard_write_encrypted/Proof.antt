@@ -4,13 +4,6 @@ use Rattle.saltorchard.specs.Interface.{codedEncryptedReply, codedEncryp
 use borrow.Author.Needs.{needs}
 use Rattle.saltorchard.proofs.saltorchard_write_encrypted.Statement.{statement}
 use Rattle.saltorchard.proofs.saltorchard_write_encrypted.Tie as tie
-use Rattle.saltorchard.proofs.saltorchard_write_encrypted.Reads as reads
-use Rattle.saltorchard.proofs.saltorchard_write_encrypted.Lts as lts
-use Rattle.codes.proofs.cipher_coded.Reads as cipher-coded-reads
-use Rattle.codes.proofs.kdf_coded.Reads as kdf-coded-reads
-use Rattle.encrypted.proofs.write_encrypted.Reads as write-encrypted-reads
-use Rattle.saltorchard.proofs.names_nothing.Reads as names-nothing-reads
-use Rattle.saltorchard.proofs.reply_of.Reads as reply-of-reads
 
 cipher-coded-requires : tie.Need-cipher-coded-requires
 cipher-coded-requires c κs = search needs

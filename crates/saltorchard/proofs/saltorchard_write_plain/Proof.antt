@@ -4,13 +4,6 @@ use Rattle.saltorchard.specs.Interface.{codedPlainReply, codedPlainLeft,
 use borrow.Author.Needs.{needs}
 use Rattle.saltorchard.proofs.saltorchard_write_plain.Statement.{statement}
 use Rattle.saltorchard.proofs.saltorchard_write_plain.Tie as tie
-use Rattle.saltorchard.proofs.saltorchard_write_plain.Reads as reads
-use Rattle.saltorchard.proofs.saltorchard_write_plain.Lts as lts
-use Rattle.codes.proofs.algorithm_coded.Reads as algorithm-coded-reads
-use Rattle.plain.proofs.write_parts.Reads as write-parts-reads
-use Rattle.saltorchard.proofs.checkint_of.Reads as checkint-of-reads
-use Rattle.saltorchard.proofs.names_nothing.Reads as names-nothing-reads
-use Rattle.saltorchard.proofs.reply_of.Reads as reply-of-reads
 
 algorithm-coded-requires : tie.Need-algorithm-coded-requires
 algorithm-coded-requires c κs = search needs

@@ -5,11 +5,6 @@ use Rattle.writer.specs.Rewrite.{handedReply, handedLeft}
 use borrow.Author.Needs.{needs}
 use Rattle.writer.proofs.rewrite_record.Statement.{statement}
 use Rattle.writer.proofs.rewrite_record.Tie as tie
-use Rattle.writer.proofs.rewrite_record.Reads as reads
-use Rattle.writer.proofs.rewrite_record.Lts as lts
-use Rattle.judge.proofs.is_read.Reads as is-read-reads
-use Rattle.reply.proofs.refused.Reads as refused-reads
-use Rattle.writer.proofs.write_record.Reads as write-record-reads
 
 is-read-requires : tie.Need-is-read-requires
 is-read-requires c κs = search needs
