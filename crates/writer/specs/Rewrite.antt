@@ -48,3 +48,6 @@ handedReply s f room = unless (isRead s f) Length (recordReply s f room)
 
 unfoldable pub handedLeft : List ℕ → Fields → List ℕ → List ℕ
 handedLeft s f old = cond (isRead s f) (recordLeft s f old) old
+
+abbrev pub isHanded : List ℕ → Fields → List ℕ → Written → List ℕ → Type 0
+isHanded s f old r out = (r ≡ handedReply s f (length old)) × (out ≡ handedLeft s f old)

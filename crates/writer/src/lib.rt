@@ -1,7 +1,7 @@
 // An image's record written again.
 ghost use mathlib.Core.Path.{_≡_};
 ghost use lib.ListN.{length};
-ghost use Rattle.writer.specs.Rewrite.{isRewrite, rewriteReply, rewriteLeft, handedReply, handedLeft};
+ghost use Rattle.writer.specs.Rewrite.{isRewrite, rewriteReply, rewriteLeft, isHanded};
 use container::Fields;
 use container::ImageRead;
 use fields::Refusal;
@@ -51,7 +51,7 @@ pub fn rewrite(image: &[u8], out: &mut [u8]) -> Written
 
 // A record that is handed in, written again: it has to be what an accepted read of its image gives.
 pub fn rewrite_record(image: &[u8], f: Fields, out: &mut [u8]) -> Written
-    ensures { λ r. ⌜ (r ≡ handedReply (now (image .entry)) f (length (now (out .entry)))) × (now (out .exit) ≡ handedLeft (now (image .entry)) f (now (out .entry))) ⌝ }
+    ensures { λ r. ⌜ isHanded (now (image .entry)) f (now (out .entry)) r (now (out .exit)) ⌝ }
 {
     if !judge::is_read(image, f) {
         return reply::refused(Refusal::Length);

@@ -44,18 +44,18 @@ use Rattle.found.specs.Found.{foundAt}
 use Rattle.record.specs.Reply.{isReply}
 use Rattle.record.specs.Held.{read-then-comment}
 use Rattle.record.specs.declared.Reply.{Reply}
-use Rattle.record.proofs.Record as T
-use Rattle.record.proofs.Record.Laws as T′
+use Rattle.views.proofs.Record as T
+use Rattle.views.proofs.Record.Laws as T′
 use Rattle.record.proofs.Reply as P
 use Rattle.record.proofs.Reply.Laws as P′
 use Rattle.record.proofs.read as read
 use Rattle.record.proofs.read.Symbol as read-def
 use Rattle.record.proofs.read.Symbol.{name as #read}
 use Rattle.record.proofs.read.Met as read-thm
-use Rattle.record.proofs.comment as comment
-use Rattle.record.proofs.comment.Symbol as comment-def
-use Rattle.record.proofs.comment.Symbol.{name as #comment}
-use Rattle.record.proofs.comment.Met as comment-thm
+use Rattle.views.proofs.comment as comment
+use Rattle.views.proofs.comment.Symbol as comment-def
+use Rattle.views.proofs.comment.Symbol.{name as #comment}
+use Rattle.views.proofs.comment.Met as comment-thm
 use Rattle.record.proofs.comment_of.Key.{name as #own}
 use Rattle.record.proofs.comment_of as own
 use Rattle.record.proofs.comment_of.Statement as stated
@@ -182,4 +182,4 @@ comment-of-spec 𝓤 H 𝓜 𝓖 𝓡 =
     (tables 𝓤 H 𝓜 𝓡 code.env .C) (tables 𝓤 H 𝓜 𝓡 code.env .Λ) #own code.function (code.unfolded 𝓤 H 𝓜 𝓡)
     (meets 𝓤 H (𝓖 .A) (givenOf 𝓤 H 𝓜 𝓖) (𝓜 .mem) (𝓡 .run) (tablesOf 𝓤 H 𝓜 (tables 𝓤 H 𝓜 𝓡 code.env))
     (cited 𝓤 H (Read 𝓤 H (𝓖 .A) (𝓜 .mem) (𝓡 .run)) 𝓜 𝓡 code.env #read read-def.routine code.calls-record·read (read-thm.met 𝓤 H 𝓜 𝓖 𝓡))
-    (cited 𝓤 H (Comment 𝓤 H (𝓖 .A) (𝓜 .mem) (𝓡 .run)) 𝓜 𝓡 code.env #comment comment-def.routine code.calls-record·comment (comment-thm.met 𝓤 H 𝓜 𝓖 𝓡)))
+    (cited 𝓤 H (Comment 𝓤 H (𝓖 .A) (𝓜 .mem) (𝓡 .run)) 𝓜 𝓡 code.env #comment comment-def.routine code.calls-views·comment (comment-thm.met 𝓤 H 𝓜 𝓖 𝓡)))

@@ -43,11 +43,11 @@ use denote.Exit.{yes}
 use denote.Triple.Clauses.{ensured, lasts}
 use Rattle.fields.specs.Fields.{isView}
 use Rattle.found.specs.Found.{foundAt, heldPart}
-use Rattle.record.specs.declared.Record.{Record}
+use Rattle.views.specs.declared.Record.{Record}
 use Rattle.record.specs.declared.Reply.{Reply}
 use Rattle.found.specs.declared.Found.{Found}
-use Rattle.record.proofs.Record as T
-use Rattle.record.proofs.Record.Laws as T′
+use Rattle.views.proofs.Record as T
+use Rattle.views.proofs.Record.Laws as T′
 use Rattle.record.proofs.Reply as P
 use Rattle.record.proofs.Reply.Laws as P′
 use Rattle.found.proofs.Found as G

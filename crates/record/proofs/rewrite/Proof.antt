@@ -41,13 +41,13 @@ use denote.Triple.Table.{entered, cited}
 use denote.Triple.Walked.{says, Stays, stay-none, gave-slice, walkOf, goes-none, goes-gave-slice, Walks, ends-at, walked, walk-meets}
 use denote.Exit.{yes}
 use denote.Triple.Clauses.{ensured, lasts}
-use Rattle.writer.specs.Rewrite.{handedReply, handedLeft}
-use Rattle.record.specs.declared.Record.{Record}
+use Rattle.writer.specs.Rewrite.{isHanded}
+use Rattle.views.specs.declared.Record.{Record}
 use Rattle.reply.specs.declared.Written.{Written}
 use Rattle.reply.proofs.Written as S
 use Rattle.reply.proofs.Written.Laws as S′
-use Rattle.record.proofs.Record as T
-use Rattle.record.proofs.Record.Laws as T′
+use Rattle.views.proofs.Record as T
+use Rattle.views.proofs.Record.Laws as T′
 use Rattle.container.proofs.Fields as F
 use Rattle.container.proofs.Fields.Laws as F′
 use Rattle.writer.proofs.rewrite_record as inner
@@ -94,7 +94,7 @@ module _ {M : Type 1} (𝓤 : URA M) (H : Heap 𝓤) (A : Atoms 𝓤) (W : Given
   s = sliceVal (b, o) (length ys)
 
   abbrev Said : Written → List ℕ → Type 0
-  Said n zs = (n ≡ handedReply (now (d .image)) (d .fields) (length ys)) × (zs ≡ handedLeft (now (d .image)) (d .fields) ys)
+  Said n zs = isHanded (now (d .image)) (d .fields) ys n zs
 
   abbrev vals : List Val × (List Val × Unit {0})
   vals = (mach ∷ [], (s ∷ [], tt))

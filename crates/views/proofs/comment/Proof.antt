@@ -1,4 +1,4 @@
--- `record::comment` meets its contract: the walk is `Thin`'s, at what `container::comment` answers. Assumes nothing.
+-- `views::comment` meets its contract: the walk is `Thin`'s, at what `container::comment` answers. Assumes nothing.
 use Prim.Native.Nat.{ℕ}
 use mathlib.Core.List.{List, [], _∷_}
 use mir.Syntax.{named, tyRef, imm, tyInt, w8}
@@ -12,13 +12,13 @@ use denote.Triple.Spec.{tripleOf}
 use denote.Triple.Table.{entered, cited}
 use Rattle.fields.specs.Fields.{isView}
 use Rattle.container.specs.declared.Fields.{Fields}
-use Rattle.record.proofs.Thin.{Inner, meets}
+use Rattle.views.proofs.Thin.{Inner, meets}
 use Rattle.container.proofs.comment.Symbol as inner
 use Rattle.container.proofs.comment.Met as inner-thm
-use Rattle.record.proofs.comment.Key as key
-use Rattle.record.proofs.comment as outer
-use Rattle.record.proofs.comment.Statement as stated
-use Rattle.record.proofs.comment.Code as code
+use Rattle.views.proofs.comment.Key as key
+use Rattle.views.proofs.comment as outer
+use Rattle.views.proofs.comment.Statement as stated
+use Rattle.views.proofs.comment.Code as code
 
 abbrev ρ : Slot 1
 ρ = SliceRefOf (0 ∷ []) tt (plain (λ _. u8)) (λ _. tt)

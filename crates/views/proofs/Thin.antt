@@ -38,10 +38,10 @@ use denote.Triple.Spec.{Meets, tripleOf}
 use denote.Triple.Walked.{says, Stays, stay-none, walkOf, goes-none, Walks, ends-at, walked, walk-meets}
 use denote.Exit.{yes}
 use denote.Triple.Clauses.{Ended, Clauses, closing, ensured, lasts}
-use Rattle.record.specs.declared.Record.{Record}
+use Rattle.views.specs.declared.Record.{Record}
 use Rattle.container.specs.declared.Fields.{Fields}
-use Rattle.record.proofs.Record as T
-use Rattle.record.proofs.Record.Laws as T′
+use Rattle.views.proofs.Record as T
+use Rattle.views.proofs.Record.Laws as T′
 use Rattle.container.proofs.Fields as F
 use Rattle.container.proofs.Fields.Laws as F′
 

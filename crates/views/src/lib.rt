@@ -1,0 +1,51 @@
+// A record that holds the lent image itself, and thin accessors over it. Each is that part of the caller's
+// own image, the empty part where the record lacks the field or its place isn't within the image.
+ghost use Rattle.fields.specs.Fields.{isView};
+use container::Fields;
+
+pub struct Record<'a> {
+    pub image: &'a [u8],
+    pub fields: Fields,
+}
+
+pub fn comment<'a>(r: Record<'a>) -> &'a [u8]
+    ensures { λ v. ⌜ isView v (r .entry .image) (r .entry .fields .section .comment) ⌝ }
+{
+    container::comment(r.image, r.fields)
+}
+
+pub fn blob<'a>(r: Record<'a>) -> &'a [u8]
+    ensures { λ v. ⌜ isView v (r .entry .image) (r .entry .fields .header .blob) ⌝ }
+{
+    container::blob(r.image, r.fields)
+}
+
+pub fn point<'a>(r: Record<'a>) -> &'a [u8]
+    ensures { λ v. ⌜ isView v (r .entry .image) (r .entry .fields .header .point) ⌝ }
+{
+    container::point(r.image, r.fields)
+}
+
+pub fn scalar<'a>(r: Record<'a>) -> &'a [u8]
+    ensures { λ v. ⌜ isView v (r .entry .image) (r .entry .fields .section .scalar) ⌝ }
+{
+    container::scalar(r.image, r.fields)
+}
+
+pub fn salt<'a>(r: Record<'a>) -> &'a [u8]
+    ensures { λ v. ⌜ isView v (r .entry .image) (r .entry .fields .header .salt) ⌝ }
+{
+    container::salt(r.image, r.fields)
+}
+
+pub fn ciphertext<'a>(r: Record<'a>) -> &'a [u8]
+    ensures { λ v. ⌜ isView v (r .entry .image) (r .entry .fields .section .ciphertext) ⌝ }
+{
+    container::ciphertext(r.image, r.fields)
+}
+
+pub fn tag<'a>(r: Record<'a>) -> &'a [u8]
+    ensures { λ v. ⌜ isView v (r .entry .image) (r .entry .fields .section .tag) ⌝ }
+{
+    container::tag(r.image, r.fields)
+}
