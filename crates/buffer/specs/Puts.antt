@@ -5,7 +5,7 @@ use native.Mathlib.Omega.{arith}
 use mathlib.Core.Path.{_≡_, refl, sym, ap, _∙_}
 use mathlib.Core.Bool.{Bool, true, false, cond}
 use mathlib.Core.List.{List, [], _++_, append-assoc, append-nil}
-use borrow.Author.Tests.{le-leb, lt-leb, leb-true}
+use borrow.Author.Tests.{le-leb, lt-leb}
 use lib.Dec.{leb}
 use lib.ListN.{length, take, drop, getD, replicate, length-replicate, length-append, length-drop, take-append-drop}
 use lib.Seq.{paste, take-length, drop-append-seam, length-take-le, take-at, drop-at, drop-drop}
@@ -81,15 +81,6 @@ module _ (old : List ℕ) (at : ℕ) (new : List ℕ) where
   splice-is : splice old at new ≡ take at old ++ new ++ drop (at + length new) old
   unfolding splice
   splice-is = refl
-
-  -- a put keeps the buffer's length
-  pub placed-length : length (placed old at new) ≡ length old
-  unfolding placed fits
-  placed-length = go (leb (at + length new) (length old)) refl
-    where
-      go : (b : Bool) → leb (at + length new) (length old) ≡ b → length (cond b (splice old at new) old) ≡ length old
-      go true e = splice-length (leb-true _ _ e)
-      go false e = refl
 
 -- bytes copied one by one up to the last are put
 pub copied :

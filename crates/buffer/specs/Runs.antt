@@ -4,7 +4,6 @@ use native.Mathlib.Omega.{arith}
 use mathlib.Core.Path.{_≡_, refl, sym, ap, _∙_}
 use mathlib.Core.List.{List, [], _∷_, _++_, append-assoc, append-nil}
 use lib.ListN.{length, drop, length-append}
-use lib.Seq.{drop-append-seam, drop-drop}
 use Rattle.fields.specs.Bytes.{uint32, string, join}
 use Rattle.buffer.specs.Puts.{splice, isPut, placed-fits, next-fits, splice-length, drop-splice, splice-nil, splice-same, splice-splice}
 
@@ -68,12 +67,6 @@ pub finish-as :
     → isPut old a new at out
 finish-as {old} {a} {fields} {at} {out} new e l = rw (← e) (finish l)
 
--- where the next field goes
-pub where-next :
-    {old : List ℕ} {a : ℕ} {fields more : List (List ℕ)} {at : ℕ} {out : List ℕ}
-    → Left old a fields more at out → at + length (join more) ≡ a + length (join fields)
-where-next l = omega (arith, l .place, simp length-append at (ap length (l .whole)))
-
 -- the contract of a function that makes a run of puts and doesn't look whether there is room: it is one put where there is
 abbrev pub isRun : List ℕ → ℕ → List ℕ → ℕ → List ℕ → Type 0
 isRun old at new r out = at + length new ≤ length old → isPut old at new r out
@@ -98,12 +91,6 @@ runs {old} {a} {fields} xs {more} {at} {out} l p =
     record { done = l .done; whole = whole; place = l .place; left = l .left; room = l .room } in
     run one p
 
--- all that are left
-pub last-runs :
-    {old : List ℕ} {a : ℕ} {fields : List (List ℕ)} {xs : List (List ℕ)} {at : ℕ} {out : List ℕ} {r : ℕ} {out′ : List ℕ}
-    → Left old a fields xs at out → isRun out at (join xs) r out′ → Left old a fields [] r out′
-last-runs {old} {a} {fields} {xs} {at} {out} l p = runs xs (rw append-nil l) p
-
 -- a string whose bytes are put in two parts
 pub string-joined : (n : ℕ) (a b : List ℕ) → n ≡ length a + length b → join (uint32 n ∷ a ∷ b ∷ []) ≡ string (a ++ b)
 unfolding string
@@ -114,15 +101,6 @@ string-joined n a b e = rw (append-nil, e, length-append)
 -- from `at` on, `old` holds `fields` and nothing more
 pub record Here (old : List ℕ) (at : ℕ) (fields : List (List ℕ)) : Type 0 where
   pub here : drop at old ≡ join fields
-
--- past the first of them
-pub beyond : {old : List ℕ} {at : ℕ} {x : List ℕ} {more : List (List ℕ)} {r : ℕ} → Here old at (x ∷ more) → r ≡ at + length x → Here old r more
-beyond {old} {at} {x} {more} {r} h e =
-    record {
-      here =
-          ap (λ (k : ℕ). drop k old) e ∙ sym (drop-drop (length x) at old) ∙ ap (drop (length x)) (h .here)
-          ∙ drop-append-seam x (join more);
-    }
 
 -- a field that stands there already is passed over
 pub skip :

@@ -19,7 +19,7 @@ use Rattle.names.specs.declared.Kdf.{Kdf}
 use Rattle.names.specs.declared.Kdf.the-variants as kdf
 use Rattle.format.specs.Format.{OptionsFit, blob, mayStand, needsLeadingZero, writtenImage, encryptedImage}
 use Rattle.keys.specs.Keys.{afterZero}
-use Rattle.keys.specs.Back.{blob-back}
+use Rattle.key_laws.specs.Back.{blob-back}
 use Rattle.section.specs.declared.Kind.the-variants.{Plain, Encrypted}
 use Rattle.container.specs.declared.Fields.{Fields}
 use Rattle.container.specs.declared.ImageRead.the-variants as read

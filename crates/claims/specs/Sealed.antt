@@ -22,7 +22,7 @@ use Rattle.format.specs.Format.{OptionsFit, blob, encryptedImage}
 use Rattle.keys.specs.declared.Blob.{Blob}
 use Rattle.keys.specs.declared.Blob.the-variants as answer
 use Rattle.keys.specs.Keys.{onBlob, blobAt}
-use Rattle.keys.specs.Read.{blob-read}
+use Rattle.key_laws.specs.Read.{blob-read}
 use Rattle.container.specs.Back.{SealFits, EncryptedImageBack, encrypted-image-back}
 use Rattle.buffer.specs.Puts.{take-splice}
 use Rattle.reply.specs.declared.Written.{Written}

@@ -1,22 +1,22 @@
 -- An image but for its comment: what stands before the section's length, and between that and the comment's field. Renewing the
 -- comment leaves both where they are.
-use Prim.Native.Nat.{ℕ, _+_, _-_, _≤_, _<_}
+use Prim.Native.Nat.{ℕ, _+_, _-_, _≤_}
 use native.Mathlib.Omega.{arith}
 use mathlib.Core.Path.{_≡_, refl, sym, _∙_, ap}
 use mathlib.Core.List.{List, [], _∷_, _++_, append-nil}
-use borrow.Author.Tests.{le-leb, lt-leb}
+use borrow.Author.Tests.{le-leb}
 use lib.ListN.{length, take, drop, length-append, take-append-drop}
 use lib.Seq.{slice, length-slice, length-take-le, drop-append-le}
 use Rattle.fields.specs.Bytes.{uint32, string, join}
 use Rattle.fields.specs.Rest.{length-uint32, length-string}
-use Rattle.fields.specs.declared.Refusal.the-variants.{Size, Room}
+use Rattle.fields.specs.declared.Fault.{Fault}
 use Rattle.format.specs.Format.{short, paddingBytes}
 use Rattle.format.specs.Laws.{padding-length}
 use Rattle.buffer.specs.Puts.{splice, zeros, isPut, zeros-length, next-fits, placed-fits, splice-length}
 use Rattle.buffer.specs.Runs.{Left, Here, start, step, skip, finish}
 use Rattle.reply.specs.declared.Written.{Written}
 use Rattle.reply.specs.declared.Written.the-variants as written
-use Rattle.reply.specs.Reply.{refused, sized}
+use Rattle.reply.specs.Reply.{sized, isSized}
 
 -- the section's length without its padding, by what stands before the comment's field
 abbrev pub bare : ℕ → ℕ → List ℕ → ℕ
@@ -62,13 +62,9 @@ module _ (old : List ℕ) (section field : ℕ) (comment : List ℕ) (h : sectio
 -- ---- a renewal, by the image's length
 
 module _ (image : List ℕ) (n : ℕ) (old : List ℕ) where
-  pub too-large : 65535 < length image → isRenewed image n old (refused Size) old
-  unfolding sized
-  too-large h = rw (lt-leb _ _ h) (refl, refl)
-
-  pub no-room : length image ≤ 65535 → length old < length image → isRenewed image n old (refused Room) old
-  unfolding sized
-  no-room h k = rw (le-leb _ _ h, lt-leb _ _ k) (refl, refl)
+  -- a write that is refused for its image's length renews nothing
+  pub not-renewed : (f : Fault) → isSized image old (written.Refused f) old → isRenewed image n old (written.Refused f) old
+  not-renewed f p = (p .0, ap (λ (w : Written). renewed w image n old) (p .0))
 
   pub done :
       (end : ℕ) (out : List ℕ) → length image ≤ 65535 → length image ≤ length old → end ≡ length image

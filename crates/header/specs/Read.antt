@@ -22,7 +22,7 @@ use Rattle.names.specs.declared.Kdf.the-variants as kdf
 use Rattle.names.specs.Ciphers.{cipherName, kdfName}
 use Rattle.format.specs.Format.{magic, options, OptionsFit, publicLength, pointTag, blob, header}
 use Rattle.format.specs.Laws.{header-then}
-use Rattle.keys.specs.Read.{blob-read}
+use Rattle.key_laws.specs.Read.{blob-read}
 use Rattle.header.specs.declared.CipherField.{CipherField}
 use Rattle.header.specs.declared.CipherField.the-variants as cipher-field
 use Rattle.header.specs.declared.KdfField.{KdfField}

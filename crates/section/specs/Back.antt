@@ -24,7 +24,7 @@ use Rattle.names.specs.Ciphers.{blockSize, tagLength}
 use Rattle.utf8.specs.Utf8.{utf8}
 use Rattle.format.specs.Format.{publicLength, privateLength, pointTag, privateField, standing, mayStand, blob, content, section, short, paddingBytes}
 use Rattle.format.specs.Laws.{content-then, section-length, padding-length}
-use Rattle.keys.specs.Back.{keypair-back}
+use Rattle.key_laws.specs.Back.{keypair-back}
 use Rattle.section.specs.declared.Entry.{Entry}
 use Rattle.section.specs.declared.Entry.the-variants as entry
 use Rattle.section.specs.declared.Kind.the-variants.{Plain, Encrypted}

@@ -26,7 +26,7 @@ use Rattle.format.specs.Laws.{content-then}
 use Rattle.keys.specs.declared.Keypair.{Keypair}
 use Rattle.keys.specs.declared.Keypair.the-variants as keypair
 use Rattle.keys.specs.Keys.{keypairAt, afterZero}
-use Rattle.keys.specs.ReadPair.{PairRead, keypair-read}
+use Rattle.key_laws.specs.ReadPair.{PairRead, keypair-read}
 use Rattle.section.specs.declared.Entry.{Entry}
 use Rattle.section.specs.declared.Entry.the-variants as entry
 use Rattle.section.specs.declared.Kind.the-variants.{Plain}

@@ -1,5 +1,5 @@
 -- The test `utf8` accepts what the grammar derives and nothing else (`utf8-sound`, `utf8-complete`), and what that means for
--- texts that are joined (`utf8-append`) and for ASCII (`ascii-next`, `ascii-utf8`). Assumes nothing.
+-- ASCII (`ascii-next`, `ascii-utf8`). Assumes nothing.
 use Prim.Native.Nat.{ℕ, zero, suc, _+_, _-_, _≤_, _<_}
 use native.Mathlib.Nat.{eq-or-lt-of-le}
 use native.Mathlib.Omega.{arith}
@@ -138,20 +138,7 @@ unfolding utf8 utf8From
 utf8-complete end = refl
 utf8-complete (char {more = t} m r o) = pass-char t m r ∙ utf8-complete o
 
--- ---- texts that are joined, and ASCII
-
-joined : (row : Row) (s t : List ℕ) → utf8From row s ≡ true → utf8From row (s ++ t) ≡ utf8From [] t
-unfolding utf8From
-joined [] [] t e = refl
-joined (range ∷ ranges) [] t e = absurd (false≢true e)
-joined [] (b ∷ s) t e = joined (rest b UTF8-char) s t e
-joined (range ∷ ranges) (b ∷ s) t e =
-    let f = and-eq-true-iff (lies range b) (utf8From ranges s) .0 e in
-    rw (f .0) (joined ranges s t (f .1))
-
-pub utf8-append : (s t : List ℕ) → utf8 s ≡ true → utf8 (s ++ t) ≡ utf8 t
-unfolding utf8
-utf8-append s t e = joined [] s t e
+-- ---- ASCII
 
 pub ascii-next : (b : ℕ) (t : List ℕ) → b < 0x80 → utf8 (b ∷ t) ≡ utf8 t
 unfolding utf8 utf8From UTF8-char

@@ -1,9 +1,11 @@
--- `comment::renew` meets its contract: the puts make the shell with the new comment. Rests on the laws of the shell.
+-- `comment::renew` meets its contract: the puts make the shell with the new comment. Rests on the laws of the shell
+-- and of a write that is refused for its size or the room.
 use mathlib.Core.Path.{_≡_, sym, _∙_, ap}
 use Prim.Native.Nat.{ℕ, _+_, _≤_}
 use native.Mathlib.Omega.{arith}
 use lib.ListN.{length}
-use Rattle.comment.specs.Shell.{bare, shellAt, shell-length, too-large, no-room, done, renewal-puts, renewal-zeros}
+use Rattle.reply.specs.Sized.{too-large, no-room}
+use Rattle.comment.specs.Shell.{bare, shellAt, shell-length, not-renewed, done, renewal-puts, renewal-zeros}
 use borrow.Author.Needs.{needs}
 use Rattle.comment.proofs.renew.Statement.{statement}
 use Rattle.comment.proofs.renew.Tie as tie
@@ -21,7 +23,7 @@ returns : tie.Need-returns
 returns c =
     let a = c .before .before .before .before .args in
     rw (c .refused .ensures)
-    (too-large _ _ _ (omega (arith, c .before .if1 .taken, shell-length (a .lent .now) (a .section) (a .field) (a .comment .now) (c .before .before .before .before .pre .0) (omega (arith, c .before .before .before .before .pre)))))
+    (not-renewed _ _ _ _ (too-large _ _ (omega (arith, c .before .if1 .taken, shell-length (a .lent .now) (a .section) (a .field) (a .comment .now) (c .before .before .before .before .pre .0) (omega (arith, c .before .before .before .before .pre))))))
 
 add-content : tie.Need-add-content
 add-content c = search needs
@@ -51,13 +53,13 @@ refused-requires-2 : tie.Need-refused-requires-2
 refused-requires-2 c κs = search needs
 
 returns-2 : tie.Need-returns-2
-returns-2 c = rw (c .refused2 .ensures) (too-large _ _ _ (omega (arith, c .before .if2 .taken, size-is (c .before .before))))
+returns-2 c = rw (c .refused2 .ensures) (not-renewed _ _ _ _ (too-large _ _ (omega (arith, c .before .if2 .taken, size-is (c .before .before)))))
 
 refused-requires-3 : tie.Need-refused-requires-3
 refused-requires-3 c κs = search needs
 
 returns-3 : tie.Need-returns-3
-returns-3 c = rw (c .refused3 .ensures) (no-room _ _ _ (omega (arith, c .before .before .if2 .left, size-is (c .before .before .before))) (omega (arith, c .before .if3 .taken, size-is (c .before .before .before))))
+returns-3 c = rw (c .refused3 .ensures) (not-renewed _ _ _ _ (no-room _ _ (omega (arith, c .before .before .if2 .left, size-is (c .before .before .before))) (omega (arith, c .before .if3 .taken, size-is (c .before .before .before)))))
 
 add-put-uint32 : tie.Need-add-put-uint32
 add-put-uint32 c = search needs

@@ -1,0 +1,4 @@
+pub mod Back
+pub mod Read
+pub mod ReadPair
+pub mod Material
