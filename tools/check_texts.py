@@ -7,7 +7,7 @@ import re
 import sys
 
 OUTSIDE = re.compile(r"\.\./shared|/work/|/opt/rattle|https?://[^\s)]*(debian|pypi|crates\.io)")
-CODE = (".rt", ".antt", ".py", ".sh", ".md", ".edit", ".txt")
+CODE = (".rt", ".antt", ".py", ".sh", ".md", ".edit", ".txt", ".rs", ".c", ".h", ".toml")
 
 
 def without_comments(text):

@@ -1,3 +1,4 @@
+-- `codes::algorithm_coded` meets its contract: each test is a row of the table. Assumes nothing.
 use borrow.Author.Tests.{eq-eqb, ne-eqb}
 use Rattle.codes.specs.Codes.{algorithmCoded}
 use Rattle.codes.proofs.algorithm_coded.Statement.{statement}

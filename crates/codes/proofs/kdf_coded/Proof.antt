@@ -1,3 +1,4 @@
+-- `codes::kdf_coded` meets its contract: each test is a row of the table. Assumes nothing.
 use borrow.Author.Tests.{eq-eqb, ne-eqb}
 use Rattle.codes.specs.Codes.{kdfCoded}
 use Rattle.codes.proofs.kdf_coded.Statement.{statement}

@@ -1,0 +1,100 @@
+//! Times the library beside a copy of the same bytes, a plain model and a yardstick; README.md says how.
+
+mod damage;
+mod images;
+#[path = "../../bindings/rust/tests/model/mod.rs"]
+mod model;
+mod random;
+mod same;
+mod timing;
+mod yardstick;
+
+use std::process::exit;
+use timing::{Group, COMPETITORS, JOBS, LIBRARY};
+
+const WARM_UP: usize = 3;
+const ROUNDS: usize = 15;
+
+fn main() {
+    let only_check = match std::env::args().nth(1).as_deref() {
+        None => false,
+        Some("--check") => true,
+        Some(_) => stop("usage: saltorchard-bench [--check]"),
+    };
+    let images = images::all();
+    match same::everywhere(&images) {
+        Ok(compared) => println!(
+            "Same answers of library, model and yardstick on {} inputs, {} of them accepted.",
+            compared.inputs, compared.accepted
+        ),
+        Err(difference) => stop(&difference),
+    }
+    let mut groups = timing::groups(images);
+    if only_check {
+        round(&mut groups, 0);
+        println!("Every job ran once. No times: this was a check.");
+        return;
+    }
+    for i in 0..WARM_UP {
+        round(&mut groups, i);
+    }
+    let rounds: Vec<Round> = (0..ROUNDS).map(|i| round(&mut groups, i)).collect();
+    print_table(&groups, &rounds);
+}
+
+fn stop(why: &str) -> ! {
+    eprintln!("{}", why);
+    exit(1)
+}
+
+/// Nanoseconds of a pass, by job, group and competitor.
+type Round = [[[f64; COMPETITORS.len()]; 2]; JOBS.len()];
+
+fn round(groups: &mut [Group; 2], turn: usize) -> Round {
+    let mut times = Round::default();
+    for (job, by_group) in times.iter_mut().enumerate() {
+        for (group, by_competitor) in groups.iter_mut().zip(by_group) {
+            for i in 0..COMPETITORS.len() {
+                let competitor = (i + turn) % COMPETITORS.len();
+                by_competitor[competitor] = group.pass(job, competitor).as_nanos() as f64;
+            }
+        }
+    }
+    times
+}
+
+fn median(mut values: Vec<f64>) -> f64 {
+    values.sort_by(f64::total_cmp);
+    values[values.len() / 2]
+}
+
+fn print_table(groups: &[Group; 2], rounds: &[Round]) {
+    println!("\nMedians of {} rounds after {} to warm up; no buffer is cleared between rounds.\n", ROUNDS, WARM_UP);
+    println!("| job | images | calls | bytes | library ns | copy ns | model ns | yardstick ns | to copy | to model | to yardstick |");
+    println!("|---|---|---|---|---|---|---|---|---|---|---|");
+    for (job, name) in JOBS.iter().enumerate() {
+        for (which, sort) in [(&[0, 1][..], "all"), (&[0], "small"), (&[1], "long")] {
+            print_row(groups, rounds, (job, name), (which, sort));
+        }
+    }
+    println!("\nTimes are nanoseconds a call, bytes the mean length of an image; the last three are the library's time to the other's.");
+}
+
+fn print_row(groups: &[Group; 2], rounds: &[Round], (job, name): (usize, &str), (which, sort): (&[usize], &str)) {
+    let calls: usize = which.iter().map(|&group| groups[group].calls(job)).sum();
+    let bytes: usize = which.iter().map(|&group| groups[group].bytes(job)).sum();
+    let time = |competitor: usize| {
+        let of_round = |round: &Round| which.iter().map(|&group| round[job][group][competitor]).sum::<f64>();
+        median(rounds.iter().map(of_round).collect()) / calls as f64
+    };
+    print!("| {} | {} | {} | {} |", name, sort, calls, bytes / calls);
+    for competitor in 0..COMPETITORS.len() {
+        print!(" {:.0} |", time(competitor));
+    }
+    for competitor in 0..COMPETITORS.len() {
+        if competitor != LIBRARY {
+            print!(" {:.2} |", time(LIBRARY) / time(competitor));
+        }
+    }
+    println!();
+}

@@ -1,0 +1,252 @@
+/* Images for test.c, put together by hand from document 01, and where their fields must be. Nothing here calls the library. */
+#ifndef IMAGES_H
+#define IMAGES_H
+
+#include "saltorchard.h"
+
+#include <string.h>
+
+enum { LARGEST = 70000 };
+
+typedef struct {
+    uint8_t at[LARGEST];
+    size_t length;
+} bytes;
+
+typedef struct {
+    int algorithm;
+    uint8_t pub[133], priv[66];
+    size_t pub_len, priv_len;
+} key;
+
+static const char *const ALGORITHMS[4] = {"ssh-ed25519", "ecdsa-sha2-nistp256", "ecdsa-sha2-nistp384", "ecdsa-sha2-nistp521"};
+static const char *const CURVES[4] = {"", "nistp256", "nistp384", "nistp521"};
+static const size_t SIZES[4] = {32, 32, 48, 66};
+static const char *const KDFS[2] = {"none", "bcrypt"};
+static const struct {
+    const char *name;
+    size_t block, tag;
+} CIPHERS[10] = {
+    {"none", 8, 0},        {"3des-cbc", 8, 0},    {"aes128-cbc", 16, 0}, {"aes192-cbc", 16, 0},
+    {"aes256-cbc", 16, 0}, {"aes128-ctr", 16, 0}, {"aes192-ctr", 16, 0}, {"aes256-ctr", 16, 0},
+    {"aes128-gcm@openssh.com", 16, 16},           {"aes256-gcm@openssh.com", 16, 16},
+};
+
+/* ---- bytes */
+
+static void put(bytes *to, const void *from, size_t n)
+{
+    if (n > 0)
+        memcpy(to->at + to->length, from, n);
+    to->length += n;
+}
+
+static void put_uint32(bytes *to, uint64_t number)
+{
+    uint8_t four[4] = {(uint8_t)(number >> 24), (uint8_t)(number >> 16), (uint8_t)(number >> 8), (uint8_t)number};
+    put(to, four, 4);
+}
+
+static void put_string(bytes *to, const void *from, size_t n)
+{
+    put_uint32(to, n);
+    put(to, from, n);
+}
+
+static void put_name(bytes *to, const char *name)
+{
+    put_string(to, name, strlen(name));
+}
+
+static void put_padding(bytes *to, size_t n)
+{
+    for (size_t i = 1; i <= n; i++)
+        to->at[to->length++] = (uint8_t)i;
+}
+
+/* ---- keys */
+
+/* Made-up key bytes, the first private one given. */
+static key make_key(int algorithm, uint8_t first)
+{
+    key k = {0};
+    k.algorithm = algorithm;
+    k.priv_len = SIZES[algorithm];
+    k.pub_len = algorithm == SALTORCHARD_ED25519 ? 32 : 1 + 2 * k.priv_len;
+    for (size_t i = 0; i < k.pub_len; i++)
+        k.pub[i] = (uint8_t)(0x40 + 7 * i);
+    for (size_t i = 0; i < k.priv_len; i++)
+        k.priv[i] = (uint8_t)(0x90 + 5 * i);
+    if (algorithm != SALTORCHARD_ED25519)
+        k.pub[0] = 4;
+    k.priv[0] = first;
+    return k;
+}
+
+/* Name and public fields, as they stand in the blob and again in the section. */
+static void put_public(bytes *to, const key *k)
+{
+    put_name(to, ALGORITHMS[k->algorithm]);
+    if (k->algorithm != SALTORCHARD_ED25519)
+        put_name(to, CURVES[k->algorithm]);
+    put_string(to, k->pub, k->pub_len);
+}
+
+/* The private string's contents by the writer's rule. */
+static void put_private(bytes *to, const key *k)
+{
+    if (k->algorithm != SALTORCHARD_ED25519 && k->priv[0] >= 0x80)
+        put(to, "", 1);
+    put(to, k->priv, k->priv_len);
+    if (k->algorithm == SALTORCHARD_ED25519)
+        put(to, k->pub, k->pub_len);
+}
+
+/* ---- images */
+
+/* Up to the blob's end: `cipher` and `kdf` are codes, `options` and `blob` the strings' contents. */
+static void put_header(bytes *to, int cipher, int kdf, const bytes *options, const bytes *blob)
+{
+    to->length = 0;
+    put(to, "openssh-key-v1", 15);
+    put_name(to, CIPHERS[cipher].name);
+    put_name(to, KDFS[kdf]);
+    put_string(to, options->at, options->length);
+    put_uint32(to, 1);
+    put_string(to, blob->at, blob->length);
+}
+
+static void put_plain_header(bytes *to, const key *k)
+{
+    static bytes blob, options;
+    blob.length = options.length = 0;
+    put_public(&blob, k);
+    put_header(to, SALTORCHARD_CIPHER_NONE, SALTORCHARD_KDF_NONE, &options, &blob);
+}
+
+/* The section's string: its length once its parts, without padding, are there. */
+static void put_section(bytes *to, bytes *section)
+{
+    put_padding(section, (8 - section->length % 8) % 8);
+    put_string(to, section->at, section->length);
+}
+
+/* A plain image whose private string has the given contents, whatever they are. */
+static void plain_image_of(bytes *to, const key *k, const bytes *private_string, uint32_t checkint, const void *comment, size_t n)
+{
+    static bytes section;
+    section.length = 0;
+    put_uint32(&section, checkint);
+    put_uint32(&section, checkint);
+    put_public(&section, k);
+    put_string(&section, private_string->at, private_string->length);
+    put_string(&section, comment, n);
+    put_plain_header(to, k);
+    put_section(to, &section);
+}
+
+static void plain_image(bytes *to, const key *k, uint32_t checkint, const void *comment, size_t n)
+{
+    static bytes private_string;
+    private_string.length = 0;
+    put_private(&private_string, k);
+    plain_image_of(to, k, &private_string, checkint, comment, n);
+}
+
+/* What an encrypted image is made of. */
+typedef struct {
+    int cipher, kdf;
+    uint32_t rounds;
+    bytes salt, blob, ciphertext, tag;
+} sealed;
+
+/* Made-up parts: `blocks` blocks of ciphertext, and a salt of 16 bytes and 24 rounds where the KDF is bcrypt. */
+static void make_sealed(sealed *s, int cipher, int kdf, const key *k, size_t blocks)
+{
+    s->cipher = cipher;
+    s->kdf = kdf;
+    s->rounds = kdf == SALTORCHARD_BCRYPT ? 24 : 0;
+    s->salt.length = kdf == SALTORCHARD_BCRYPT ? 16 : 0;
+    s->blob.length = 0;
+    put_public(&s->blob, k);
+    s->ciphertext.length = blocks * CIPHERS[cipher].block;
+    s->tag.length = CIPHERS[cipher].tag;
+    memset(s->salt.at, 0xa5, s->salt.length);
+    memset(s->ciphertext.at, 0xc7, s->ciphertext.length);
+    memset(s->tag.at, 0x7a, s->tag.length);
+}
+
+static void encrypted_image(bytes *to, const sealed *s)
+{
+    static bytes options;
+    options.length = 0;
+    if (s->kdf == SALTORCHARD_BCRYPT) {
+        put_string(&options, s->salt.at, s->salt.length);
+        put_uint32(&options, s->rounds);
+    }
+    put_header(to, s->cipher, s->kdf, &options, &s->blob);
+    put_string(to, s->ciphertext.at, s->ciphertext.length);
+    put(to, s->tag.at, s->tag.length);
+}
+
+/* ---- what a read must answer */
+
+static saltorchard_part part(size_t start, size_t length)
+{
+    saltorchard_part p = {start, length};
+    return p;
+}
+
+static saltorchard_image refusal(uint64_t number, uint64_t count, uint64_t at)
+{
+    saltorchard_image r = {0};
+    r.number = number;
+    r.count = count;
+    r.at = at;
+    return r;
+}
+
+/* Of a plain image; `zero` is 1 if a zero stands before the scalar. */
+static saltorchard_image plain_record(const key *k, size_t zero, uint32_t checkint, size_t comment, int form)
+{
+    int ed25519 = k->algorithm == SALTORCHARD_ED25519;
+    size_t before_point = ed25519 ? 4 + 11 + 4 : 4 + 19 + 4 + 8 + 4;
+    size_t blob = before_point + k->pub_len, section = 43 + blob + 4;
+    size_t scalar = section + 8 + blob + 4 + zero;
+    size_t comment_at = scalar + k->priv_len + (ed25519 ? 32 : 0) + 4;
+    saltorchard_image r = {0};
+    r.kind = SALTORCHARD_PLAIN;
+    r.algorithm = (uint64_t)k->algorithm;
+    r.checkint = checkint;
+    r.padding = (8 - (comment_at + comment - section) % 8) % 8;
+    r.form = (uint64_t)form;
+    r.blob = part(43, blob);
+    r.point = part(43 + before_point, k->pub_len);
+    r.scalar = part(scalar, k->priv_len);
+    r.comment = part(comment_at, comment);
+    return r;
+}
+
+static saltorchard_image encrypted_record(const sealed *s, const key *k)
+{
+    size_t names = 15 + 4 + strlen(CIPHERS[s->cipher].name) + 4 + strlen(KDFS[s->kdf]);
+    size_t options = s->kdf == SALTORCHARD_BCRYPT ? 4 + s->salt.length + 4 : 0;
+    size_t blob = names + 4 + options + 4 + 4, ciphertext = blob + s->blob.length + 4;
+    saltorchard_image r = {0};
+    r.kind = SALTORCHARD_ENCRYPTED;
+    r.algorithm = (uint64_t)k->algorithm;
+    r.cipher = (uint64_t)s->cipher;
+    r.kdf = (uint64_t)s->kdf;
+    r.rounds = s->rounds;
+    r.form = 1;
+    r.blob = part(blob, s->blob.length);
+    r.point = part(blob + s->blob.length - k->pub_len, k->pub_len);
+    r.ciphertext = part(ciphertext, s->ciphertext.length);
+    if (s->kdf == SALTORCHARD_BCRYPT)
+        r.salt = part(names + 4 + 4, s->salt.length);
+    if (s->tag.length > 0)
+        r.tag = part(ciphertext + s->ciphertext.length, s->tag.length);
+    return r;
+}
+
+#endif

@@ -1,0 +1,99 @@
+/* Saltorchard: reads and writes SSH private-key images (the binary openssh-key-v1 container) and changes their comments in place.
+ *
+ * For x86-64 Linux. Link with libsaltorchard.a, which needs memcpy and memset of the C library and nothing else. Header and
+ * archive go together: take both from the same version.
+ *
+ * Every function takes any bytes and any lengths; none keeps a pointer, allocates or prints. A part is lent as a pointer and
+ * a length; an empty part may be NULL with length 0. What the caller has to keep: the pointer is good for that many bytes, the
+ * parts lent to one call don't overlap, and no other thread writes to them during the call.
+ *
+ * A refused call leaves every lent byte as it was. An accepted writer fills the first `length` bytes and leaves the rest.
+ *
+ * Private bytes are compared in no constant time and wiped nowhere. */
+#ifndef SALTORCHARD_H
+#define SALTORCHARD_H
+
+#include <stddef.h>
+#include <stdint.h>
+
+#ifdef __cplusplus
+extern "C" {
+#endif
+
+/* The number of a reply. The first condition that holds, in the order of reading or writing, gives it. */
+enum {
+    SALTORCHARD_ACCEPTED = 0,
+    SALTORCHARD_LENGTH = 1,          /* a field runs past its end, or has a wrong length or key count */
+    SALTORCHARD_FORMAT = 2,          /* wrong magic, padding byte, point tag or leading scalar byte */
+    SALTORCHARD_CRYPTO = 3,          /* checkints, KDF use, ciphertext length, Ed25519 halves */
+    SALTORCHARD_UNKNOWN = 4,         /* unknown name or code, or curve unlike its algorithm */
+    SALTORCHARD_PUBLIC_KEY = 5,      /* the section's public key isn't the header's */
+    SALTORCHARD_TRAILING = 6,        /* bytes left over; `count` says how many */
+    SALTORCHARD_NOT_UTF8 = 7,        /* the comment isn't UTF-8 */
+    SALTORCHARD_IS_ENCRYPTED = 8,    /* the section is encrypted, and a plain one is needed */
+    SALTORCHARD_NO_ROOM = 9,         /* the lent buffer is too short */
+    SALTORCHARD_NOT_THE_FORM = 10,   /* the image isn't the writer's form of its record */
+    SALTORCHARD_TOO_LONG = 11        /* the image is, or would be, above SALTORCHARD_LIMIT bytes */
+};
+
+enum { SALTORCHARD_LIMIT = 65535 };
+
+enum { SALTORCHARD_REFUSED = 0, SALTORCHARD_PLAIN = 1, SALTORCHARD_ENCRYPTED = 2 };
+
+/* Codes of algorithms, KDFs and ciphers. Any other code is refused with 4, count 0, at 0, before all else. */
+enum { SALTORCHARD_ED25519 = 0, SALTORCHARD_P256 = 1, SALTORCHARD_P384 = 2, SALTORCHARD_P521 = 3 };
+enum { SALTORCHARD_KDF_NONE = 0, SALTORCHARD_BCRYPT = 1 };
+enum {
+    SALTORCHARD_CIPHER_NONE = 0,
+    SALTORCHARD_3DES_CBC = 1,
+    SALTORCHARD_AES128_CBC = 2,
+    SALTORCHARD_AES192_CBC = 3,
+    SALTORCHARD_AES256_CBC = 4,
+    SALTORCHARD_AES128_CTR = 5,
+    SALTORCHARD_AES192_CTR = 6,
+    SALTORCHARD_AES256_CTR = 7,
+    SALTORCHARD_AES128_GCM = 8,      /* aes128-gcm@openssh.com */
+    SALTORCHARD_AES256_GCM = 9       /* aes256-gcm@openssh.com */
+};
+
+/* A part of the image that was read: its bytes are image[start] to image[start + length - 1], without length bytes. */
+typedef struct { uint64_t start, length; } saltorchard_part;
+
+/* What a read answers. `at` is the byte at which the failing field began. Of a refused image every field after `at` is 0. */
+typedef struct {
+    uint64_t number, count, at;            /* the refusal; 0 0 0 where accepted */
+    uint64_t kind;                         /* 0 refused, 1 plain, 2 encrypted */
+    uint64_t algorithm, cipher, kdf;       /* the codes above */
+    uint64_t rounds, checkint, padding;    /* 0 where the image has none */
+    uint64_t form;                         /* 1: in the writer's form */
+    saltorchard_part blob, point, scalar, comment, salt, ciphertext, tag;   /* 0 0 where absent */
+} saltorchard_image;
+
+/* What the others answer. `length` is what was written, 0 where refused. */
+typedef struct { uint64_t number, count, at, length; } saltorchard_reply;
+
+/* Reads an image. For Ed25519 `point` is the public string and `scalar` the seed. An ECDSA scalar has no extra zero. */
+saltorchard_image saltorchard_read(const uint8_t *image, size_t image_len);
+
+/* Writes a plain image. `pub` is an Ed25519 public key of 32 bytes or an uncompressed point (65, 97, 133), `priv` the seed of
+ * 32 bytes or the scalar (32, 48, 66). `derive` 0: the given checkint; else one is derived from `priv`. */
+saltorchard_reply saltorchard_write_plain(uint8_t algorithm, const uint8_t *pub, size_t pub_len, const uint8_t *priv, size_t priv_len,
+    uint8_t derive, uint32_t checkint, const uint8_t *comment, size_t comment_len, uint8_t *out, size_t out_len);
+
+/* Writes an encrypted image. `blob` is the public key as a read answers it. KDF none goes with no salt and 0 rounds. */
+saltorchard_reply saltorchard_write_encrypted(uint8_t cipher, uint8_t kdf, const uint8_t *salt, size_t salt_len, uint32_t rounds,
+    const uint8_t *blob, size_t blob_len, const uint8_t *ciphertext, size_t ciphertext_len, const uint8_t *tag, size_t tag_len,
+    uint8_t *out, size_t out_len);
+
+/* Reads an image and writes its record, with its own checkint, into `out`: the writer's form of it. */
+saltorchard_reply saltorchard_rewrite(const uint8_t *image, size_t image_len, uint8_t *out, size_t out_len);
+
+/* Changes the comment of the plain image that the buffer's first n bytes are. `length` is the new image's; where it is shorter,
+ * the old image's bytes past it become 0. */
+saltorchard_reply saltorchard_change_comment(uint8_t *buffer, size_t buffer_len, size_t n, const uint8_t *comment, size_t comment_len);
+
+#ifdef __cplusplus
+}
+#endif
+
+#endif

@@ -1,0 +1,939 @@
+/* Uses every function of saltorchard.h and holds numbers, places and bytes to document 01: its marked examples, each refusal,
+ * and what must stay of a lent buffer. A failed check is a line; the last line counts the checks. */
+#include "saltorchard.h"
+
+#include "images.h"
+
+#include <stdio.h>
+
+_Static_assert(sizeof(saltorchard_part) == 16, "part");
+_Static_assert(sizeof(saltorchard_reply) == 32 && offsetof(saltorchard_reply, length) == 24, "reply");
+_Static_assert(sizeof(saltorchard_image) == 200, "image");
+_Static_assert(offsetof(saltorchard_image, kind) == 24 && offsetof(saltorchard_image, rounds) == 56, "image's numbers");
+_Static_assert(offsetof(saltorchard_image, form) == 80 && offsetof(saltorchard_image, blob) == 88, "image's form and parts");
+_Static_assert(offsetof(saltorchard_image, comment) == 136 && offsetof(saltorchard_image, tag) == 184, "image's last parts");
+
+/* ---- checks */
+
+static unsigned long passed, failed;
+static const char *about = "";
+static size_t which;
+
+static void now(const char *what, size_t number)
+{
+    about = what;
+    which = number;
+}
+
+static int check_at(int line, int ok)
+{
+    if (ok)
+        passed++;
+    else {
+        failed++;
+        printf("%s:%d: %s %zu: ", __FILE__, line, about, which);
+    }
+    return ok;
+}
+
+static void true_at(int line, int ok, const char *text)
+{
+    if (!check_at(line, ok))
+        printf("not so: %s\n", text);
+}
+
+static void reply_at(int line, saltorchard_reply got, uint64_t number, uint64_t count, uint64_t at, uint64_t length)
+{
+    saltorchard_reply want = {number, count, at, length};
+    if (!check_at(line, memcmp(&got, &want, sizeof got) == 0))
+        printf("replies %d %d %d %d, not %d %d %d %d\n", (int)got.number, (int)got.count, (int)got.at, (int)got.length,
+               (int)number, (int)count, (int)at, (int)length);
+}
+
+static void image_at(int line, saltorchard_image got, saltorchard_image want)
+{
+    static const char *const NAMES[25] = {
+        "number", "count", "at", "kind", "algorithm", "cipher", "kdf", "rounds", "checkint", "padding", "form",
+        "blob.start", "blob.length", "point.start", "point.length", "scalar.start", "scalar.length", "comment.start",
+        "comment.length", "salt.start", "salt.length", "ciphertext.start", "ciphertext.length", "tag.start", "tag.length"};
+    uint64_t g[25], w[25];
+    memcpy(g, &got, sizeof g);
+    memcpy(w, &want, sizeof w);
+    size_t i = 0;
+    while (i < 25 && g[i] == w[i])
+        i++;
+    if (!check_at(line, i == 25))
+        printf("read answers %s %llu, not %llu\n", NAMES[i], (unsigned long long)g[i], (unsigned long long)w[i]);
+}
+
+#define CHECK(ok) true_at(__LINE__, (ok), #ok)
+#define REPLY(got, number, count, at, length) reply_at(__LINE__, (got), (number), (count), (at), (length))
+#define READS(image, want) image_at(__LINE__, saltorchard_read((image)->at, (image)->length), (want))
+
+/* ---- the lent buffer: junk before, in and after it, and what all of it must be after a call */
+
+enum { GUARD = 64 };
+static uint8_t ground[GUARD + LARGEST + GUARD], want[sizeof ground];
+static uint8_t *const lent = ground + GUARD;
+
+static void lend_junk(void)
+{
+    for (size_t i = 0; i < sizeof ground; i++)
+        ground[i] = (uint8_t)(i * 37 + 11);
+    memcpy(want, ground, sizeof ground);
+}
+
+static void lend_image(const bytes *image)
+{
+    lend_junk();
+    memcpy(lent, image->at, image->length);
+    memcpy(want, ground, sizeof ground);
+}
+
+static void ground_at(int line)
+{
+    size_t i = 0;
+    while (i < sizeof ground && ground[i] == want[i])
+        i++;
+    if (!check_at(line, i == sizeof ground))
+        printf("byte %ld of the lent buffer is %02x, not %02x\n", (long)i - GUARD, ground[i], want[i]);
+}
+
+static void holds_at(int line, const bytes *image)
+{
+    memcpy(want + GUARD, image->at, image->length);
+    ground_at(line);
+}
+
+#define KEPT() ground_at(__LINE__)
+#define HOLDS(image) holds_at(__LINE__, (image))
+
+/* ---- the calls, on the lent buffer */
+
+static saltorchard_reply write_key(const key *k, int derive, uint32_t checkint, const void *comment, size_t n, size_t room)
+{
+    return saltorchard_write_plain((uint8_t)k->algorithm, k->pub, k->pub_len, k->priv, k->priv_len, (uint8_t)derive, checkint,
+                                   comment, n, lent, room);
+}
+
+static saltorchard_reply write_sealed(const sealed *s, size_t room)
+{
+    return saltorchard_write_encrypted((uint8_t)s->cipher, (uint8_t)s->kdf, s->salt.at, s->salt.length, s->rounds, s->blob.at,
+                                       s->blob.length, s->ciphertext.at, s->ciphertext.length, s->tag.at, s->tag.length, lent,
+                                       room);
+}
+
+static saltorchard_reply rewrite(const bytes *image, size_t room)
+{
+    return saltorchard_rewrite(image->at, image->length, lent, room);
+}
+
+static saltorchard_reply change(size_t n, const void *comment, size_t c, size_t room)
+{
+    return saltorchard_change_comment(lent, room, n, comment, c);
+}
+
+/* An image that the reader refuses, and so do the rewrite and the comment change, whatever the comment and the room. */
+static void refused_at(int line, const bytes *image, uint64_t number, uint64_t count, uint64_t at)
+{
+    image_at(line, saltorchard_read(image->at, image->length), refusal(number, count, at));
+    lend_junk();
+    reply_at(line, rewrite(image, 10), number, count, at, 0);
+    ground_at(line);
+    lend_image(image);
+    reply_at(line, change(image->length, "\xff", 1, image->length), number, count, at, 0);
+    ground_at(line);
+}
+
+#define REFUSED(image, number, count, at) refused_at(__LINE__, (image), (number), (count), (at))
+
+static bytes image, other, field;
+static sealed seal;
+static char long_comment[LARGEST];
+
+/* ---- the marked examples */
+
+static void marked_openings(void)
+{
+    image.length = 0;
+    now("M", 1);
+    REFUSED(&image, 1, 0, 0);
+    put(&image, "openssh-key-v1", 14);
+    now("M", 2);
+    REFUSED(&image, 1, 0, 0);
+    image.length = 0;
+    put(&image, "openssh-key-v2", 15);
+    now("M", 3);
+    REFUSED(&image, 2, 0, 0);
+    image.length = 0;
+    put(&image, "openssh-key-v1", 15);
+    now("M", 4);
+    REFUSED(&image, 1, 0, 15);
+}
+
+/* Writes the key, holds the bytes and the read to the length and padding given. */
+static void marked_image(size_t marked, const key *k, size_t zero, const char *comment, size_t length, size_t padding)
+{
+    size_t c = strlen(comment);
+    saltorchard_image record = plain_record(k, zero, 0x01020304, c, 1);
+    now("M", marked);
+    plain_image(&image, k, 0x01020304, comment, c);
+    CHECK(image.length == length);
+    CHECK(record.padding == padding);
+    lend_junk();
+    REPLY(write_key(k, 0, 0x01020304, comment, c, LARGEST), 0, 0, 0, length);
+    HOLDS(&image);
+    READS(&image, record);
+    CHECK(c == 0 || memcmp(image.at + record.comment.start, comment, c) == 0);
+    CHECK(memcmp(image.at + record.scalar.start, k->priv, k->priv_len) == 0);
+}
+
+static void marked_images(void)
+{
+    key ed25519 = make_key(SALTORCHARD_ED25519, 0xee), low = make_key(SALTORCHARD_P256, 0x7f);
+    key high = make_key(SALTORCHARD_P256, 0x80);
+    marked_image(5, &ed25519, 0, "", 234, 5);
+    marked_image(6, &ed25519, 0, "oven7", 234, 0);
+    marked_image(7, &ed25519, 0, "oven17", 242, 7);
+    marked_image(8, &low, 0, "", 303, 0);
+    marked_image(9, &high, 1, "", 311, 7);
+}
+
+/* A P-256 image whose scalar field has these bytes: n of them, beginning with first and second. */
+static key scalar_image(size_t n, uint8_t first, uint8_t second)
+{
+    key k = make_key(SALTORCHARD_P256, first);
+    field.length = n;
+    memset(field.at, 0x33, n);
+    field.at[0] = first;
+    field.at[1] = second;
+    memcpy(k.priv, field.at + n - 32, 32);
+    plain_image_of(&image, &k, &field, 9, "oven7", 5);
+    return k;
+}
+
+/* Accepted and not in the writer's form: rewriting makes another image, and the comment isn't changed. */
+static void not_the_form(const key *k, size_t zero)
+{
+    READS(&image, plain_record(k, zero, 9, 5, 0));
+    plain_image(&other, k, 9, "oven7", 5);
+    lend_junk();
+    REPLY(rewrite(&image, LARGEST), 0, 0, 0, other.length);
+    HOLDS(&other);
+    lend_image(&image);
+    REPLY(change(image.length, "\xff", 1, image.length), 10, 0, 0, 0);
+    KEPT();
+}
+
+static void marked_scalars(void)
+{
+    key k;
+    now("M", 10);
+    k = scalar_image(33, 0x00, 0x7f);
+    not_the_form(&k, 1);
+    now("M", 11);
+    k = scalar_image(32, 0x80, 0x00);
+    not_the_form(&k, 0);
+    now("M", 12);
+    scalar_image(33, 0x01, 0x7f);
+    REFUSED(&image, 2, 0, 263);
+    now("M", 13);
+    scalar_image(34, 0x00, 0x00);
+    REFUSED(&image, 6, 2, 263 + 4 + 32);
+    now("M", 14);
+    field.length = 31;
+    memset(field.at, 0x33, 31);
+    k = make_key(SALTORCHARD_P256, 0);
+    plain_image_of(&image, &k, &field, 9, "oven7", 5);
+    REFUSED(&image, 1, 0, 263);
+}
+
+static void marked_limit(void)
+{
+    key k = make_key(SALTORCHARD_ED25519, 1);
+    now("M", 15);
+    plain_image(&image, &k, 0, long_comment, 65301);
+    CHECK(image.length == 65530);
+    lend_junk();
+    REPLY(write_key(&k, 0, 0, long_comment, 65301, 65530), 0, 0, 0, 65530);
+    HOLDS(&image);
+    READS(&image, plain_record(&k, 0, 0, 65301, 1));
+    lend_junk();
+    REPLY(write_key(&k, 0, 0, long_comment, 65302, LARGEST), 11, 0, 0, 0);
+    KEPT();
+    lend_image(&image);
+    REPLY(change(65530, long_comment, 65302, LARGEST), 11, 0, 0, 0);
+    KEPT();
+    plain_image(&other, &k, 0, long_comment, 65302);
+    REFUSED(&other, 11, 0, 0);
+}
+
+static void derived(const key *k, uint32_t checkint)
+{
+    for (int derive = 1; derive < 256; derive += 127) {
+        plain_image(&image, k, checkint, "oven7", 5);
+        lend_junk();
+        REPLY(write_key(k, derive, 0x55555555, "oven7", 5, LARGEST), 0, 0, 0, image.length);
+        HOLDS(&image);
+        READS(&image, plain_record(k, k->algorithm != SALTORCHARD_ED25519 && k->priv[0] >= 0x80, checkint, 5, 1));
+    }
+}
+
+static void marked_checkint(void)
+{
+    key p521 = make_key(SALTORCHARD_P521, 0), ed25519 = make_key(SALTORCHARD_ED25519, 0);
+    memset(p521.priv, 0, 66);
+    p521.priv[64] = 0x12;
+    p521.priv[65] = 0x34;
+    now("M", 16);
+    derived(&p521, 0);
+    now("derived checkint", 1);
+    p521.priv[63] = 0x56;
+    p521.priv[0] = 0x81;
+    derived(&p521, 0x81000056);
+    memset(ed25519.priv, 0, 32);
+    ed25519.priv[0] = 0xf0;
+    ed25519.priv[5] = 0x0f;
+    ed25519.priv[30] = 0xaa;
+    ed25519.priv[31] = 0x01;
+    derived(&ed25519, 0xf00faa01);
+}
+
+/* ---- every kind, written, read, rewritten, its comment changed */
+
+static void rewritten(void)
+{
+    lend_junk();
+    REPLY(rewrite(&image, image.length), 0, 0, 0, image.length);
+    HOLDS(&image);
+    lend_junk();
+    REPLY(rewrite(&image, image.length - 1), 9, 0, 0, 0);
+    KEPT();
+}
+
+static void plain_kind(const key *k)
+{
+    size_t zero = k->algorithm != SALTORCHARD_ED25519 && k->priv[0] >= 0x80;
+    for (size_t c = 0; c < 10; c++) {
+        plain_image(&image, k, 0xfedcba98, long_comment, c);
+        READS(&image, plain_record(k, zero, 0xfedcba98, c, 1));
+        lend_junk();
+        REPLY(write_key(k, 0, 0xfedcba98, long_comment, c, image.length), 0, 0, 0, image.length);
+        HOLDS(&image);
+        lend_junk();
+        REPLY(write_key(k, 0, 0xfedcba98, long_comment, c, image.length - 1), 9, 0, 0, 0);
+        KEPT();
+        rewritten();
+        plain_image(&other, k, 0xfedcba98, "a comment of another length", 27);
+        lend_image(&image);
+        REPLY(change(image.length, "a comment of another length", 27, other.length), 0, 0, 0, other.length);
+        HOLDS(&other);
+    }
+}
+
+static void plain_kinds(void)
+{
+    static const uint8_t FIRST[4] = {0x00, 0x7f, 0x80, 0xff};
+    for (int algorithm = 0; algorithm < 4; algorithm++) {
+        for (size_t i = 0; i < 4; i++) {
+            key k = make_key(algorithm, FIRST[i]);
+            now("plain kind", (size_t)algorithm);
+            plain_kind(&k);
+        }
+    }
+}
+
+static void encrypted_kind(const key *k, int cipher, int kdf, size_t blocks)
+{
+    make_sealed(&seal, cipher, kdf, k, blocks);
+    encrypted_image(&image, &seal);
+    READS(&image, encrypted_record(&seal, k));
+    lend_junk();
+    REPLY(write_sealed(&seal, image.length), 0, 0, 0, image.length);
+    HOLDS(&image);
+    lend_junk();
+    REPLY(write_sealed(&seal, image.length - 1), 9, 0, 0, 0);
+    KEPT();
+    rewritten();
+    lend_image(&image);
+    REPLY(change(image.length, "\xff", 1, image.length), 8, 0, 0, 0);
+    KEPT();
+}
+
+static void encrypted_kinds(void)
+{
+    for (int cipher = 1; cipher < 10; cipher++) {
+        for (int i = 0; i < 8; i++) {
+            key k = make_key(i % 4, 0x10);
+            now("cipher", (size_t)cipher);
+            encrypted_kind(&k, cipher, i / 4, (size_t)i);
+        }
+    }
+}
+
+/* ---- the reader's refusals */
+
+typedef struct {
+    size_t place;
+    int byte;
+    uint64_t number, count, at;
+} damage;
+
+static void damaged(const bytes *good, const damage *list, size_t n)
+{
+    for (size_t i = 0; i < n; i++) {
+        now("damage of byte", list[i].place);
+        image = *good;
+        image.at[list[i].place] = (uint8_t)list[i].byte;
+        REFUSED(&image, list[i].number, list[i].count, list[i].at);
+    }
+}
+
+static void damaged_ed25519(void)
+{
+    static const damage LIST[] = {
+        {13, '2', 2, 0, 0},     {14, 1, 2, 0, 0},      /* magic */
+        {18, 3, 4, 0, 15},      {19, 'N', 4, 0, 15},   /* cipher name */
+        {15, 0xff, 1, 0, 15},
+        {27, 'N', 4, 0, 23},    {23, 1, 1, 0, 23},     /* KDF name and options */
+        {34, 1, 3, 0, 31},      {33, 1, 1, 0, 31},
+        {38, 0, 1, 0, 35},      {38, 2, 1, 0, 35},     {35, 1, 1, 0, 35}, /* key count */
+        {40, 1, 1, 0, 39},      {42, 3, 1, 0, 43},     /* blob */
+        {42, 50, 1, 0, 58},     {42, 52, 6, 1, 94},    {47, 'x', 4, 0, 43},
+        {61, 31, 1, 0, 58},     {61, 33, 1, 0, 58},    {62, 0, 5, 0, 106},
+        {97, 137, 1, 0, 94},    {97, 135, 1, 0, 98},   {97, 128, 1, 0, 225}, /* section */
+        {97, 0, 1, 0, 98},      {101, 0, 3, 0, 102},   {105, 0, 3, 0, 102},
+        {110, 'x', 4, 0, 106},  {106, 1, 1, 0, 106},   /* keypair */
+        {124, 31, 1, 0, 121},   {124, 33, 6, 1, 157},
+        {125, 0, 3, 0, 157},    {193, 0, 3, 0, 157},   {160, 63, 1, 0, 157}, {160, 65, 6, 1, 225},
+        {228, 6, 1, 0, 225},    {229, 0xff, 7, 0, 225}, {228, 4, 2, 0, 233}, /* comment and padding */
+    };
+    key k = make_key(SALTORCHARD_ED25519, 0xee);
+    static bytes good;
+    plain_image(&good, &k, 0x12345678, "oven7", 5);
+    damaged(&good, LIST, sizeof LIST / sizeof *LIST);
+}
+
+static void damaged_p256(void)
+{
+    static const damage LIST[] = {
+        {46, 18, 4, 0, 43},    {69, 7, 4, 0, 66},     {77, '7', 4, 0, 66},   /* blob */
+        {81, 64, 1, 0, 78},    {81, 66, 1, 0, 78},    {82, 2, 2, 0, 78},     {42, 105, 6, 1, 147},
+        {185, 7, 4, 0, 182},   {193, '7', 4, 0, 182}, {197, 64, 1, 0, 194}, /* section */
+        {197, 66, 6, 1, 263},  {198, 3, 2, 0, 194},   {199, 0xfe, 5, 0, 159},
+        {83, 0xfe, 5, 0, 159}, {266, 31, 1, 0, 263},  {266, 34, 6, 2, 299},  {266, 33, 2, 0, 263},
+        {308, 0, 2, 0, 308},   {310, 4, 2, 0, 308},   /* padding: its first byte, whichever is wrong */
+    };
+    key k = make_key(SALTORCHARD_P256, 0x7f);
+    static bytes good;
+    plain_image(&good, &k, 0x12345678, "oven7", 5);
+    damaged(&good, LIST, sizeof LIST / sizeof *LIST);
+}
+
+static void cut_or_longer(void)
+{
+    key k = make_key(SALTORCHARD_ED25519, 0xee);
+    plain_image(&other, &k, 7, "oven17", 6);
+    for (size_t n = 0; n < other.length; n++) {
+        now("cut to", n);
+        other.length = n;
+        saltorchard_image r = saltorchard_read(other.at, n);
+        CHECK(r.number == 1 && r.count == 0 && r.kind == 0 && r.at <= n);
+        other.length = 242;
+    }
+    for (size_t n = 1; n < 9; n++) {
+        now("bytes left", n);
+        image = other;
+        put(&image, "abcdefgh", n);
+        REFUSED(&image, 6, n, 242);
+    }
+    now("bytes left, and a damaged section", 1);
+    image.at[241] = 0;
+    REFUSED(&image, 2, 0, 235);
+}
+
+/* Eight padding bytes that are right each, and are one block too many. */
+static void eight_padding_bytes(void)
+{
+    key k = make_key(SALTORCHARD_ED25519, 0xee);
+    now("padding", 8);
+    plain_image(&image, &k, 7, "oven7\1\2\3\4\5\6\7\10", 13);
+    image.at[228] = 5;
+    REFUSED(&image, 1, 0, 234);
+}
+
+/* A P-256 header, then a section whose key fields are given, with an empty comment. */
+static void other_section(const bytes *pair)
+{
+    key k = make_key(SALTORCHARD_P256, 0x7f);
+    static bytes section;
+    section.length = 0;
+    put_uint32(&section, 5);
+    put_uint32(&section, 5);
+    put(&section, pair->at, pair->length);
+    put_uint32(&section, 0);
+    put_plain_header(&image, &k);
+    put_section(&image, &section);
+}
+
+static void section_of_another_key(void)
+{
+    key p384 = make_key(SALTORCHARD_P384, 0x7f), ed25519 = make_key(SALTORCHARD_ED25519, 1);
+    now("section's curve unlike its name, scalar length", 48);
+    field.length = 0;
+    put_name(&field, ALGORITHMS[SALTORCHARD_P256]);
+    put_name(&field, CURVES[SALTORCHARD_P384]);
+    put_string(&field, p384.pub, p384.pub_len);
+    put_string(&field, p384.priv, 48);
+    other_section(&field);
+    REFUSED(&image, 4, 0, 182);
+    now("section's curve unlike its name, scalar length", 47);
+    field.length -= 52;
+    put_string(&field, p384.priv, 47);
+    other_section(&field);
+    REFUSED(&image, 1, 0, 295);
+    now("section's key of kind", 2);
+    field.length = 0;
+    put_public(&field, &p384);
+    put_string(&field, p384.priv, 48);
+    other_section(&field);
+    REFUSED(&image, 5, 0, 159);
+    now("section's key of kind", 0);
+    field.length = 0;
+    put_public(&field, &ed25519);
+    put_uint32(&field, 64);
+    put_private(&field, &ed25519);
+    other_section(&field);
+    REFUSED(&image, 5, 0, 159);
+}
+
+/* An encrypted image up to its ciphertext, with the KDF options and the blob given. */
+static void sealed_header(int cipher, const bytes *options, const bytes *blob)
+{
+    put_header(&image, cipher, SALTORCHARD_BCRYPT, options, blob);
+    put_uint32(&image, 0);
+}
+
+static void kdf_options(void)
+{
+    key k = make_key(SALTORCHARD_ED25519, 1);
+    static bytes options, blob;
+    size_t at = 15 + 4 + 10 + 4 + 6 + 4; /* the options' first byte, for aes256-ctr and bcrypt */
+    blob.length = options.length = 0;
+    put_public(&blob, &k);
+    now("options of length", 0);
+    sealed_header(SALTORCHARD_AES256_CTR, &options, &blob);
+    REFUSED(&image, 1, 0, at);
+    now("options of length", 7);
+    put_string(&options, "abc", 3);
+    sealed_header(SALTORCHARD_AES256_CTR, &options, &blob);
+    REFUSED(&image, 1, 0, at + 7);
+    now("options of length", 13);
+    put_uint32(&options, 16);
+    put(&options, "xy", 2);
+    sealed_header(SALTORCHARD_AES256_CTR, &options, &blob);
+    REFUSED(&image, 6, 2, at + 11);
+    now("bcrypt without a cipher", 1);
+    options.length -= 2;
+    sealed_header(SALTORCHARD_CIPHER_NONE, &options, &blob);
+    REFUSED(&image, 3, 0, 23);
+    now("bcrypt without a cipher, and a blob cut short", 1);
+    blob.length--;
+    sealed_header(SALTORCHARD_CIPHER_NONE, &options, &blob);
+    REFUSED(&image, 1, 0, 23 + 4 + 6 + 4 + 11 + 4 + 4 + 15);
+}
+
+static void ciphertexts(void)
+{
+    key k = make_key(SALTORCHARD_P256, 1);
+    size_t at;
+    make_sealed(&seal, SALTORCHARD_AES128_GCM, SALTORCHARD_BCRYPT, &k, 2);
+    encrypted_image(&other, &seal);
+    at = encrypted_record(&seal, &k).ciphertext.start;
+    now("tag cut to", 15);
+    image = other;
+    image.length--;
+    REFUSED(&image, 1, 0, at + 32);
+    now("bytes left after the tag", 3);
+    image = other;
+    put(&image, "xyz", 3);
+    REFUSED(&image, 6, 3, at + 48);
+    now("ciphertext of length", 24);
+    image = other;
+    image.at[at - 1] = 24;
+    REFUSED(&image, 3, 0, at - 4);
+    now("ciphertext that holds the tag", 48);
+    image = other;
+    image.at[at - 1] = 48;
+    REFUSED(&image, 1, 0, at + 48);
+    now("ciphertext past the end", 49);
+    image.at[at - 1] = 49;
+    REFUSED(&image, 1, 0, at - 4);
+}
+
+static void too_long(void)
+{
+    now("image of length", 65536);
+    image.length = 65536;
+    memset(image.at, 'x', 65536);
+    REFUSED(&image, 11, 0, 0);
+    now("image of length", 65535);
+    image.length = 65535;
+    REFUSED(&image, 2, 0, 0);
+    image.length = LARGEST;
+    now("image of length", LARGEST);
+    REFUSED(&image, 11, 0, 0);
+}
+
+/* ---- the writers' refusals, each where all that come later would hold too */
+
+static void plain_order(void)
+{
+    key k = make_key(SALTORCHARD_P256, 1);
+    now("plain writer's refusal", 1);
+    lend_junk();
+    k.pub[0] = 5;
+    k.pub_len = 64;
+    REPLY(write_key(&k, 0, 0, "\xff", 1, 0), 1, 0, 0, 0);
+    k.pub_len = 65;
+    k.priv_len = 33;
+    REPLY(write_key(&k, 0, 0, "\xff", 1, 0), 1, 0, 0, 0);
+    k.priv_len = 0;
+    REPLY(write_key(&k, 1, 0, "\xff", 1, 0), 1, 0, 0, 0);
+    k.priv_len = 32;
+    k.algorithm = SALTORCHARD_P384;
+    REPLY(write_key(&k, 0, 0, "\xff", 1, 0), 1, 0, 0, 0);
+    k.algorithm = SALTORCHARD_P256;
+    now("plain writer's refusal", 2);
+    REPLY(write_key(&k, 0, 0, "\xff", 1, 0), 2, 0, 0, 0);
+    k.pub[0] = 4;
+    now("plain writer's refusal", 7);
+    long_comment[65400] = (char)0xff;
+    REPLY(write_key(&k, 0, 0, long_comment, 65401, 0), 7, 0, 0, 0);
+    long_comment[65400] = 'c';
+    now("plain writer's refusal", 11);
+    REPLY(write_key(&k, 0, 0, long_comment, 65401, 0), 11, 0, 0, 0);
+    now("plain writer's refusal", 9);
+    REPLY(write_key(&k, 0, 0, "oven7", 5, 0), 9, 0, 0, 0);
+    KEPT();
+}
+
+/* A blob that the reader would refuse at step 5, with a ciphertext and a tag that are wrong too. */
+static void blob_refused(int algorithm, size_t place, int byte, size_t longer, uint64_t number, uint64_t count)
+{
+    key k = make_key(algorithm, 1);
+    make_sealed(&seal, SALTORCHARD_AES256_CTR, SALTORCHARD_BCRYPT, &k, 1);
+    seal.blob.at[place] = (uint8_t)byte;
+    seal.blob.length += longer;
+    seal.ciphertext.length = 15;
+    seal.tag.length = 1;
+    REPLY(write_sealed(&seal, 0), number, count, 0, 0);
+}
+
+static void encrypted_order(void)
+{
+    key k = make_key(SALTORCHARD_P384, 1);
+    lend_junk();
+    now("encrypted writer's refusal", 3);
+    make_sealed(&seal, SALTORCHARD_CIPHER_NONE, SALTORCHARD_BCRYPT, &k, 1);
+    seal.blob.length = 0;
+    REPLY(write_sealed(&seal, 0), 3, 0, 0, 0);
+    make_sealed(&seal, SALTORCHARD_AES256_CTR, SALTORCHARD_KDF_NONE, &k, 1);
+    seal.blob.length = 0;
+    seal.salt.length = 1;
+    REPLY(write_sealed(&seal, 0), 3, 0, 0, 0);
+    seal.salt.length = 0;
+    seal.rounds = 1;
+    REPLY(write_sealed(&seal, 0), 3, 0, 0, 0);
+    seal.rounds = 0;
+    now("blob refused", 1);
+    REPLY(write_sealed(&seal, 0), 1, 0, 0, 0);
+    blob_refused(SALTORCHARD_P256, 38, 64, 0, 1, 0);
+    blob_refused(SALTORCHARD_P521, 39, 2, 0, 2, 0);
+    blob_refused(SALTORCHARD_ED25519, 4, 'x', 0, 4, 0);
+    blob_refused(SALTORCHARD_P256, 22, '7', 0, 4, 0);
+    blob_refused(SALTORCHARD_P384, 34, '5', 0, 4, 0);
+    blob_refused(SALTORCHARD_P384, 0, 0, 3, 6, 3);
+    now("blob's curve unlike its name", 4);
+    make_sealed(&seal, SALTORCHARD_AES256_CTR, SALTORCHARD_BCRYPT, &k, 1);
+    memcpy(seal.blob.at + 4, ALGORITHMS[SALTORCHARD_P256], 19);
+    seal.blob.length++;
+    REPLY(write_sealed(&seal, 0), 4, 0, 0, 0);
+    seal.blob.at[39] = 3;
+    REPLY(write_sealed(&seal, 0), 2, 0, 0, 0);
+    KEPT();
+}
+
+static void encrypted_order_after_the_blob(void)
+{
+    key k = make_key(SALTORCHARD_ED25519, 1);
+    lend_junk();
+    for (int cipher = 1; cipher < 10; cipher++) {
+        now("encrypted writer's refusals, cipher", (size_t)cipher);
+        make_sealed(&seal, cipher, SALTORCHARD_BCRYPT, &k, 4);
+        seal.tag.length = CIPHERS[cipher].tag + 1;
+        seal.ciphertext.length = 64 + CIPHERS[cipher].block / 2;
+        REPLY(write_sealed(&seal, 0), 3, 0, 0, 0);
+        seal.ciphertext.length = 65536;
+        REPLY(write_sealed(&seal, 0), 1, 0, 0, 0);
+        seal.tag.length = CIPHERS[cipher].tag;
+        REPLY(write_sealed(&seal, 0), 11, 0, 0, 0);
+        seal.ciphertext.length = 64;
+        REPLY(write_sealed(&seal, 0), 9, 0, 0, 0);
+        if (CIPHERS[cipher].tag > 0) {
+            seal.tag.length = 15;
+            REPLY(write_sealed(&seal, LARGEST), 1, 0, 0, 0);
+        }
+    }
+    KEPT();
+}
+
+/* The largest encrypted image, by its salt, and one byte more. */
+static void encrypted_limit(void)
+{
+    key k = make_key(SALTORCHARD_ED25519, 1);
+    now("encrypted image of length", 65535);
+    make_sealed(&seal, SALTORCHARD_AES256_GCM, SALTORCHARD_BCRYPT, &k, 1);
+    seal.rounds = 0xffffffff;
+    encrypted_image(&image, &seal);
+    seal.salt.length += 65535 - image.length;
+    memset(seal.salt.at, 0xa5, seal.salt.length);
+    encrypted_image(&image, &seal);
+    lend_junk();
+    REPLY(write_sealed(&seal, 65535), 0, 0, 0, 65535);
+    HOLDS(&image);
+    READS(&image, encrypted_record(&seal, &k));
+    seal.salt.length++;
+    lend_junk();
+    REPLY(write_sealed(&seal, LARGEST), 11, 0, 0, 0);
+    KEPT();
+}
+
+/* Without its zero this image has 65,535 bytes; the writer's form of its record would have more. */
+static void rewrite_above_the_limit(void)
+{
+    key k = make_key(SALTORCHARD_P256, 0x80);
+    now("rewrite above the limit", 65543);
+    field.length = 0;
+    put(&field, k.priv, 32);
+    plain_image_of(&image, &k, &field, 3, long_comment, 65232);
+    CHECK(image.length == 65535);
+    READS(&image, plain_record(&k, 0, 3, 65232, 0));
+    lend_junk();
+    REPLY(rewrite(&image, LARGEST), 11, 0, 0, 0);
+    KEPT();
+    lend_image(&image);
+    REPLY(change(65535, "", 0, LARGEST), 10, 0, 0, 0);
+    KEPT();
+}
+
+/* ---- codes that name nothing: 4 before all else */
+
+static void unknown_algorithms(void)
+{
+    key k = make_key(SALTORCHARD_ED25519, 1);
+    lend_junk();
+    for (int code = 4; code < 256; code++) {
+        now("algorithm code", (size_t)code);
+        k.algorithm = code;
+        REPLY(write_key(&k, 0, 0, "oven7", 5, LARGEST), 4, 0, 0, 0);
+        REPLY(saltorchard_write_plain((uint8_t)code, NULL, 0, k.priv, 1, 1, 0, (const uint8_t *)"\xff", 1, lent, 3), 4, 0, 0, 0);
+    }
+    KEPT();
+}
+
+static void unknown_cipher_or_kdf(int cipher, int kdf)
+{
+    seal.cipher = cipher;
+    seal.kdf = kdf;
+    REPLY(write_sealed(&seal, LARGEST), 4, 0, 0, 0);
+    REPLY(saltorchard_write_encrypted((uint8_t)cipher, (uint8_t)kdf, lent, 1, 1, NULL, 0, lent, 1, lent, 3, NULL, 0), 4, 0, 0, 0);
+}
+
+static void unknown_ciphers_and_kdfs(void)
+{
+    key k = make_key(SALTORCHARD_ED25519, 1);
+    make_sealed(&seal, SALTORCHARD_AES256_CTR, SALTORCHARD_BCRYPT, &k, 1);
+    lend_junk();
+    for (int code = 10; code < 256; code++) {
+        now("cipher code", (size_t)code);
+        unknown_cipher_or_kdf(code, SALTORCHARD_KDF_NONE);
+        unknown_cipher_or_kdf(code, SALTORCHARD_BCRYPT);
+    }
+    for (int code = 2; code < 256; code++) {
+        now("KDF code", (size_t)code);
+        unknown_cipher_or_kdf(SALTORCHARD_CIPHER_NONE, code);
+        unknown_cipher_or_kdf(SALTORCHARD_AES256_CTR, code);
+    }
+    unknown_cipher_or_kdf(255, 255);
+    KEPT();
+}
+
+/* ---- empty parts as NULL */
+
+static void null_parts(void)
+{
+    key k = make_key(SALTORCHARD_ED25519, 1);
+    now("NULL", 0);
+    image_at(__LINE__, saltorchard_read(NULL, 0), refusal(1, 0, 0));
+    REPLY(saltorchard_rewrite(NULL, 0, NULL, 0), 1, 0, 0, 0);
+    REPLY(saltorchard_change_comment(NULL, 0, 0, NULL, 0), 1, 0, 0, 0);
+    REPLY(saltorchard_change_comment(NULL, 0, 1, NULL, 0), 1, 0, 0, 0);
+    REPLY(saltorchard_write_plain(0, NULL, 0, NULL, 0, 1, 0, NULL, 0, NULL, 0), 1, 0, 0, 0);
+    REPLY(saltorchard_write_plain(0, k.pub, 32, k.priv, 32, 1, 0, NULL, 0, NULL, 0), 9, 0, 0, 0);
+    REPLY(saltorchard_write_encrypted(1, 0, NULL, 0, 0, NULL, 0, NULL, 0, NULL, 0, NULL, 0), 1, 0, 0, 0);
+    plain_image(&image, &k, 6, NULL, 0);
+    REPLY(saltorchard_rewrite(image.at, image.length, NULL, 0), 9, 0, 0, 0);
+    lend_junk();
+    REPLY(write_key(&k, 0, 6, NULL, 0, LARGEST), 0, 0, 0, image.length);
+    HOLDS(&image);
+    plain_image(&other, &k, 6, "oven7", 5);
+    lend_image(&other);
+    REPLY(change(other.length, NULL, 0, LARGEST), 0, 0, 0, image.length);
+    HOLDS(&image);
+    make_sealed(&seal, SALTORCHARD_3DES_CBC, SALTORCHARD_KDF_NONE, &k, 0);
+    encrypted_image(&image, &seal);
+    lend_junk();
+    REPLY(saltorchard_write_encrypted(1, 0, NULL, 0, 0, seal.blob.at, seal.blob.length, NULL, 0, NULL, 0, lent, image.length),
+          0, 0, 0, image.length);
+    HOLDS(&image);
+}
+
+/* ---- comments */
+
+static const struct {
+    const char *text;
+    size_t length;
+    int utf8;
+} COMMENTS[] = {
+    {"\0", 1, 1},                {"\x7f", 1, 1},             {"\xc3\xa9", 2, 1},         {"\xdf\xbf", 2, 1},
+    {"\xe0\xa0\x80", 3, 1},      {"\xe2\x82\xac", 3, 1},     {"\xed\x9f\xbf", 3, 1},     {"\xee\x80\x80", 3, 1},
+    {"\xef\xbf\xbf", 3, 1},      {"\xf0\x90\x80\x80", 4, 1}, {"\xf4\x8f\xbf\xbf", 4, 1}, {"eight by\xc3\xa9teight", 16, 1},
+    {"\x80", 1, 0},              {"\xc0\x80", 2, 0},         {"\xc1\xbf", 2, 0},         {"\xc3", 1, 0},
+    {"\xc3(", 2, 0},             {"\xe0\x9f\xbf", 3, 0},     {"\xed\xa0\x80", 3, 0},     {"\xe2\x82", 2, 0},
+    {"\xf0\x8f\xbf\xbf", 4, 0},  {"\xf4\x90\x80\x80", 4, 0}, {"\xf5\x80\x80\x80", 4, 0}, {"\xf0\x9f\x94", 3, 0},
+    {"\xff", 1, 0},              {"eight by\xc3teeight", 15, 0}, {"sixteen by seven\xe2\x82", 18, 0},
+};
+
+static void comment_bytes(void)
+{
+    key k = make_key(SALTORCHARD_P384, 0x7f);
+    size_t old = plain_record(&k, 0, 8, 5, 1).comment.start - 4;
+    for (size_t i = 0; i < sizeof COMMENTS / sizeof *COMMENTS; i++) {
+        const char *text = COMMENTS[i].text;
+        size_t n = COMMENTS[i].length;
+        int good = COMMENTS[i].utf8;
+        now("comment", i);
+        plain_image(&image, &k, 8, text, n);
+        READS(&image, good ? plain_record(&k, 0, 8, n, 1) : refusal(7, 0, old));
+        lend_junk();
+        REPLY(write_key(&k, 0, 8, text, n, LARGEST), good ? 0 : 7, 0, 0, good ? image.length : 0);
+        if (good)
+            HOLDS(&image);
+        else
+            KEPT();
+        plain_image(&other, &k, 8, "oven7", 5);
+        lend_image(&other);
+        REPLY(change(other.length, text, n, 600), good ? 0 : 7, 0, good ? 0 : old, good ? image.length : 0);
+        if (good && image.length < other.length)
+            memset(want + GUARD + image.length, 0, other.length - image.length);
+        if (good)
+            HOLDS(&image);
+        else
+            KEPT();
+    }
+}
+
+/* One step of a sequence: the reply, the image, zeros where the old one was longer. Answers the length that now stands. */
+static size_t step(int line, const key *k, size_t n, const char *comment, size_t room, uint64_t number, uint64_t at)
+{
+    size_t c = strlen(comment);
+    now("change of a comment at length", n);
+    if (number != 0) {
+        reply_at(line, change(n, comment, c, room), number, 0, at, 0);
+        ground_at(line);
+        return n;
+    }
+    plain_image(&image, k, 4, comment, c);
+    reply_at(line, change(n, comment, c, room), 0, 0, 0, image.length);
+    if (image.length < n)
+        memset(want + GUARD + image.length, 0, n - image.length);
+    holds_at(line, &image);
+    return image.length;
+}
+
+static void comment_sequence(void)
+{
+    static const char SIXTY[] = "sixty bytes of inventory text, with a shelf, a row and an id";
+    key k = make_key(SALTORCHARD_P256, 0x80);
+    size_t n;
+    plain_image(&image, &k, 4, SIXTY, 60);
+    lend_image(&image);
+    n = step(__LINE__, &k, image.length, SIXTY, 367, 0, 0);
+    CHECK(n == 367);
+    n = step(__LINE__, &k, n, "x", 367, 0, 0);
+    CHECK(n == 311);
+    n = step(__LINE__, &k, n, "\xff", 0x137, 7, 264 + 4 + 32);
+    n = step(__LINE__, &k, n, "12345678", 318, 9, 0);
+    n = step(__LINE__, &k, n, "12345678", 319, 0, 0);
+    CHECK(n == 319);
+    n = step(__LINE__, &k, n, long_comment, 319, 11, 0);
+    n = step(__LINE__, &k, n, "", 319, 0, 0);
+    CHECK(n == 311);
+    n = step(__LINE__, &k, n, "1234567", 311, 0, 0);
+    n = step(__LINE__, &k, n, SIXTY, LARGEST, 0, 0);
+    CHECK(n == 367);
+    plain_image(&image, &k, 4, SIXTY, 60);
+    READS(&image, plain_record(&k, 1, 4, 60, 1));
+}
+
+static void comment_lengths(void)
+{
+    key k = make_key(SALTORCHARD_ED25519, 1);
+    now("image's length in the buffer", 0);
+    plain_image(&image, &k, 2, "oven7", 5);
+    lend_image(&image);
+    REPLY(change(65536, "\xff", 1, 10), 11, 0, 0, 0);
+    REPLY(change(SIZE_MAX, "\xff", 1, 10), 11, 0, 0, 0);
+    REPLY(change(65535, "\xff", 1, 65534), 1, 0, 0, 0);
+    REPLY(change(235, "\xff", 1, 234), 1, 0, 0, 0);
+    REPLY(change(0, "\xff", 1, 234), 1, 0, 0, 0);
+    REPLY(change(233, "\xff", 1, 234), 1, 0, 94, 0);
+    REPLY(change(236, "\xff", 1, 300), 6, 2, 234, 0);
+    KEPT();
+}
+
+int main(void)
+{
+    memset(long_comment, 'c', sizeof long_comment - 1);
+    marked_openings();
+    marked_images();
+    marked_scalars();
+    marked_limit();
+    marked_checkint();
+    plain_kinds();
+    encrypted_kinds();
+    damaged_ed25519();
+    damaged_p256();
+    cut_or_longer();
+    eight_padding_bytes();
+    section_of_another_key();
+    kdf_options();
+    ciphertexts();
+    too_long();
+    plain_order();
+    encrypted_order();
+    encrypted_order_after_the_blob();
+    encrypted_limit();
+    rewrite_above_the_limit();
+    unknown_algorithms();
+    unknown_ciphers_and_kdfs();
+    null_parts();
+    comment_bytes();
+    comment_sequence();
+    comment_lengths();
+    if (failed > 0)
+        printf("%lu checks failed\n", failed);
+    printf("%lu checks passed\n", passed);
+    return failed > 0;
+}

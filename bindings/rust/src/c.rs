@@ -1,0 +1,161 @@
+//! The C functions of the archive, each behind a function over slices. All unsafe code of the crate is here.
+
+/// A part of the image: where it begins and how long it is; 0 and 0 where the image has no such part.
+#[repr(C)]
+#[derive(Clone, Copy, PartialEq, Eq)]
+pub struct Part {
+    pub start: u64,
+    pub length: u64,
+}
+
+/// What a read answers. It has no `Debug`: a derived checkint says something of the private bytes.
+#[repr(C)]
+#[derive(Clone, Copy, PartialEq, Eq)]
+pub struct Image {
+    pub number: u64,
+    pub count: u64,
+    pub at: u64,
+    pub kind: u64,
+    pub algorithm: u64,
+    pub cipher: u64,
+    pub kdf: u64,
+    pub rounds: u64,
+    pub checkint: u64,
+    pub padding: u64,
+    pub form: u64,
+    pub blob: Part,
+    pub point: Part,
+    pub scalar: Part,
+    pub comment: Part,
+    pub salt: Part,
+    pub ciphertext: Part,
+    pub tag: Part,
+}
+
+/// What a writer or a comment change answers.
+#[repr(C)]
+#[derive(Clone, Copy, Debug, PartialEq, Eq)]
+pub struct Reply {
+    pub number: u64,
+    pub count: u64,
+    pub at: u64,
+    pub length: u64,
+}
+
+extern "C" {
+    fn saltorchard_read(image: *const u8, image_len: usize) -> Image;
+    fn saltorchard_write_plain(
+        algorithm: u8,
+        public: *const u8,
+        public_len: usize,
+        private: *const u8,
+        private_len: usize,
+        derive: u8,
+        checkint: u32,
+        comment: *const u8,
+        comment_len: usize,
+        out: *mut u8,
+        out_len: usize,
+    ) -> Reply;
+    fn saltorchard_write_encrypted(
+        cipher: u8,
+        kdf: u8,
+        salt: *const u8,
+        salt_len: usize,
+        rounds: u32,
+        blob: *const u8,
+        blob_len: usize,
+        ciphertext: *const u8,
+        ciphertext_len: usize,
+        tag: *const u8,
+        tag_len: usize,
+        out: *mut u8,
+        out_len: usize,
+    ) -> Reply;
+    fn saltorchard_rewrite(image: *const u8, image_len: usize, out: *mut u8, out_len: usize) -> Reply;
+    fn saltorchard_change_comment(
+        buffer: *mut u8,
+        buffer_len: usize,
+        n: usize,
+        comment: *const u8,
+        comment_len: usize,
+    ) -> Reply;
+}
+
+/// `saltorchard_read`.
+pub fn read(image: &[u8]) -> Image {
+    // SAFETY: the pointer and the length are one live slice's, and only that is read.
+    unsafe { saltorchard_read(image.as_ptr(), image.len()) }
+}
+
+/// `saltorchard_write_plain`; `derive` 0 takes the given checkint.
+pub fn write_plain(
+    algorithm: u8,
+    public: &[u8],
+    private: &[u8],
+    derive: u8,
+    checkint: u32,
+    comment: &[u8],
+    out: &mut [u8],
+) -> Reply {
+    // SAFETY: each pointer and length are one live slice's; `out` is lent alone, so it overlaps none of the others.
+    unsafe {
+        saltorchard_write_plain(
+            algorithm,
+            public.as_ptr(),
+            public.len(),
+            private.as_ptr(),
+            private.len(),
+            derive,
+            checkint,
+            comment.as_ptr(),
+            comment.len(),
+            out.as_mut_ptr(),
+            out.len(),
+        )
+    }
+}
+
+/// `saltorchard_write_encrypted`.
+#[allow(clippy::too_many_arguments)]
+pub fn write_encrypted(
+    cipher: u8,
+    kdf: u8,
+    salt: &[u8],
+    rounds: u32,
+    blob: &[u8],
+    ciphertext: &[u8],
+    tag: &[u8],
+    out: &mut [u8],
+) -> Reply {
+    // SAFETY: each pointer and length are one live slice's; `out` is lent alone, so it overlaps none of the others.
+    unsafe {
+        saltorchard_write_encrypted(
+            cipher,
+            kdf,
+            salt.as_ptr(),
+            salt.len(),
+            rounds,
+            blob.as_ptr(),
+            blob.len(),
+            ciphertext.as_ptr(),
+            ciphertext.len(),
+            tag.as_ptr(),
+            tag.len(),
+            out.as_mut_ptr(),
+            out.len(),
+        )
+    }
+}
+
+/// `saltorchard_rewrite`.
+pub fn rewrite(image: &[u8], out: &mut [u8]) -> Reply {
+    // SAFETY: each pointer and length are one live slice's; `out` is lent alone, so it doesn't overlap the image.
+    unsafe { saltorchard_rewrite(image.as_ptr(), image.len(), out.as_mut_ptr(), out.len()) }
+}
+
+/// `saltorchard_change_comment`; any `n` is fine, one above the buffer's length is refused.
+pub fn change_comment(buffer: &mut [u8], n: usize, comment: &[u8]) -> Reply {
+    // SAFETY: each pointer and length are one live slice's; `buffer` is lent alone, so it doesn't overlap the comment.
+    unsafe { saltorchard_change_comment(buffer.as_mut_ptr(), buffer.len(), n, comment.as_ptr(), comment.len()) }
+}

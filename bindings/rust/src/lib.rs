@@ -1,0 +1,26 @@
+#![doc = include_str!("../README.md")]
+#![deny(unsafe_code)]
+#![warn(missing_docs)]
+
+#[allow(unsafe_code, missing_docs)]
+mod c;
+mod error;
+mod image;
+mod lent;
+mod names;
+mod write;
+
+pub use error::Error;
+pub use image::Image;
+pub use lent::{set_comment, LentImage};
+pub use names::{Algorithm, Cipher, EcdsaCurve, KdfAlg};
+pub use write::{write_encrypted, write_plain, Checkint, EncryptedKey, PlainKey};
+
+/// The length of the longest image: a longer one is refused with number 11.
+pub const MAX_IMAGE_LEN: usize = 65_535;
+
+/// The C interface's own numbers, for the tests.
+#[doc(hidden)]
+pub mod raw {
+    pub use crate::c::{change_comment, read, rewrite, write_encrypted, write_plain, Image, Part, Reply};
+}

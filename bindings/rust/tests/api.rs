@@ -1,0 +1,191 @@
+//! What the crate adds to the C functions: names, sentences, and what is printed.
+
+mod support;
+
+use std::collections::BTreeSet;
+
+use saltorchard::{set_comment, write_encrypted, write_plain, MAX_IMAGE_LEN};
+use saltorchard::{Algorithm, Checkint, Cipher, EcdsaCurve, EncryptedKey, Error, Image, KdfAlg, LentImage, PlainKey};
+use support::hex;
+use support::images::{blob_bytes, sealed, Draft, Key, CIPHERS};
+use support::Rng;
+
+fn rng() -> Rng {
+    Rng::new("api")
+}
+
+fn good() -> Draft {
+    Draft::in_form(&Key::new(1, &mut rng()).beginning(0x80), 0xfeed_beef, b"oven7")
+}
+
+fn changed(change: impl Fn(&mut Draft)) -> Vec<u8> {
+    let mut draft = good();
+    change(&mut draft);
+    draft.pad();
+    draft.bytes()
+}
+
+fn refusal(change: impl Fn(&mut Draft)) -> Error {
+    Image::read(&changed(change)).expect_err("a refusal")
+}
+
+fn comment_refusal(mut image: Vec<u8>, comment: &str) -> Error {
+    let len = image.len();
+    set_comment(&mut image, len, comment).expect_err("a refusal")
+}
+
+/// One refusal of each number.
+fn refusals() -> Vec<Error> {
+    vec![
+        refusal(|draft| draft.count = 2),
+        refusal(|draft| draft.magic[0] = b'O'),
+        refusal(|draft| draft.checkints[1] = 1),
+        refusal(|draft| draft.cipher = b"aes512-ctr".to_vec()),
+        refusal(|draft| draft.blob[2][64] ^= 1),
+        refusal(|draft| draft.rest = vec![0, 0]),
+        refusal(|draft| draft.comment = b"oven\xff".to_vec()),
+        comment_refusal(sealed(0, 7, true, 2, &mut rng()).bytes(), "new"),
+        comment_refusal(good().bytes(), "a longer comment than the buffer has room for"),
+        comment_refusal(changed(|draft| draft.pair[3] = draft.pair[3][1..].to_vec()), "new"),
+        Image::read(&[0; MAX_IMAGE_LEN + 1]).expect_err("a refusal"),
+    ]
+}
+
+#[test]
+fn refusals_in_words() {
+    let sentences = [
+        "Refusal 1 (Length): a field runs past its end, or a length or the key count is wrong; the field begins at byte 35.",
+        "Refusal 2 (FormatEncoding): the magic, a padding byte, a point's tag or a scalar's leading byte is wrong; the place is byte 0, the image as a whole.",
+        "Refusal 3 (Crypto): the two checkints, the KDF's use, the ciphertext's length or the halves of the Ed25519 key don't fit; the field begins at byte 155.",
+        "Refusal 4 (AlgorithmUnknown): a name is unknown, or a curve isn't its algorithm's; the field begins at byte 15.",
+        "Refusal 5 (PublicKey): the section's public key isn't the header's; the field begins at byte 159.",
+        "Refusal 6 (TrailingData): 2 bytes are left over; the first is byte 311.",
+        "Refusal 7 (CharacterEncoding): the comment isn't UTF-8; the field begins at byte 300.",
+        "Refusal 8 (Encrypted): the section is encrypted, and a plain one is needed; the place is byte 0, the image as a whole.",
+        "Refusal 9 (BufferTooShort): the lent buffer is too short; the place is byte 0, the image as a whole.",
+        "Refusal 10 (NotInForm): the image isn't the one that the writer makes of its record; the place is byte 0, the image as a whole.",
+        "Refusal 11 (TooLarge): the image is, or would be, above 65,535 bytes; the place is byte 0, the image as a whole.",
+    ];
+    for (refusal, sentence) in refusals().iter().zip(sentences) {
+        assert_eq!(refusal.to_string(), sentence);
+    }
+    assert_eq!(
+        refusal(|draft| draft.rest = vec![0]).to_string(),
+        "Refusal 6 (TrailingData): 1 byte is left over; the first is byte 311."
+    );
+}
+
+#[test]
+fn refusals_in_numbers() {
+    let refusals = refusals();
+    let numbers: Vec<u64> = refusals.iter().map(|refusal| refusal.number()).collect();
+    assert_eq!(numbers, (1..=11).collect::<Vec<u64>>());
+    for refusal in &refusals {
+        assert_eq!(refusal.count(), if refusal.number() == 6 { 2 } else { 0 });
+    }
+    let names: BTreeSet<&str> = refusals.iter().map(|refusal| refusal.name()).collect();
+    assert_eq!(names.len(), 11);
+    let boxed: Box<dyn std::error::Error> = Box::new(refusals[0]);
+    assert_eq!(boxed.to_string(), refusals[0].to_string());
+}
+
+#[test]
+fn names() {
+    let algorithms = [
+        (Algorithm::Ed25519, "ssh-ed25519"),
+        (Algorithm::Ecdsa { curve: EcdsaCurve::NistP256 }, "ecdsa-sha2-nistp256"),
+        (Algorithm::Ecdsa { curve: EcdsaCurve::NistP384 }, "ecdsa-sha2-nistp384"),
+        (Algorithm::Ecdsa { curve: EcdsaCurve::NistP521 }, "ecdsa-sha2-nistp521"),
+    ];
+    for (algorithm, name) in algorithms {
+        assert_eq!((algorithm.as_str(), algorithm.to_string().as_str()), (name, name));
+        if let Algorithm::Ecdsa { curve } = algorithm {
+            assert_eq!(format!("ecdsa-sha2-{}", curve), name);
+        }
+    }
+    for (code, name) in CIPHERS.iter().enumerate().skip(1) {
+        let image = sealed(0, code as u8, true, 1, &mut rng()).bytes();
+        let image = Image::read(&image).expect("a good image");
+        assert_eq!(image.cipher().to_string(), *name);
+        assert!(image.is_encrypted() && image.cipher().is_some() && !image.cipher().is_none());
+        assert_eq!(image.kdf().to_string(), "bcrypt");
+    }
+    assert_eq!((Cipher::None.as_str(), KdfAlg::None.as_str()), ("none", "none"));
+}
+
+#[test]
+fn what_an_image_shows() {
+    let key = Key::new(1, &mut rng()).beginning(0x80);
+    let bytes = Draft::in_form(&key, 0xfeed_beef, b"oven7").bytes();
+    let image = Image::read(&bytes).expect("a good image");
+    let debug = format!("{:?} {:#?}", image, image);
+    assert!(debug.contains("NistP256") && debug.contains("\"oven7\"") && debug.contains("len: 311"));
+    hides_private_bytes(&debug, &key.private);
+    assert!(!debug.contains(&0xfeed_beef_u32.to_string()), "a checkint may come from private bytes");
+}
+
+#[test]
+fn what_the_other_types_show() {
+    let key = Key::new(0, &mut rng());
+    let (algorithm, checkint) = (Algorithm::Ed25519, Checkint::Given(0xfeed_beef));
+    let plain = PlainKey { algorithm, public: &key.public, private: &key.private, checkint };
+    let mut buffer = [0; 300];
+    let len = write_plain(&plain, "oven7", &mut buffer).expect("the key is fine");
+    let lent = LentImage::new(&mut buffer, len).expect("a good image");
+    let debug = format!("{:?} {:?}", plain, lent);
+    hides_private_bytes(&debug, &key.private);
+    assert!(!debug.contains(&0xfeed_beef_u32.to_string()));
+    assert!(debug.contains("len: 234, buffer_len: 300"));
+}
+
+/// No three private bytes stand in the text, as a list of numbers or in hex.
+fn hides_private_bytes(text: &str, private: &[u8]) {
+    let text = text.split_whitespace().collect::<String>();
+    for three in private.windows(3) {
+        assert!(!text.contains(&format!("{},{},{}", three[0], three[1], three[2])));
+        assert!(!text.to_lowercase().contains(&hex(three)));
+    }
+}
+
+#[test]
+fn an_encrypted_image() {
+    let key = Key::new(2, &mut rng());
+    let (blob, ciphertext, tag) = (blob_bytes(&key), [3; 32], [9; 16]);
+    let (cipher, kdf) = (Cipher::Aes256Gcm, KdfAlg::Bcrypt);
+    let parts =
+        EncryptedKey { cipher, kdf, salt: b"salt", rounds: 24, blob: &blob, ciphertext: &ciphertext, tag: &tag };
+    let mut out = [0; 400];
+    let len = write_encrypted(&parts, &mut out).expect("the parts are fine");
+    let image = Image::read(&out[..len]).expect("a good image");
+    assert_eq!((image.comment(), image.checkint(), image.padding_len()), ("", None, 0));
+    assert_eq!((image.salt(), image.rounds()), (&b"salt"[..], 24));
+    assert_eq!((image.ciphertext(), image.tag()), (&ciphertext[..], &tag[..]));
+    assert_eq!((image.public_blob(), image.point()), (&blob[..], &key.public[..]));
+    assert!(image.scalar().is_empty() && image.is_in_form());
+    let mut again = [0; 400];
+    assert_eq!(image.rewrite(&mut again), Ok(len));
+    assert_eq!(again[..len], out[..len]);
+}
+
+#[test]
+fn a_lent_image_is_read_first() {
+    let number = |buffer: &mut [u8], len| LentImage::new(buffer, len).expect_err("a refusal").number();
+    let mut image = good().bytes();
+    let len = image.len();
+    assert_eq!(number(&mut image, len + 1), 1);
+    assert_eq!(number(&mut image, MAX_IMAGE_LEN), 1);
+    assert_eq!(number(&mut image, MAX_IMAGE_LEN + 1), 11);
+    assert_eq!(number(&mut image, usize::MAX), 11);
+    assert_eq!(number(&mut image, len - 1), 1);
+    assert_eq!(number(&mut vec![0; 70_000], 65_536), 11);
+}
+
+/// Every refusal of a length is the one that the library gives for the same length.
+#[test]
+fn a_lent_image_refuses_as_the_library_does() {
+    let mut image = good().bytes();
+    for len in [0, 14, 15, 310, 312, 400, 65_535, 65_536, usize::MAX] {
+        let library = set_comment(&mut image, len, "").expect_err("a refusal");
+        assert_eq!(LentImage::new(&mut image, len).expect_err("a refusal"), library);
+    }
+}

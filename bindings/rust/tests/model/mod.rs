@@ -1,0 +1,518 @@
+//! A plain model of the container, written from its rules alone: an ordinary parser and writer that copies what it finds.
+//! The tests hold the library's answers against it.
+#![allow(dead_code)] // each test takes what it needs
+
+const LIMIT: usize = 65_535;
+const MAGIC: &[u8] = b"openssh-key-v1\0";
+
+/// Name, block and tag length of each cipher; the place is the code.
+const CIPHERS: [(&str, usize, usize); 10] = [
+    ("none", 8, 0),
+    ("3des-cbc", 8, 0),
+    ("aes128-cbc", 16, 0),
+    ("aes192-cbc", 16, 0),
+    ("aes256-cbc", 16, 0),
+    ("aes128-ctr", 16, 0),
+    ("aes192-ctr", 16, 0),
+    ("aes256-ctr", 16, 0),
+    ("aes128-gcm@openssh.com", 16, 16),
+    ("aes256-gcm@openssh.com", 16, 16),
+];
+
+const KDFS: [&str; 2] = ["none", "bcrypt"];
+
+/// The code of Ed25519; each other algorithm's code is the place of its curve, counted from 1.
+const ED25519: u8 = 0;
+const ALGORITHMS: [&str; 4] = ["ssh-ed25519", "ecdsa-sha2-nistp256", "ecdsa-sha2-nistp384", "ecdsa-sha2-nistp521"];
+const CURVES: [(&str, usize); 3] = [("nistp256", 32), ("nistp384", 48), ("nistp521", 66)];
+
+#[derive(Clone, Copy, Debug, PartialEq, Eq)]
+pub struct Refusal {
+    pub number: u64,
+    pub count: u64,
+    pub at: u64,
+}
+
+/// A part of the image, copied, and the place where it stood.
+#[derive(Clone, Debug, Default, PartialEq, Eq)]
+pub struct Part {
+    pub start: u64,
+    pub bytes: Vec<u8>,
+    pub present: bool,
+}
+
+#[derive(Clone, Debug, Default, PartialEq, Eq)]
+pub struct Record {
+    pub encrypted: bool,
+    pub algorithm: u8,
+    pub cipher: u8,
+    pub kdf: u8,
+    pub rounds: u32,
+    pub checkint: u32,
+    pub padding: u64,
+    pub form: bool,
+    pub blob: Part,
+    pub point: Part,
+    pub scalar: Part,
+    pub comment: Part,
+    pub salt: Part,
+    pub ciphertext: Part,
+    pub tag: Part,
+}
+
+fn refuse<T>(number: u64, at: usize) -> Result<T, Refusal> {
+    Err(Refusal { number, count: 0, at: at as u64 })
+}
+
+fn left_over<T>(count: usize, at: usize) -> Result<T, Refusal> {
+    Err(Refusal { number: 6, count: count as u64, at: at as u64 })
+}
+
+/// What is still to be read of the image, or of one of its strings.
+struct Reader<'a> {
+    image: &'a [u8],
+    at: usize,
+    end: usize,
+}
+
+impl<'a> Reader<'a> {
+    fn left(&self) -> usize {
+        self.end - self.at
+    }
+
+    fn bytes(&self) -> &'a [u8] {
+        &self.image[self.at..self.end]
+    }
+
+    fn part(&self) -> Part {
+        Part { start: self.at as u64, bytes: self.bytes().to_vec(), present: true }
+    }
+
+    fn uint32(&mut self) -> Result<u32, Refusal> {
+        if self.left() < 4 {
+            return refuse(1, self.at);
+        }
+        let mut number = 0;
+        for byte in &self.image[self.at..self.at + 4] {
+            number = number << 8 | u32::from(*byte);
+        }
+        self.at += 4;
+        Ok(number)
+    }
+
+    /// The next `length` bytes, for a field that began at `field`.
+    fn take(&mut self, length: usize, field: usize) -> Result<Reader<'a>, Refusal> {
+        if self.left() < length {
+            return refuse(1, field);
+        }
+        let taken = Reader { image: self.image, at: self.at, end: self.at + length };
+        self.at += length;
+        Ok(taken)
+    }
+
+    fn string(&mut self) -> Result<Reader<'a>, Refusal> {
+        let field = self.at;
+        let length = self.uint32()?;
+        self.take(length as usize, field)
+    }
+
+    /// A string that must have `length` bytes.
+    fn fixed(&mut self, length: usize) -> Result<Reader<'a>, Refusal> {
+        let field = self.at;
+        let string = self.string()?;
+        if string.left() < length {
+            return refuse(1, field);
+        }
+        if string.left() > length {
+            return left_over(string.left() - length, field + 4 + length);
+        }
+        Ok(string)
+    }
+
+    /// A string that must be one of `names`; answers which.
+    fn name<'n>(&mut self, names: impl IntoIterator<Item = &'n str>) -> Result<usize, Refusal> {
+        let field = self.at;
+        let string = self.string()?;
+        match names.into_iter().position(|name| name.as_bytes() == string.bytes()) {
+            Some(which) => Ok(which),
+            None => refuse(4, field),
+        }
+    }
+
+    fn finish(&self) -> Result<(), Refusal> {
+        if self.left() > 0 {
+            return left_over(self.left(), self.at);
+        }
+        Ok(())
+    }
+}
+
+/// The public half of a key, as the blob and the section both have it.
+struct Public {
+    algorithm: u8,
+    /// The place of the key's name.
+    name: usize,
+    /// The place and the algorithm of the curve string; Ed25519 has none.
+    curve: Option<(usize, u8)>,
+    size: usize,
+    point: Part,
+}
+
+impl Public {
+    fn read(reader: &mut Reader) -> Result<Public, Refusal> {
+        let name = reader.at;
+        let algorithm = reader.name(ALGORITHMS)? as u8;
+        if algorithm == ED25519 {
+            let point = reader.fixed(32)?.part();
+            return Ok(Public { algorithm, name, curve: None, size: 32, point });
+        }
+        let curve = reader.at;
+        let which = reader.name(CURVES.iter().map(|row| row.0))?;
+        let size = CURVES[which].1;
+        let field = reader.at;
+        let point = reader.fixed(1 + 2 * size)?.part();
+        if point.bytes[0] != 4 {
+            return refuse(2, field);
+        }
+        Ok(Public { algorithm, name, curve: Some((curve, which as u8 + 1)), size, point })
+    }
+
+    fn check_curve(&self) -> Result<(), Refusal> {
+        match self.curve {
+            Some((place, algorithm)) if algorithm != self.algorithm => refuse(4, place),
+            _ => Ok(()),
+        }
+    }
+}
+
+fn read_blob(blob: &mut Reader) -> Result<Public, Refusal> {
+    let public = Public::read(blob)?;
+    public.check_curve()?;
+    blob.finish()?;
+    Ok(public)
+}
+
+/// The seed that follows an Ed25519 public string.
+fn read_seed(reader: &mut Reader, public: &[u8]) -> Result<Part, Refusal> {
+    let field = reader.at;
+    let mut both = reader.fixed(64)?.part();
+    if both.bytes[32..] != *public {
+        return refuse(3, field);
+    }
+    both.bytes.truncate(32);
+    Ok(both)
+}
+
+fn read_scalar(reader: &mut Reader, size: usize) -> Result<Part, Refusal> {
+    let field = reader.at;
+    let mut string = reader.string()?;
+    if string.left() == size + 1 {
+        if string.bytes()[0] != 0 {
+            return refuse(2, field);
+        }
+        string.at += 1;
+        return Ok(string.part());
+    }
+    reader.at = field;
+    Ok(reader.fixed(size)?.part())
+}
+
+fn read_section(section: &mut Reader, header: &Public, record: &mut Record) -> Result<(), Refusal> {
+    if section.left() % 8 != 0 {
+        return refuse(1, section.at);
+    }
+    record.checkint = section.uint32()?;
+    let second = section.at;
+    if section.uint32()? != record.checkint {
+        return refuse(3, second);
+    }
+    let public = Public::read(section)?;
+    record.scalar = match public.curve {
+        None => read_seed(section, &public.point.bytes)?,
+        Some(_) => read_scalar(section, public.size)?,
+    };
+    public.check_curve()?;
+    if public.algorithm != header.algorithm || public.point.bytes != header.point.bytes {
+        return refuse(5, public.name);
+    }
+    let comment = section.at;
+    record.comment = section.string()?.part();
+    if std::str::from_utf8(&record.comment.bytes).is_err() {
+        return refuse(7, comment);
+    }
+    record.padding = section.left() as u64;
+    if section.left() >= 8 {
+        return refuse(1, section.at);
+    }
+    if section.bytes().iter().zip(1..).any(|(byte, right)| *byte != right) {
+        return refuse(2, section.at);
+    }
+    Ok(())
+}
+
+fn read_kdf(reader: &mut Reader, record: &mut Record) -> Result<(), Refusal> {
+    record.kdf = reader.name(KDFS)? as u8;
+    let field = reader.at;
+    let mut options = reader.string()?;
+    if record.kdf == 0 {
+        return if options.left() == 0 { Ok(()) } else { refuse(3, field) };
+    }
+    record.salt = options.string()?.part();
+    record.rounds = options.uint32()?;
+    options.finish()
+}
+
+fn read_ciphertext(reader: &mut Reader, record: &mut Record) -> Result<(), Refusal> {
+    let (_, block, tag) = CIPHERS[usize::from(record.cipher)];
+    let field = reader.at;
+    record.ciphertext = reader.string()?.part();
+    if record.ciphertext.bytes.len() % block != 0 {
+        return refuse(3, field);
+    }
+    if tag > 0 {
+        record.tag = reader.take(tag, reader.at)?.part();
+    }
+    Ok(())
+}
+
+/// Reads an image: the record, or the first refusal in the order of reading.
+pub fn read(image: &[u8]) -> Result<Record, Refusal> {
+    if image.len() > LIMIT {
+        return refuse(11, 0);
+    }
+    if image.len() < MAGIC.len() {
+        return refuse(1, 0);
+    }
+    if !image.starts_with(MAGIC) {
+        return refuse(2, 0);
+    }
+    let mut record = Record::default();
+    let mut reader = Reader { image, at: MAGIC.len(), end: image.len() };
+    record.cipher = reader.name(CIPHERS.iter().map(|row| row.0))? as u8;
+    record.encrypted = record.cipher != 0;
+    let kdf = reader.at;
+    read_kdf(&mut reader, &mut record)?;
+    let count = reader.at;
+    if reader.uint32()? != 1 {
+        return refuse(1, count);
+    }
+    let mut blob = reader.string()?;
+    record.blob = blob.part();
+    let public = read_blob(&mut blob)?;
+    record.algorithm = public.algorithm;
+    record.point = public.point.clone();
+    if record.encrypted {
+        read_ciphertext(&mut reader, &mut record)?;
+    } else if record.kdf != 0 {
+        return refuse(3, kdf);
+    } else {
+        read_section(&mut reader.string()?, &public, &mut record)?;
+    }
+    reader.finish()?;
+    record.form = written(&record) == image;
+    Ok(record)
+}
+
+fn put_uint32(image: &mut Vec<u8>, number: u32) {
+    image.extend_from_slice(&number.to_be_bytes());
+}
+
+fn put_string(image: &mut Vec<u8>, bytes: &[u8]) {
+    put_uint32(image, bytes.len() as u32);
+    image.extend_from_slice(bytes);
+}
+
+/// Name and public half, the same in a blob and a section.
+fn public_bytes(algorithm: u8, public: &[u8]) -> Vec<u8> {
+    let mut bytes = Vec::new();
+    put_string(&mut bytes, ALGORITHMS[usize::from(algorithm)].as_bytes());
+    if algorithm != ED25519 {
+        put_string(&mut bytes, CURVES[usize::from(algorithm) - 1].0.as_bytes());
+    }
+    put_string(&mut bytes, public);
+    bytes
+}
+
+fn section_bytes(algorithm: u8, public: &[u8], private: &[u8], checkint: u32, comment: &[u8]) -> Vec<u8> {
+    let mut section = Vec::new();
+    put_uint32(&mut section, checkint);
+    put_uint32(&mut section, checkint);
+    section.extend(public_bytes(algorithm, public));
+    let mut field = private.to_vec();
+    if algorithm == ED25519 {
+        field.extend_from_slice(public);
+    } else if private[0] >= 0x80 {
+        field.insert(0, 0);
+    }
+    put_string(&mut section, &field);
+    put_string(&mut section, comment);
+    let mut padding = 0;
+    while section.len() % 8 != 0 {
+        padding += 1;
+        section.push(padding);
+    }
+    section
+}
+
+/// The image of a plain key of the right lengths, however long it gets.
+fn plain_image(algorithm: u8, public: &[u8], private: &[u8], checkint: u32, comment: &[u8]) -> Vec<u8> {
+    let mut image = MAGIC.to_vec();
+    put_string(&mut image, b"none");
+    put_string(&mut image, b"none");
+    put_string(&mut image, b"");
+    put_uint32(&mut image, 1);
+    put_string(&mut image, &public_bytes(algorithm, public));
+    put_string(&mut image, &section_bytes(algorithm, public, private, checkint, comment));
+    image
+}
+
+fn encrypted_image(
+    (cipher, kdf): (u8, u8),
+    (salt, rounds): (&[u8], u32),
+    blob: &[u8],
+    ciphertext: &[u8],
+    tag: &[u8],
+) -> Vec<u8> {
+    let mut options = Vec::new();
+    if kdf != 0 {
+        put_string(&mut options, salt);
+        put_uint32(&mut options, rounds);
+    }
+    let mut image = MAGIC.to_vec();
+    put_string(&mut image, CIPHERS[usize::from(cipher)].0.as_bytes());
+    put_string(&mut image, KDFS[usize::from(kdf)].as_bytes());
+    put_string(&mut image, &options);
+    put_uint32(&mut image, 1);
+    put_string(&mut image, blob);
+    put_string(&mut image, ciphertext);
+    image.extend_from_slice(tag);
+    image
+}
+
+/// The image that the writer makes of a record, however long it gets.
+fn written(record: &Record) -> Vec<u8> {
+    if record.encrypted {
+        let codes = (record.cipher, record.kdf);
+        let options = (&record.salt.bytes[..], record.rounds);
+        return encrypted_image(codes, options, &record.blob.bytes, &record.ciphertext.bytes, &record.tag.bytes);
+    }
+    commented(record, &record.comment.bytes)
+}
+
+/// The image that the writer makes of a plain record with another comment.
+fn commented(record: &Record, comment: &[u8]) -> Vec<u8> {
+    plain_image(record.algorithm, &record.point.bytes, &record.scalar.bytes, record.checkint, comment)
+}
+
+fn store(image: &[u8], out: &mut [u8]) -> Result<usize, Refusal> {
+    if image.len() > LIMIT {
+        return refuse(11, 0);
+    }
+    if image.len() > out.len() {
+        return refuse(9, 0);
+    }
+    out[..image.len()].copy_from_slice(image);
+    Ok(image.len())
+}
+
+/// Lengths of the public and the private half.
+fn lengths(algorithm: u8) -> (usize, usize) {
+    if algorithm == ED25519 {
+        return (32, 32);
+    }
+    let size = CURVES[usize::from(algorithm) - 1].1;
+    (1 + 2 * size, size)
+}
+
+fn derived_checkint(private: &[u8]) -> u32 {
+    let groups = private.chunks_exact(4);
+    groups.fold(0, |sum, group| sum ^ u32::from_be_bytes([group[0], group[1], group[2], group[3]]))
+}
+
+/// Writes a plain image; `derive` other than 0 derives the checkint.
+pub fn write_plain(
+    algorithm: u8,
+    public: &[u8],
+    private: &[u8],
+    derive: u8,
+    checkint: u32,
+    comment: &[u8],
+    out: &mut [u8],
+) -> Result<usize, Refusal> {
+    if algorithm > 3 {
+        return refuse(4, 0);
+    }
+    if (public.len(), private.len()) != lengths(algorithm) {
+        return refuse(1, 0);
+    }
+    if algorithm != ED25519 && public[0] != 4 {
+        return refuse(2, 0);
+    }
+    if std::str::from_utf8(comment).is_err() {
+        return refuse(7, 0);
+    }
+    let checkint = if derive == 0 { checkint } else { derived_checkint(private) };
+    store(&plain_image(algorithm, public, private, checkint, comment), out)
+}
+
+/// Writes an encrypted image.
+#[allow(clippy::too_many_arguments)]
+pub fn write_encrypted(
+    cipher: u8,
+    kdf: u8,
+    salt: &[u8],
+    rounds: u32,
+    blob: &[u8],
+    ciphertext: &[u8],
+    tag: &[u8],
+    out: &mut [u8],
+) -> Result<usize, Refusal> {
+    if cipher > 9 || kdf > 1 {
+        return refuse(4, 0);
+    }
+    if cipher == 0 || kdf == 0 && (!salt.is_empty() || rounds != 0) {
+        return refuse(3, 0);
+    }
+    let mut reader = Reader { image: blob, at: 0, end: blob.len() };
+    if let Err(refusal) = read_blob(&mut reader) {
+        return Err(Refusal { at: 0, ..refusal });
+    }
+    let (_, block, tag_length) = CIPHERS[usize::from(cipher)];
+    if ciphertext.len() % block != 0 {
+        return refuse(3, 0);
+    }
+    if tag.len() != tag_length {
+        return refuse(1, 0);
+    }
+    store(&encrypted_image((cipher, kdf), (salt, rounds), blob, ciphertext, tag), out)
+}
+
+/// Writes an image's record again.
+pub fn rewrite(image: &[u8], out: &mut [u8]) -> Result<usize, Refusal> {
+    store(&written(&read(image)?), out)
+}
+
+/// Changes the comment of the image that the first `n` bytes of the buffer are; old bytes past the new end become zero.
+pub fn change_comment(buffer: &mut [u8], n: usize, comment: &[u8]) -> Result<usize, Refusal> {
+    if n > LIMIT {
+        return refuse(11, 0);
+    }
+    if n > buffer.len() {
+        return refuse(1, 0);
+    }
+    let record = read(&buffer[..n])?;
+    if record.encrypted {
+        return refuse(8, 0);
+    }
+    if !record.form {
+        return refuse(10, 0);
+    }
+    if std::str::from_utf8(comment).is_err() {
+        return refuse(7, record.comment.start as usize - 4);
+    }
+    let length = store(&commented(&record, comment), buffer)?;
+    if length < n {
+        buffer[length..n].fill(0);
+    }
+    Ok(length)
+}

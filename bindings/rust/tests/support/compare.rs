@@ -1,0 +1,323 @@
+//! The comparison of library and model: every number of the C interface, every part, every byte of the lent buffers.
+
+use super::model::{self, Part, Record, Refusal};
+use super::{hex, seed};
+use saltorchard::raw;
+use saltorchard::{Algorithm, Checkint, Cipher, EcdsaCurve, EncryptedKey, Error, Image, KdfAlg, PlainKey};
+
+const FIELDS: [&str; 25] = [
+    "number", "count", "at", "kind", "algorithm", "cipher", "kdf", "rounds", "checkint", "padding", "form",
+    "blob start", "blob length", "point start", "point length", "scalar start", "scalar length", "comment start",
+    "comment length", "salt start", "salt length", "ciphertext start", "ciphertext length", "tag start", "tag length",
+];
+
+pub const ALGORITHMS: [Algorithm; 4] = [
+    Algorithm::Ed25519,
+    Algorithm::Ecdsa { curve: EcdsaCurve::NistP256 },
+    Algorithm::Ecdsa { curve: EcdsaCurve::NistP384 },
+    Algorithm::Ecdsa { curve: EcdsaCurve::NistP521 },
+];
+pub const CIPHERS: [Cipher; 10] = [
+    Cipher::None,
+    Cipher::TDesCbc,
+    Cipher::Aes128Cbc,
+    Cipher::Aes192Cbc,
+    Cipher::Aes256Cbc,
+    Cipher::Aes128Ctr,
+    Cipher::Aes192Ctr,
+    Cipher::Aes256Ctr,
+    Cipher::Aes128Gcm,
+    Cipher::Aes256Gcm,
+];
+pub const KDFS: [KdfAlg; 2] = [KdfAlg::None, KdfAlg::Bcrypt];
+
+/// A call of the plain writer.
+#[derive(Clone, Copy)]
+pub struct Plain<'a> {
+    pub algorithm: u8,
+    pub public: &'a [u8],
+    pub private: &'a [u8],
+    pub derive: u8,
+    pub checkint: u32,
+    pub comment: &'a [u8],
+}
+
+/// A call of the encrypted writer.
+#[derive(Clone, Copy)]
+pub struct Encrypted<'a> {
+    pub cipher: u8,
+    pub kdf: u8,
+    pub salt: &'a [u8],
+    pub rounds: u32,
+    pub blob: &'a [u8],
+    pub ciphertext: &'a [u8],
+    pub tag: &'a [u8],
+}
+
+type Written = Result<usize, Refusal>;
+
+/// What both answered: the length that was written, none where it was refused, and the lent buffer.
+pub struct Answer {
+    pub written: Option<usize>,
+    pub buffer: Vec<u8>,
+}
+
+/// Bytes on both sides of a lent buffer that nobody may touch.
+const GUARD: usize = 16;
+
+/// A buffer of junk without a zero byte, guards included.
+fn guarded(room: usize) -> Vec<u8> {
+    let mut junk: Vec<u8> = (1..=251).map(|place: usize| (1 + place * 37 % 251) as u8).collect();
+    while junk.len() < room + 2 * GUARD {
+        junk.extend_from_within(..);
+    }
+    junk.truncate(room + 2 * GUARD);
+    junk
+}
+
+fn lent(guarded: &mut [u8]) -> &mut [u8] {
+    let end = guarded.len() - GUARD;
+    &mut guarded[GUARD..end]
+}
+
+fn lent_again(contents: &[u8]) -> Vec<u8> {
+    let mut buffer = guarded(contents.len());
+    lent(&mut buffer).copy_from_slice(contents);
+    buffer
+}
+
+fn reply_of(written: Written) -> raw::Reply {
+    match written {
+        Ok(length) => raw::Reply { number: 0, count: 0, at: 0, length: length as u64 },
+        Err(Refusal { number, count, at }) => raw::Reply { number, count, at, length: 0 },
+    }
+}
+
+fn refusal_of(error: Error) -> Refusal {
+    Refusal { number: error.number(), count: error.count() as u64, at: error.place() as u64 }
+}
+
+fn numbers_of(image: &raw::Image) -> [u64; 25] {
+    [
+        image.number, image.count, image.at, image.kind, image.algorithm, image.cipher, image.kdf, image.rounds,
+        image.checkint, image.padding, image.form, image.blob.start, image.blob.length, image.point.start,
+        image.point.length, image.scalar.start, image.scalar.length, image.comment.start, image.comment.length,
+        image.salt.start, image.salt.length, image.ciphertext.start, image.ciphertext.length, image.tag.start,
+        image.tag.length,
+    ]
+}
+
+fn parts_of(record: &Record) -> [&Part; 7] {
+    let Record { blob, point, scalar, comment, salt, ciphertext, tag, .. } = record;
+    [blob, point, scalar, comment, salt, ciphertext, tag]
+}
+
+fn numbers_of_model(read: &Result<Record, Refusal>) -> [u64; 25] {
+    let mut numbers = [0; 25];
+    match read {
+        Err(refusal) => numbers[..3].copy_from_slice(&[refusal.number, refusal.count, refusal.at]),
+        Ok(record) => {
+            numbers[3] = if record.encrypted { 2 } else { 1 };
+            numbers[4..7].copy_from_slice(&[record.algorithm, record.cipher, record.kdf].map(u64::from));
+            numbers[7..9].copy_from_slice(&[record.rounds, record.checkint].map(u64::from));
+            numbers[9] = record.padding;
+            numbers[10] = u64::from(record.form);
+            for (part, two) in parts_of(record).iter().zip(numbers[11..].chunks_mut(2)) {
+                two.copy_from_slice(&[part.start, part.bytes.len() as u64]);
+            }
+        }
+    }
+    numbers
+}
+
+/// The first accessor that doesn't answer as the model does.
+fn accessor_unlike(image: &Image, record: &Record) -> Option<&'static str> {
+    let checkint = if record.encrypted { None } else { Some(record.checkint) };
+    let same = [
+        ("algorithm", image.algorithm() == ALGORITHMS[usize::from(record.algorithm)]),
+        ("cipher", image.cipher() == CIPHERS[usize::from(record.cipher)]),
+        ("kdf", image.kdf() == KDFS[usize::from(record.kdf)]),
+        ("is_encrypted", image.is_encrypted() == record.encrypted),
+        ("rounds", image.rounds() == record.rounds),
+        ("checkint", image.checkint() == checkint),
+        ("padding_len", image.padding_len() as u64 == record.padding),
+        ("is_in_form", image.is_in_form() == record.form),
+    ];
+    same.iter().find(|(_, same)| !same).map(|(name, _)| *name)
+}
+
+/// The first view that isn't the model's part, or isn't that place of the caller's own bytes.
+fn view_unlike(image: &Image, record: &Record, bytes: &[u8]) -> Option<&'static str> {
+    let views = [
+        ("public_blob", image.public_blob()),
+        ("point", image.point()),
+        ("scalar", image.scalar()),
+        ("comment", image.comment().as_bytes()),
+        ("salt", image.salt()),
+        ("ciphertext", image.ciphertext()),
+        ("tag", image.tag()),
+    ];
+    for ((name, view), part) in views.iter().zip(parts_of(record)) {
+        let place = (view.as_ptr() as usize).wrapping_sub(bytes.as_ptr() as usize);
+        if *view != part.bytes || place as u64 != part.start {
+            return Some(name);
+        }
+    }
+    None
+}
+
+/// Compares, counts, and at the end says how often.
+pub struct Tally {
+    entry: &'static str,
+    made: u64,
+    numbers: [u64; 12],
+}
+
+impl Tally {
+    pub fn new(entry: &'static str) -> Self {
+        Self { entry, made: 0, numbers: [0; 12] }
+    }
+
+    /// Says how many comparisons there were; fails where there were fewer than `least`.
+    pub fn end(self, least: u64) {
+        println!("{}: {} comparisons, seed {}, by reply {:?}", self.entry, self.made, seed(), self.numbers);
+        assert!(self.made >= least, "{}: only {} comparisons of {}", self.entry, self.made, least);
+    }
+
+    /// Fails where one of these replies came less than `least` times.
+    pub fn expect_replies(&self, numbers: &[usize], least: u64) {
+        for number in numbers {
+            let seen = self.numbers[*number];
+            assert!(seen >= least, "{}: reply {} came only {} times", self.entry, number, seen);
+        }
+    }
+
+    fn count(&mut self, number: u64) {
+        self.made += 1;
+        self.numbers[number as usize] += 1;
+    }
+
+    fn fail(&self, what: &str, input: &str) -> ! {
+        panic!("{}: comparison {}, seed {}: {}\ninput: {}", self.entry, self.made, seed(), what, input)
+    }
+
+    /// Reads with both. Answers whether the image was accepted.
+    pub fn read(&mut self, bytes: &[u8]) -> bool {
+        let read = model::read(bytes);
+        let (library, right) = (numbers_of(&raw::read(bytes)), numbers_of_model(&read));
+        for ((name, library), right) in FIELDS.iter().zip(library).zip(right) {
+            if library != right {
+                self.fail(&format!("read: {}: library {}, model {}", name, library, right), &hex(bytes));
+            }
+        }
+        self.read_by_crate(bytes, &read);
+        self.count(right[0]);
+        read.is_ok()
+    }
+
+    fn read_by_crate(&self, bytes: &[u8], read: &Result<Record, Refusal>) {
+        let unlike = match (Image::read(bytes), read) {
+            (Err(error), Err(refusal)) if refusal_of(error) == *refusal => None,
+            (Ok(image), Ok(record)) if std::ptr::eq(image.as_bytes(), bytes) => {
+                accessor_unlike(&image, record).or_else(|| view_unlike(&image, record, bytes))
+            }
+            _ => Some("answer"),
+        };
+        if let Some(name) = unlike {
+            self.fail(&format!("Image::read: {} unlike the model's {:?}", name, read), &hex(bytes));
+        }
+    }
+
+    fn same(&self, what: &str, library: (raw::Reply, &[u8]), model: (Written, &[u8]), input: &dyn Fn() -> String) {
+        let right = reply_of(model.0);
+        if library.0 != right {
+            self.fail(&format!("{}: library {:?}, model {:?}", what, library.0, right), &input());
+        }
+        if library.1 != model.1 {
+            let place = library.1.iter().zip(model.1).position(|(a, b)| a != b).unwrap_or(0);
+            self.fail(&format!("{}: buffers differ at {}", what, place as i64 - GUARD as i64), &input());
+        }
+    }
+
+    /// Writes a plain image with both into buffers of `room` bytes.
+    pub fn write_plain(&mut self, call: Plain, room: usize) -> Answer {
+        let Plain { algorithm, public, private, derive, checkint, comment } = call;
+        let input = || {
+            let (public, private, comment) = (hex(public), hex(private), hex(comment));
+            format!("{} {} {} {} {} {} room {}", algorithm, public, private, derive, checkint, comment, room)
+        };
+        let before = guarded(room);
+        let mut right = before.clone();
+        let model = model::write_plain(algorithm, public, private, derive, checkint, comment, lent(&mut right));
+        let mut buffer = before.clone();
+        let reply = raw::write_plain(algorithm, public, private, derive, checkint, comment, lent(&mut buffer));
+        self.same("write_plain", (reply, &buffer), (model, &right), &input);
+        if let Some(algorithm) = ALGORITHMS.get(usize::from(algorithm)).copied() {
+            let checkint = if derive == 0 { Checkint::Given(checkint) } else { Checkint::Derived };
+            let key = PlainKey { algorithm, public, private, checkint };
+            let mut buffer = before.clone();
+            let answer = saltorchard::write_plain(&key, comment, lent(&mut buffer)).map_err(refusal_of);
+            self.same("write_plain of the crate", (reply_of(answer), &buffer), (model, &right), &input);
+        }
+        self.count(reply.number);
+        Answer { written: model.ok(), buffer: lent(&mut right).to_vec() }
+    }
+
+    /// Writes an encrypted image with both into buffers of `room` bytes.
+    pub fn write_encrypted(&mut self, call: Encrypted, room: usize) -> Answer {
+        let Encrypted { cipher, kdf, salt, rounds, blob, ciphertext, tag } = call;
+        let input = || {
+            let (salt, blob, ciphertext, tag) = (hex(salt), hex(blob), hex(ciphertext), hex(tag));
+            format!("{} {} {} {} {} {} {} room {}", cipher, kdf, salt, rounds, blob, ciphertext, tag, room)
+        };
+        let before = guarded(room);
+        let mut right = before.clone();
+        let model = model::write_encrypted(cipher, kdf, salt, rounds, blob, ciphertext, tag, lent(&mut right));
+        let mut buffer = before.clone();
+        let reply = raw::write_encrypted(cipher, kdf, salt, rounds, blob, ciphertext, tag, lent(&mut buffer));
+        self.same("write_encrypted", (reply, &buffer), (model, &right), &input);
+        if cipher < 10 && kdf < 2 {
+            let (cipher, kdf) = (CIPHERS[usize::from(cipher)], KDFS[usize::from(kdf)]);
+            let key = EncryptedKey { cipher, kdf, salt, rounds, blob, ciphertext, tag };
+            let mut buffer = before.clone();
+            let answer = saltorchard::write_encrypted(&key, lent(&mut buffer)).map_err(refusal_of);
+            self.same("write_encrypted of the crate", (reply_of(answer), &buffer), (model, &right), &input);
+        }
+        self.count(reply.number);
+        Answer { written: model.ok(), buffer: lent(&mut right).to_vec() }
+    }
+
+    /// Rewrites an image with both into buffers of `room` bytes.
+    pub fn rewrite(&mut self, image: &[u8], room: usize) -> Answer {
+        let input = || format!("{} room {}", hex(image), room);
+        let before = guarded(room);
+        let mut right = before.clone();
+        let model = model::rewrite(image, lent(&mut right));
+        let mut buffer = before.clone();
+        let reply = raw::rewrite(image, lent(&mut buffer));
+        self.same("rewrite", (reply, &buffer), (model, &right), &input);
+        if let Ok(image) = Image::read(image) {
+            let mut buffer = before.clone();
+            let answer = image.rewrite(lent(&mut buffer)).map_err(refusal_of);
+            self.same("rewrite of the crate", (reply_of(answer), &buffer), (model, &right), &input);
+        }
+        self.count(reply.number);
+        Answer { written: model.ok(), buffer: lent(&mut right).to_vec() }
+    }
+
+    /// Changes the comment with both, of the image that the first `n` bytes of `contents` are.
+    pub fn change_comment(&mut self, contents: &[u8], n: usize, comment: &[u8]) -> Answer {
+        let input = || format!("{} n {} comment {}", hex(contents), n, hex(comment));
+        let before = lent_again(contents);
+        let mut right = before.clone();
+        let model = model::change_comment(lent(&mut right), n, comment);
+        let mut buffer = before.clone();
+        let reply = raw::change_comment(lent(&mut buffer), n, comment);
+        self.same("change_comment", (reply, &buffer), (model, &right), &input);
+        let mut buffer = before.clone();
+        let answer = saltorchard::set_comment(lent(&mut buffer), n, comment).map_err(refusal_of);
+        self.same("set_comment of the crate", (reply_of(answer), &buffer), (model, &right), &input);
+        self.count(reply.number);
+        Answer { written: model.ok(), buffer: lent(&mut right).to_vec() }
+    }
+}

@@ -1,0 +1,233 @@
+//! Damage: to an image's parts, so that the lengths around them still fit, and to its bytes.
+
+use super::images::{Draft, Flat, Key, ALGORITHMS, CIPHERS, CURVES, KDFS};
+use super::Rng;
+
+/// Comments at the borders of UTF-8, some of them not UTF-8.
+pub const COMMENTS: [&[u8]; 20] = [
+    b"",
+    b"oven7",
+    b"\0",
+    b"\x7f",
+    b"\x80",
+    b"oven \xc3\xb6",
+    b"\xc0\xaf",
+    b"\xc1\xbf",
+    b"\xc2",
+    b"\xe0\x9f\xbf",
+    b"\xe0\xa0\x80",
+    b"\xed\x9f\xbf",
+    b"\xed\xa0\x80",
+    b"\xef\xbf\xbf",
+    b"\xf0\x8f\xbf\xbf",
+    b"\xf0\x90\x80\x80",
+    b"\xf4\x8f\xbf\xbf",
+    b"\xf4\x90\x80\x80",
+    b"\xf8\x88\x80\x80\x80",
+    b"eight or more plain bytes, then one that is not \xff",
+];
+
+/// A comment of any length up to `longest`, mostly UTF-8.
+pub fn comment(longest: usize, rng: &mut Rng) -> Vec<u8> {
+    if rng.one_in(4) {
+        return rng.pick(&COMMENTS).to_vec();
+    }
+    let length = rng.below(longest + 1);
+    let mut text: Vec<u8> = (0..length).map(|_| 0x20 + rng.byte() % 0x5f).collect();
+    if length > 0 && rng.one_in(8) {
+        let place = rng.below(length);
+        text[place] = rng.byte();
+    }
+    text
+}
+
+fn name(rng: &mut Rng) -> Vec<u8> {
+    let known: Vec<&str> = ALGORITHMS.iter().chain(&CURVES).chain(&CIPHERS).chain(&KDFS).copied().collect();
+    let mut name = rng.pick(&known).as_bytes().to_vec();
+    match rng.below(8) {
+        0 => name.push(0),
+        1 => drop(name.pop()),
+        2 => name[0] ^= 0x20,
+        _ => {}
+    }
+    name
+}
+
+/// A string that could stand at a key's place `place`: a name, a curve, a point or a private half.
+fn key_string(place: usize, old: &[u8], rng: &mut Rng) -> Vec<u8> {
+    let mut new = old.to_vec();
+    match rng.below(7) {
+        0 if place == 0 => ALGORITHMS[rng.below(4)].into(),
+        1 if place == 1 => CURVES[rng.below(3)].into(),
+        0 | 1 => name(rng),
+        2 => {
+            let length = *rng.pick(&[0, 31, 32, 33, 34, 48, 49, 64, 65, 66, 67, 97, 133]);
+            rng.bytes(length)
+        }
+        3 => {
+            new.insert(0, *rng.pick(&[0, 1, 0x7f, 0x80]));
+            new
+        }
+        4 if !new.is_empty() => {
+            new[0] = *rng.pick(&[0, 1, 2, 3, 4, 5, 0x7f, 0x80, 0xff]);
+            new
+        }
+        5 if !new.is_empty() => {
+            let place = rng.below(new.len());
+            new[place] ^= 1 << rng.below(8);
+            new
+        }
+        _ => {
+            new.truncate(rng.below(old.len() + 1));
+            new
+        }
+    }
+}
+
+fn strings(list: &mut Vec<Vec<u8>>, rng: &mut Rng) {
+    if list.is_empty() {
+        return list.push(name(rng));
+    }
+    let place = rng.below(list.len());
+    match rng.below(8) {
+        0 => drop(list.remove(place)),
+        1 => list.insert(place, list[place].clone()),
+        2 => list.swap(0, place),
+        _ => list[place] = key_string(place, &list[place], rng),
+    }
+}
+
+fn padding(draft: &mut Draft, rng: &mut Rng) {
+    draft.pad();
+    let least = draft.padding.len();
+    let more = *rng.pick(&[0, 0, 0, 8, 16, 1]);
+    draft.padding = (1..=(least + more) as u8).collect();
+    if !draft.padding.is_empty() && rng.one_in(2) {
+        let place = rng.below(draft.padding.len());
+        draft.padding[place] = rng.byte();
+    }
+}
+
+fn sealed_parts(draft: &mut Draft, rng: &mut Rng) {
+    let lengths = [0, 1, 7, 8, 9, 15, 16, 17, 24, 32];
+    let (ciphertext, tag) = (*rng.pick(&lengths), *rng.pick(&lengths));
+    match &mut draft.sealed {
+        None => draft.sealed = Some((rng.bytes(ciphertext), rng.bytes(tag))),
+        Some(_) if rng.one_in(4) => draft.sealed = None,
+        Some((_, old)) if rng.one_in(2) => *old = rng.bytes(tag),
+        Some((old, _)) => *old = rng.bytes(ciphertext),
+    }
+}
+
+/// Another key in the header or in the section, of the same kind or of another.
+fn other_key(draft: &mut Draft, rng: &mut Rng) {
+    let key = Key::new(rng.below(4) as u8, rng);
+    match rng.below(3) {
+        0 => draft.blob = key.blob(),
+        1 => draft.pair = key.pair(rng.one_in(2)),
+        _ => {
+            draft.blob = key.blob();
+            draft.pair = key.pair(key.needs_zero());
+        }
+    }
+}
+
+/// A curve that isn't the algorithm's, with a point and a scalar of its size.
+fn other_curve(draft: &mut Draft, rng: &mut Rng) {
+    let (named, curved) = (1 + rng.below(3), 1 + rng.below(3));
+    let key = Key::new(curved as u8, rng);
+    let (mut blob, mut pair) = (key.blob(), key.pair(key.needs_zero()));
+    if rng.one_in(2) {
+        blob[0] = ALGORITHMS[named].into();
+        draft.blob = blob;
+    }
+    pair[0] = ALGORITHMS[named].into();
+    draft.pair = pair;
+}
+
+fn kdf(draft: &mut Draft, rng: &mut Rng) {
+    match rng.below(5) {
+        0 => draft.kdf = name(rng),
+        1 => draft.kdf = KDFS[rng.below(2)].into(),
+        2 => draft.options_rest = bytes_below(9, rng),
+        3 => draft.options = None,
+        _ => draft.options = Some((bytes_below(40, rng), rng.uint32())),
+    }
+}
+
+fn bytes_below(longest: usize, rng: &mut Rng) -> Vec<u8> {
+    let length = rng.below(longest);
+    rng.bytes(length)
+}
+
+/// Changes one part; the lengths around it follow.
+fn part(draft: &mut Draft, rng: &mut Rng) {
+    match rng.below(19) {
+        0 => draft.cipher = name(rng),
+        1 => draft.cipher = CIPHERS[rng.below(10)].into(),
+        2 | 3 => kdf(draft, rng),
+        4 => draft.count = *rng.pick(&[0, 1, 2, 0x0100_0000]),
+        5 | 6 => strings(&mut draft.blob, rng),
+        7 => draft.blob_rest = bytes_below(9, rng),
+        8 => draft.checkints[1] ^= 1 << rng.below(32),
+        9 | 10 => strings(&mut draft.pair, rng),
+        11 => draft.comment = comment(60, rng),
+        17 => draft.comment = rng.pick(&COMMENTS).to_vec(),
+        12 | 13 => padding(draft, rng),
+        14 => draft.rest = bytes_below(20, rng),
+        15 => sealed_parts(draft, rng),
+        16 => other_key(draft, rng),
+        _ => other_curve(draft, rng),
+    }
+}
+
+/// Changes one to three parts and mostly pads the section anew; now and then damages the bytes too.
+pub fn structured(draft: &Draft, rng: &mut Rng) -> Vec<u8> {
+    let mut draft = draft.clone();
+    for _ in 0..1 + rng.below(3) {
+        let padding = draft.padding.clone();
+        part(&mut draft, rng);
+        if draft.padding == padding && !rng.one_in(8) {
+            draft.pad();
+        }
+    }
+    let mut flat = draft.flat();
+    if rng.one_in(8) {
+        let place = *rng.pick(&flat.uint32s);
+        let number = *rng.pick(&number_changes(&flat, place));
+        set_uint32(&mut flat.bytes, place, number);
+    }
+    if rng.one_in(16) {
+        flat.bytes.truncate(rng.below(flat.bytes.len() + 1));
+    }
+    flat.bytes
+}
+
+fn uint32(bytes: &[u8], place: usize) -> u32 {
+    u32::from_be_bytes([bytes[place], bytes[place + 1], bytes[place + 2], bytes[place + 3]])
+}
+
+pub fn set_uint32(bytes: &mut [u8], place: usize, number: u32) {
+    bytes[place..place + 4].copy_from_slice(&number.to_be_bytes());
+}
+
+/// Other numbers for the uint32 at `place`: near the old one, at the ends, and as many as the bytes that follow.
+pub fn number_changes(flat: &Flat, place: usize) -> Vec<u32> {
+    let old = uint32(&flat.bytes, place);
+    let rest = (flat.bytes.len() - place - 4) as u32;
+    let mut numbers = vec![0, 1, 0xffff_ffff, 0x7fff_ffff, 0x8000_0000, rest, rest + 1, rest.wrapping_sub(1)];
+    for step in [1, 4, 8, 16] {
+        numbers.extend([old.wrapping_add(step), old.wrapping_sub(step)]);
+    }
+    numbers
+}
+
+/// The first bytes of one image and the last of another, cut where a number begins or anywhere.
+pub fn spliced(first: &Flat, second: &Flat, rng: &mut Rng) -> Vec<u8> {
+    let (head, tail) = if rng.one_in(4) {
+        (rng.below(first.bytes.len() + 1), rng.below(second.bytes.len() + 1))
+    } else {
+        (*rng.pick(&first.uint32s), *rng.pick(&second.uint32s))
+    };
+    [&first.bytes[..head], &second.bytes[tail..]].concat()
+}

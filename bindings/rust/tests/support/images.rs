@@ -1,0 +1,277 @@
+//! Images in parts, so that a test can change one of them and have the lengths around it follow.
+
+use super::Rng;
+
+pub const MAGIC: &[u8] = b"openssh-key-v1\0";
+pub const ALGORITHMS: [&str; 4] = ["ssh-ed25519", "ecdsa-sha2-nistp256", "ecdsa-sha2-nistp384", "ecdsa-sha2-nistp521"];
+pub const CURVES: [&str; 3] = ["nistp256", "nistp384", "nistp521"];
+pub const CIPHERS: [&str; 10] = [
+    "none", "3des-cbc", "aes128-cbc", "aes192-cbc", "aes256-cbc", "aes128-ctr", "aes192-ctr", "aes256-ctr",
+    "aes128-gcm@openssh.com", "aes256-gcm@openssh.com",
+];
+pub const KDFS: [&str; 2] = ["none", "bcrypt"];
+
+/// The bytes of a scalar, or of an Ed25519 seed.
+pub const SIZES: [usize; 4] = [32, 32, 48, 66];
+
+pub fn public_length(algorithm: u8) -> usize {
+    match algorithm {
+        0 => 32,
+        _ => 1 + 2 * SIZES[usize::from(algorithm)],
+    }
+}
+
+/// A key's two halves.
+#[derive(Clone)]
+pub struct Key {
+    pub algorithm: u8,
+    pub public: Vec<u8>,
+    pub private: Vec<u8>,
+}
+
+impl Key {
+    pub fn new(algorithm: u8, rng: &mut Rng) -> Self {
+        let mut public = rng.bytes(public_length(algorithm));
+        if algorithm > 0 {
+            public[0] = 4;
+        }
+        Self { algorithm, public, private: rng.bytes(SIZES[usize::from(algorithm)]) }
+    }
+
+    pub fn beginning(mut self, first: u8) -> Self {
+        self.private[0] = first;
+        self
+    }
+
+    /// The strings of the blob.
+    pub fn blob(&self) -> Vec<Vec<u8>> {
+        let mut strings = vec![ALGORITHMS[usize::from(self.algorithm)].into()];
+        if self.algorithm > 0 {
+            strings.push(CURVES[usize::from(self.algorithm) - 1].into());
+        }
+        strings.push(self.public.clone());
+        strings
+    }
+
+    /// The strings of the section's keypair, with a zero before the scalar or without one.
+    pub fn pair(&self, zero: bool) -> Vec<Vec<u8>> {
+        let mut last = self.private.clone();
+        if self.algorithm == 0 {
+            last.extend_from_slice(&self.public);
+        } else if zero {
+            last.insert(0, 0);
+        }
+        let mut strings = self.blob();
+        strings.push(last);
+        strings
+    }
+
+    pub fn needs_zero(&self) -> bool {
+        self.private[0] >= 0x80
+    }
+}
+
+/// An image's parts.
+#[derive(Clone)]
+pub struct Draft {
+    pub magic: Vec<u8>,
+    pub cipher: Vec<u8>,
+    pub kdf: Vec<u8>,
+    /// Salt and rounds; without them the options are `options_rest` alone.
+    pub options: Option<(Vec<u8>, u32)>,
+    pub options_rest: Vec<u8>,
+    pub count: u32,
+    pub blob: Vec<Vec<u8>>,
+    pub blob_rest: Vec<u8>,
+    /// Ciphertext and tag; without them the section is plain.
+    pub sealed: Option<(Vec<u8>, Vec<u8>)>,
+    pub checkints: [u32; 2],
+    pub pair: Vec<Vec<u8>>,
+    pub comment: Vec<u8>,
+    pub padding: Vec<u8>,
+    pub rest: Vec<u8>,
+}
+
+/// An image and the places of its uint32s, lengths and others.
+#[derive(Clone)]
+pub struct Flat {
+    pub bytes: Vec<u8>,
+    pub uint32s: Vec<usize>,
+}
+
+impl Flat {
+    fn uint32(&mut self, number: usize) {
+        self.uint32s.push(self.bytes.len());
+        self.bytes.extend_from_slice(&(number as u32).to_be_bytes());
+    }
+
+    fn string(&mut self, bytes: &[u8]) {
+        self.uint32(bytes.len());
+        self.bytes.extend_from_slice(bytes);
+    }
+
+    fn around(&mut self, inner: Flat) {
+        self.uint32(inner.bytes.len());
+        let start = self.bytes.len();
+        self.uint32s.extend(inner.uint32s.iter().map(|place| start + place));
+        self.bytes.extend_from_slice(&inner.bytes);
+    }
+
+    fn of(strings: &[Vec<u8>]) -> Flat {
+        let mut flat = Flat { bytes: Vec::new(), uint32s: Vec::new() };
+        for string in strings {
+            flat.string(string);
+        }
+        flat
+    }
+}
+
+impl Draft {
+    pub fn plain(key: &Key, zero: bool, checkint: u32, comment: &[u8]) -> Self {
+        let mut draft = Self {
+            magic: MAGIC.to_vec(),
+            cipher: "none".into(),
+            kdf: "none".into(),
+            options: None,
+            options_rest: Vec::new(),
+            count: 1,
+            blob: key.blob(),
+            blob_rest: Vec::new(),
+            sealed: None,
+            checkints: [checkint; 2],
+            pair: key.pair(zero),
+            comment: comment.to_vec(),
+            padding: Vec::new(),
+            rest: Vec::new(),
+        };
+        draft.pad();
+        draft
+    }
+
+    /// A plain image in the writer's form.
+    pub fn in_form(key: &Key, checkint: u32, comment: &[u8]) -> Self {
+        Self::plain(key, key.needs_zero(), checkint, comment)
+    }
+
+    pub fn sealed(key: &Key, cipher: u8, options: Option<(Vec<u8>, u32)>, ciphertext: &[u8], tag: &[u8]) -> Self {
+        let mut draft = Self::plain(key, false, 0, b"");
+        draft.cipher = CIPHERS[usize::from(cipher)].into();
+        draft.kdf = KDFS[usize::from(options.is_some())].into();
+        draft.options = options;
+        draft.sealed = Some((ciphertext.to_vec(), tag.to_vec()));
+        draft
+    }
+
+    /// Gives the section the fewest padding bytes.
+    pub fn pad(&mut self) {
+        self.padding.clear();
+        let length = self.section().bytes.len();
+        self.padding = (1..=(8 - length % 8) as u8 % 8).collect();
+    }
+
+    fn section(&self) -> Flat {
+        let mut flat = Flat::of(&[]);
+        flat.uint32(self.checkints[0] as usize);
+        flat.uint32(self.checkints[1] as usize);
+        for string in self.pair.iter().chain([&self.comment]) {
+            flat.string(string);
+        }
+        flat.bytes.extend_from_slice(&self.padding);
+        flat
+    }
+
+    fn options(&self) -> Flat {
+        let mut flat = Flat::of(&[]);
+        if let Some((salt, rounds)) = &self.options {
+            flat.string(salt);
+            flat.uint32(*rounds as usize);
+        }
+        flat.bytes.extend_from_slice(&self.options_rest);
+        flat
+    }
+
+    pub fn flat(&self) -> Flat {
+        let mut flat = Flat { bytes: self.magic.clone(), uint32s: Vec::new() };
+        flat.string(&self.cipher);
+        flat.string(&self.kdf);
+        flat.around(self.options());
+        flat.uint32(self.count as usize);
+        let mut blob = Flat::of(&self.blob);
+        blob.bytes.extend_from_slice(&self.blob_rest);
+        flat.around(blob);
+        match &self.sealed {
+            None => flat.around(self.section()),
+            Some((ciphertext, tag)) => {
+                flat.string(ciphertext);
+                flat.bytes.extend_from_slice(tag);
+            }
+        }
+        flat.bytes.extend_from_slice(&self.rest);
+        flat
+    }
+
+    pub fn bytes(&self) -> Vec<u8> {
+        self.flat().bytes
+    }
+}
+
+pub fn blob_bytes(key: &Key) -> Vec<u8> {
+    Flat::of(&key.blob()).bytes
+}
+
+pub fn tag_length(cipher: u8) -> usize {
+    if cipher >= 8 {
+        16
+    } else {
+        0
+    }
+}
+
+pub fn block(cipher: u8) -> usize {
+    if cipher <= 1 {
+        8
+    } else {
+        16
+    }
+}
+
+pub fn sealed(algorithm: u8, cipher: u8, bcrypt: bool, blocks: usize, rng: &mut Rng) -> Draft {
+    let options = if bcrypt { Some((rng.bytes(16), 16)) } else { None };
+    let ciphertext = rng.bytes(blocks * block(cipher));
+    let tag = rng.bytes(tag_length(cipher));
+    Draft::sealed(&Key::new(algorithm, rng), cipher, options, &ciphertext, &tag)
+}
+
+/// Plain images of every kind: comments of several lengths, scalars in the form and out of it.
+pub fn plain_drafts(rng: &mut Rng) -> Vec<Draft> {
+    let comments: [&[u8]; 4] = [b"", b"oven7", b"oven 7", "Bäckerei Süd, Ofen 7".as_bytes()];
+    let mut drafts = Vec::new();
+    for comment in comments {
+        drafts.push(Draft::plain(&Key::new(0, rng), false, rng.uint32(), comment));
+        for algorithm in 1..4 {
+            for (first, zero) in [(0x7f, false), (0x80, true), (0x7f, true), (0x80, false)] {
+                let key = Key::new(algorithm, rng).beginning(first);
+                drafts.push(Draft::plain(&key, zero, rng.uint32(), comment));
+            }
+        }
+    }
+    drafts
+}
+
+/// Encrypted images of every cipher with every kind, and of every cipher with both KDFs.
+pub fn sealed_drafts(rng: &mut Rng) -> Vec<Draft> {
+    let mut drafts = Vec::new();
+    for cipher in 1..10 {
+        for algorithm in 0..4 {
+            let blocks = drafts.len() % 5;
+            drafts.push(sealed(algorithm, cipher, (algorithm + cipher) % 2 == 0, blocks, rng));
+        }
+    }
+    drafts
+}
+
+pub fn drafts(rng: &mut Rng) -> Vec<Draft> {
+    let mut all = plain_drafts(rng);
+    all.extend(sealed_drafts(rng));
+    all
+}
