@@ -5,11 +5,11 @@ use container::ImageRead;
 use fields::Fault;
 use fields::Part;
 use fields::Refusal;
-use keys::Checkint;
-use keys::Material;
 use libc::STDERR_FILENO;
 use libc::STDIN_FILENO;
 use libc::STDOUT_FILENO;
+use material::Checkint;
+use material::Material;
 use reply::Written;
 use section::Kind;
 
@@ -26,12 +26,8 @@ fn write_plain(image: &[u8], f: Fields) {
     let header = f.header;
     let algorithm = header.algorithm;
     let mut out = [0u8; 65536];
-    let m = Material::new(
-        algorithm,
-        container::point(image, f),
-        container::scalar(image, f),
-    );
-    match plain::write_plain(m, Checkint::Derived, container::comment(image, f), &mut out) {
+    let m = Material::new(algorithm, parts::point(image, f), parts::scalar(image, f));
+    match plain::write_plain(m, Checkint::Derived, parts::comment(image, f), &mut out) {
         Written::Refused(g) => refuse(g),
         Written::Length(n) => {
             let written = Part {

@@ -22,8 +22,8 @@ use Rattle.utf8.specs.Utf8.{utf8}
 use Rattle.format.specs.Format.{magic, blob, standing, needsLeadingZero, content, section, header, plainImage, writtenImage}
 use Rattle.format.specs.Laws.{key-small, standing-same}
 use Rattle.keys.specs.Keys.{pointAt, scalarAt, ecdsaPublicAt, ecdsaKeyAt, publicKeyAt, blobAt, ecdsaPairAt, keypairAt}
-use Rattle.keys.specs.Material.{derivedCheckint}
-use Rattle.key_laws.specs.Material.{derived-m16}
+use Rattle.material.specs.Material.{derivedCheckint}
+use Rattle.material.specs.Laws.{derived-m16}
 use Rattle.header.specs.Header.{magicAt, cipherAt, noneAt, kdfAt, countAt, blobFieldAt, headerAt}
 use Rattle.section.specs.Back.{KeyFits}
 use Rattle.section.specs.Section.{checkintsAt, entryAt, contentAt, plainAt}

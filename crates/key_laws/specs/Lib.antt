@@ -1,4 +1,3 @@
 pub mod Back
 pub mod Read
 pub mod ReadPair
-pub mod Material

@@ -1,4 +1,5 @@
 -- Any two replies that meet a public function's own contract are equal.
+-- Rests on the contracts being equations.
 use Rattle.fields.specs.Determined.{Determined}
 use Rattle.keys.proofs.read_point.Reads as read-point
 use Rattle.keys.proofs.read_point.Kinds as read-point-kinds
@@ -26,12 +27,6 @@ use Rattle.keys.proofs.public_length.Reads as public-length
 use Rattle.keys.proofs.public_length.Kinds as public-length-kinds
 use Rattle.keys.proofs.private_length.Reads as private-length
 use Rattle.keys.proofs.private_length.Kinds as private-length-kinds
-use Rattle.keys.proofs.derived_checkint.Reads as derived-checkint
-use Rattle.keys.proofs.derived_checkint.Kinds as derived-checkint-kinds
-use Rattle.keys.proofs.Material.new.Reads as new
-use Rattle.keys.proofs.Material.new.Kinds as new-kinds
-use Rattle.keys.proofs.Material.checkint.Reads as checkint
-use Rattle.keys.proofs.Material.checkint.Kinds as checkint-kinds
 
 pub read-point-determined : Determined 1 read-point-kinds.ps read-point-kinds.r read-point.Post
 read-point-determined κs a r₁ r₂ s₁ s₂ p q = cc
@@ -71,12 +66,3 @@ public-length-determined κs a r₁ r₂ s₁ s₂ p q = cc
 
 pub private-length-determined : Determined 0 private-length-kinds.ps private-length-kinds.r private-length.Post
 private-length-determined κs a r₁ r₂ s₁ s₂ p q = cc
-
-pub derived-checkint-determined : Determined 1 derived-checkint-kinds.ps derived-checkint-kinds.r derived-checkint.Post
-derived-checkint-determined κs a r₁ r₂ s₁ s₂ p q = cc
-
-pub new-determined : Determined 2 new-kinds.ps new-kinds.r new.Post
-new-determined κs a r₁ r₂ s₁ s₂ p q = cc
-
-pub checkint-determined : Determined 0 checkint-kinds.ps checkint-kinds.r checkint.Post
-checkint-determined κs a r₁ r₂ s₁ s₂ p q = cc

@@ -1,17 +1,15 @@
-// Public keys and keypairs, Ed25519 and ECDSA over three curves, and the material for a new one.
+// Public keys and keypairs, Ed25519 and ECDSA over three curves.
 ghost use mathlib.Core.Path.{_≡_};
 ghost use lib.Dec.{leb};
 ghost use lib.ListN.{getD};
 ghost use Rattle.format.specs.Format.{publicLength, privateLength};
 ghost use Rattle.keys.specs.Keys.{pointAt, scalarAt, ecdsaPublicAt, ecdsaKeyAt, publicKeyAt, blobAt, ed25519PairAt, ecdsaPairAt, keypairAt};
-ghost use Rattle.keys.specs.Material.{privateOf, derivedCheckint, checkintOf, materialOf};
 use fields::Cursor;
 use fields::Ending;
 use fields::Fault;
 use fields::Field;
 use fields::Part;
 use fields::Refusal;
-use fields::Uint32;
 use names::Algorithm;
 use names::AlgorithmName;
 use names::Curve;
@@ -273,78 +271,5 @@ pub fn private_length(a: Algorithm) -> usize
     match a {
         Algorithm::Ed25519 => 32,
         Algorithm::Ecdsa(curve) => curve.size(),
-    }
-}
-
-// Key material for a new image: one value with room for 133 public and 66 private bytes and their lengths,
-// the kind as an enum beside them. A length above its room holds no bytes.
-pub struct Material {
-    pub algorithm: Algorithm,
-    pub public: [u8; 133],
-    pub public_length: usize,
-    pub private: [u8; 66],
-    pub private_length: usize,
-}
-
-// The checkint of a new image.
-pub enum Checkint {
-    Given(u32),
-    Derived,
-}
-
-// The xor of the private bytes' big-endian groups of four; a shorter rest is ignored.
-pub fn derived_checkint(private: &[u8]) -> u32
-    ensures { λ r. ⌜ r ≡ derivedCheckint (now (private .entry)) ⌝ }
-{
-    let mut checkint: u32 = 0;
-    let mut c = Cursor {
-        at: 0,
-        end: private.len(),
-    };
-    loop {
-        match c.uint32(private) {
-            Uint32::Refused(_) => return checkint,
-            Uint32::Value(group, next) => {
-                checkint = checkint ^ group;
-                c = next;
-            }
-        }
-    }
-}
-
-impl Material {
-    // Public and private bytes with their lengths, zeros after them; only zeros in a room that is too short.
-    pub fn new(algorithm: Algorithm, public: &[u8], private: &[u8]) -> Material
-        ensures { λ r. ⌜ r ≡ materialOf algorithm (now (public .entry)) (now (private .entry)) ⌝ }
-    {
-        let mut public_room = [0u8; 133];
-        buffer::put(&mut public_room, 0, public);
-        let mut private_room = [0u8; 66];
-        buffer::put(&mut private_room, 0, private);
-        Material {
-            algorithm: algorithm,
-            public: public_room,
-            public_length: public.len(),
-            private: private_room,
-            private_length: private.len(),
-        }
-    }
-
-    // The given checkint, or where none is given, that derived from the private bytes.
-    pub fn checkint(self, given: Checkint) -> u32
-        ensures { λ r. ⌜ r ≡ checkintOf given (privateOf self) ⌝ }
-    {
-        match given {
-            Checkint::Given(n) => n,
-            Checkint::Derived => {
-                let private = self.private;
-                let length = self.private_length;
-                let part = Part {
-                    start: 0,
-                    length: length,
-                };
-                derived_checkint(fields::view(&private, part))
-            }
-        }
     }
 }

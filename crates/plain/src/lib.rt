@@ -11,13 +11,13 @@ ghost use Rattle.format.specs.Format.{curveField, publicLength, privateLength, 
 ghost use Rattle.format.specs.Lengths.{blobLength, privateFieldLength, contentLength};
 ghost use Rattle.buffer.specs.Puts.{isPut};
 ghost use Rattle.buffer.specs.Runs.{isRun};
-ghost use Rattle.keys.specs.Material.{publicOf, privateOf, checkintOf};
+ghost use Rattle.material.specs.Material.{publicOf, privateOf, checkintOf};
 ghost use Rattle.reply.specs.Reply.{isSized};
 ghost use Rattle.plain.specs.Plain.{isPlain};
 use fields::Part;
 use fields::Refusal;
-use keys::Checkint;
-use keys::Material;
+use material::Checkint;
+use material::Material;
 use names::Algorithm;
 use names::Curve;
 use reply::Written;

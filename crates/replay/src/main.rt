@@ -121,13 +121,13 @@ fn total(view: &[u8]) -> usize {
 // The sum of the bytes of each view.
 fn say_views(image: &[u8], f: Fields) {
     word(b"\nviews");
-    number(total(container::blob(image, f)));
-    number(total(container::point(image, f)));
-    number(total(container::scalar(image, f)));
-    number(total(container::comment(image, f)));
-    number(total(container::salt(image, f)));
-    number(total(container::ciphertext(image, f)));
-    number(total(container::tag(image, f)));
+    number(total(parts::blob(image, f)));
+    number(total(parts::point(image, f)));
+    number(total(parts::scalar(image, f)));
+    number(total(parts::comment(image, f)));
+    number(total(parts::salt(image, f)));
+    number(total(parts::ciphertext(image, f)));
+    number(total(parts::tag(image, f)));
     word(b"\n");
 }
 

@@ -12,9 +12,9 @@
 // A text is how many pieces it has, and then each piece: the length of a unit, the length of the piece, and
 // the unit, which is to be repeated over the piece.
 use fields::Part;
-use keys::Checkint;
-use keys::Material;
 use libc::STDOUT_FILENO;
+use material::Checkint;
+use material::Material;
 use names::Algorithm;
 use names::Cipher;
 use names::Curve;

@@ -14,7 +14,7 @@ use Rattle.fields.specs.declared.Refusal.the-variants.{AlgorithmUnknown}
 use Rattle.names.specs.Algorithms.{algorithmCode}
 use Rattle.codes.specs.Codes.{cipherCode, kdfCode, algorithmCoded, cipherCoded, kdfCoded}
 use Rattle.keys.specs.Keys.{onAlgorithmName}
-use Rattle.keys.specs.Material.{derivedCheckint}
+use Rattle.material.specs.Material.{derivedCheckint}
 use Rattle.header.specs.Header.{onCipherName, onKdfName}
 use Rattle.judge.specs.Judge.{kindCode}
 use Rattle.container.specs.declared.Fields.{Fields}

@@ -178,7 +178,7 @@ fn checkint_of(derive: u8, given: u32, private: &[u8]) -> u32
     if derive == 0 {
         return given;
     }
-    keys::derived_checkint(private)
+    material::derived_checkint(private)
 }
 
 #[no_mangle]

@@ -11,41 +11,41 @@ pub struct Record<'a> {
 pub fn comment<'a>(r: Record<'a>) -> &'a [u8]
     ensures { λ v. ⌜ isView v (r .entry .image) (r .entry .fields .section .comment) ⌝ }
 {
-    container::comment(r.image, r.fields)
+    parts::comment(r.image, r.fields)
 }
 
 pub fn blob<'a>(r: Record<'a>) -> &'a [u8]
     ensures { λ v. ⌜ isView v (r .entry .image) (r .entry .fields .header .blob) ⌝ }
 {
-    container::blob(r.image, r.fields)
+    parts::blob(r.image, r.fields)
 }
 
 pub fn point<'a>(r: Record<'a>) -> &'a [u8]
     ensures { λ v. ⌜ isView v (r .entry .image) (r .entry .fields .header .point) ⌝ }
 {
-    container::point(r.image, r.fields)
+    parts::point(r.image, r.fields)
 }
 
 pub fn scalar<'a>(r: Record<'a>) -> &'a [u8]
     ensures { λ v. ⌜ isView v (r .entry .image) (r .entry .fields .section .scalar) ⌝ }
 {
-    container::scalar(r.image, r.fields)
+    parts::scalar(r.image, r.fields)
 }
 
 pub fn salt<'a>(r: Record<'a>) -> &'a [u8]
     ensures { λ v. ⌜ isView v (r .entry .image) (r .entry .fields .header .salt) ⌝ }
 {
-    container::salt(r.image, r.fields)
+    parts::salt(r.image, r.fields)
 }
 
 pub fn ciphertext<'a>(r: Record<'a>) -> &'a [u8]
     ensures { λ v. ⌜ isView v (r .entry .image) (r .entry .fields .section .ciphertext) ⌝ }
 {
-    container::ciphertext(r.image, r.fields)
+    parts::ciphertext(r.image, r.fields)
 }
 
 pub fn tag<'a>(r: Record<'a>) -> &'a [u8]
     ensures { λ v. ⌜ isView v (r .entry .image) (r .entry .fields .section .tag) ⌝ }
 {
-    container::tag(r.image, r.fields)
+    parts::tag(r.image, r.fields)
 }

@@ -20,20 +20,20 @@ fn write_record(image: &[u8], f: Fields, out: &mut [u8]) -> Written
     match kind {
         Kind::Plain => plain::write_parts(
             algorithm,
-            container::point(image, f),
-            container::scalar(image, f),
+            parts::point(image, f),
+            parts::scalar(image, f),
             section.checkint,
-            container::comment(image, f),
+            parts::comment(image, f),
             out,
         ),
         Kind::Encrypted => encrypted::write_encrypted(
             cipher,
             kdf,
-            container::salt(image, f),
+            parts::salt(image, f),
             header.rounds,
-            container::blob(image, f),
-            container::ciphertext(image, f),
-            container::tag(image, f),
+            parts::blob(image, f),
+            parts::ciphertext(image, f),
+            parts::tag(image, f),
             out,
         ),
     }

@@ -1,5 +1,5 @@
 -- `plain::write_plain` meets its contract: the views of the value are its bytes. Rests on the callees' contracts.
-use Rattle.keys.specs.Material.{publicOf, privateOf}
+use Rattle.material.specs.Material.{publicOf, privateOf}
 use borrow.Author.Needs.{needs}
 use Rattle.plain.proofs.write_plain.Statement.{statement}
 use Rattle.plain.proofs.write_plain.Tie as tie

@@ -1,4 +1,4 @@
--- `views::point` meets its contract: the walk is `Thin`'s, at what `container::point` answers. Assumes nothing.
+-- `views::point` meets its contract: the walk is `Thin`'s, at what `parts::point` answers. Assumes nothing.
 use Prim.Native.Nat.{ℕ}
 use mathlib.Core.List.{List, [], _∷_}
 use mir.Syntax.{named, tyRef, imm, tyInt, w8}
@@ -13,8 +13,8 @@ use denote.Triple.Table.{entered, cited}
 use Rattle.fields.specs.Fields.{isView}
 use Rattle.container.specs.declared.Fields.{Fields}
 use Rattle.views.proofs.Thin.{Inner, meets}
-use Rattle.container.proofs.point.Symbol as inner
-use Rattle.container.proofs.point.Met as inner-thm
+use Rattle.parts.proofs.point.Symbol as inner
+use Rattle.parts.proofs.point.Met as inner-thm
 use Rattle.views.proofs.point.Key as key
 use Rattle.views.proofs.point as outer
 use Rattle.views.proofs.point.Statement as stated
@@ -32,4 +32,4 @@ point-spec 𝓤 H 𝓜 𝓖 𝓡 =
     entered 𝓤 H (tripleOf 𝓤 H (𝓖 .A) outer.signature (outer.spec 𝓤 H (𝓖 .A) (𝓜 .mem) (𝓡 .run)))
     (tables 𝓤 H 𝓜 𝓡 code.env .C) (tables 𝓤 H 𝓜 𝓡 code.env .Λ) key.name code.function (code.unfolded 𝓤 H 𝓜 𝓡)
     (meets 𝓤 H (𝓖 .A) (givenOf 𝓤 H 𝓜 𝓖) ρ Says (sliceTy (tyRef (named 0) imm (tyInt w8))) (λ κs x v is. shr-slice-lawful 𝓤 H (𝓖 .A) (givenOf 𝓤 H 𝓜 𝓖) (named 0) (κs .0) u8 .typed x _ is .0) inner.name (tablesOf 𝓤 H 𝓜 (tables 𝓤 H 𝓜 𝓡 code.env))
-    (cited 𝓤 H (Inner 𝓤 H (𝓖 .A) ρ Says) 𝓜 𝓡 code.env inner.name inner.routine code.calls-container·point (inner-thm.met 𝓤 H 𝓜 𝓖 𝓡)))
+    (cited 𝓤 H (Inner 𝓤 H (𝓖 .A) ρ Says) 𝓜 𝓡 code.env inner.name inner.routine code.calls-parts·point (inner-thm.met 𝓤 H 𝓜 𝓖 𝓡)))

@@ -1,9 +1,9 @@
--- `keys::Material::checkint` meets its contract: the derived one is that of the view of the private bytes.
+-- `material::Material::checkint` meets its contract: the derived one is that of the view of the private bytes.
 -- Rests on the callees' contracts alone.
 use borrow.Author.Needs.{needs}
-use Rattle.keys.specs.Material.{privateOf}
-use Rattle.keys.proofs.Material.checkint.Statement.{statement}
-use Rattle.keys.proofs.Material.checkint.Tie as tie
+use Rattle.material.specs.Material.{privateOf}
+use Rattle.material.proofs.Material.checkint.Statement.{statement}
+use Rattle.material.proofs.Material.checkint.Tie as tie
 
 enum-known-given : tie.Need-enum-known-given
 enum-known-given c = search needs

@@ -10,9 +10,9 @@ use lib.ListN.{length}
 use Rattle.fields.specs.Fields.{part, number4, viewOf}
 use Rattle.buffer.specs.Puts.{placed, zeros}
 use Rattle.names.specs.declared.Algorithm.{Algorithm}
-use Rattle.keys.specs.declared.Material.{Material}
-use Rattle.keys.specs.declared.Checkint.{Checkint}
-use Rattle.keys.specs.declared.Checkint.the-variants.{Given, Derived}
+use Rattle.material.specs.declared.Material.{Material}
+use Rattle.material.specs.declared.Checkint.{Checkint}
+use Rattle.material.specs.declared.Checkint.the-variants.{Given, Derived}
 
 -- the public and the private bytes; a length above the room holds none
 unfoldable pub publicOf : Material → List ℕ

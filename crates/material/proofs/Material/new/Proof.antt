@@ -1,9 +1,9 @@
--- `keys::Material::new` meets its contract: each room is zeros with the bytes put at its start. Rests on the contract of `put` alone.
+-- `material::Material::new` meets its contract: each room is zeros with the bytes put at its start. Rests on the contract of `put` alone.
 use borrow.Author.Needs.{needs}
 use Rattle.buffer.specs.Puts.{zeros}
-use Rattle.keys.specs.Material.{padded, materialOf}
-use Rattle.keys.proofs.Material.new.Statement.{statement}
-use Rattle.keys.proofs.Material.new.Tie as tie
+use Rattle.material.specs.Material.{padded, materialOf}
+use Rattle.material.proofs.Material.new.Statement.{statement}
+use Rattle.material.proofs.Material.new.Tie as tie
 
 slice-aggregate-put : tie.Need-slice-aggregate-put
 slice-aggregate-put c = search needs

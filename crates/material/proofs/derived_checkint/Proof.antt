@@ -1,4 +1,4 @@
--- `keys::derived_checkint` meets its contract: the checkint so far, mixed with the groups that are left, is that of all the bytes.
+-- `material::derived_checkint` meets its contract: the checkint so far, mixed with the groups that are left, is that of all the bytes.
 -- Rests on fields' laws of a uint32 that is read and of the bytes from a place on.
 use Prim.Native.Nat.{ℕ, _+_, _-_, _<_}
 use native.Mathlib.Omega.{arith}
@@ -17,9 +17,9 @@ use Rattle.fields.specs.Room.{room-is}
 use Rattle.fields.specs.declared.Cursor.{Cursor}
 use Rattle.fields.specs.declared.Fault.{Fault}
 use Rattle.fields.specs.declared.Uint32.the-variants as uint32
-use Rattle.keys.specs.Material.{mixed, derivedCheckint}
-use Rattle.keys.proofs.derived_checkint.Statement.{statement}
-use Rattle.keys.proofs.derived_checkint.Tie as tie
+use Rattle.material.specs.Material.{mixed, derivedCheckint}
+use Rattle.material.proofs.derived_checkint.Statement.{statement}
+use Rattle.material.proofs.derived_checkint.Tie as tie
 
 abbrev Inv-loop : tie.InvT-loop
 Inv-loop private checkint₀ c₀ checkint c = Good private c × (mixed checkint (rest private c) ≡ derivedCheckint private)

@@ -1,0 +1,18 @@
+-- Any two replies that meet a public function's own contract are equal.
+-- Rests on the contracts being equations.
+use Rattle.fields.specs.Determined.{Determined}
+use Rattle.material.proofs.derived_checkint.Reads as derived-checkint
+use Rattle.material.proofs.derived_checkint.Kinds as derived-checkint-kinds
+use Rattle.material.proofs.Material.new.Reads as new
+use Rattle.material.proofs.Material.new.Kinds as new-kinds
+use Rattle.material.proofs.Material.checkint.Reads as checkint
+use Rattle.material.proofs.Material.checkint.Kinds as checkint-kinds
+
+pub derived-checkint-determined : Determined 1 derived-checkint-kinds.ps derived-checkint-kinds.r derived-checkint.Post
+derived-checkint-determined κs a r₁ r₂ s₁ s₂ p q = cc
+
+pub new-determined : Determined 2 new-kinds.ps new-kinds.r new.Post
+new-determined κs a r₁ r₂ s₁ s₂ p q = cc
+
+pub checkint-determined : Determined 0 checkint-kinds.ps checkint-kinds.r checkint.Post
+checkint-determined κs a r₁ r₂ s₁ s₂ p q = cc

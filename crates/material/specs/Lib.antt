@@ -1,0 +1,2 @@
+pub mod Material
+pub mod Laws
