@@ -3,7 +3,7 @@
 mod support;
 
 use support::compare::Tally;
-use support::damage::{comment, number_changes, set_uint32, spliced, structured};
+use support::damage::{comment, number_changes, set_uint32, spliced, structured, with_two_faults};
 use support::images::{drafts, plain_drafts, sealed, sealed_drafts, Draft, Flat, Key, MAGIC};
 use support::Rng;
 
@@ -158,6 +158,21 @@ fn parts_changed() {
     }
     tally.expect_replies(&[0, 1, 2, 3, 4, 5, 6, 7], 300);
     tally.end(40_000);
+}
+
+/// Which of two faults is found first?
+#[test]
+fn order_of_reading() {
+    let mut tally = Tally::new("order of reading");
+    let mut rng = Rng::new("order of reading");
+    let (plain, encrypted) = (plain_drafts(&mut rng), sealed_drafts(&mut rng));
+    for draft in plain[13..26].iter().chain(encrypted.iter().step_by(5)) {
+        for image in with_two_faults(draft) {
+            tally.read(&image);
+        }
+    }
+    tally.expect_replies(&[0, 1, 2, 3, 4, 5, 6, 7], 50);
+    tally.end(13_000);
 }
 
 #[test]

@@ -1,4 +1,4 @@
--- Demand 2: Reading, Sealed, Form. Demand 3: Change, Sequence. Records handed in: Handed. The marked examples: Marked. The paper's wrong programs: ShutOut.
+-- Demand 1: Refusals, Ordered. Demand 2: Reading, Sealed, Form. Demand 3: Change, Sequence. Records handed in: Handed. The marked examples: Marked. The paper's wrong programs: ShutOut.
 -- The others hold what these rest on.
 pub mod Reading
 pub mod Sealed
@@ -10,6 +10,8 @@ pub mod Again
 pub mod Kept
 pub mod Sequence
 pub mod Handed
+pub mod Refusals
+pub mod Ordered
 pub mod Sizes
 pub mod Marked
 pub mod ShutOut

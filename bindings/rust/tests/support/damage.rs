@@ -1,6 +1,6 @@
 //! Damage: to an image's parts, so that the lengths around them still fit, and to its bytes.
 
-use super::images::{Draft, Flat, Key, ALGORITHMS, CIPHERS, CURVES, KDFS};
+use super::images::{Draft, Flat, Key, ALGORITHMS, CIPHERS, CURVES, KDFS, SIZES};
 use super::Rng;
 
 /// Comments at the borders of UTF-8, some of them not UTF-8.
@@ -46,7 +46,7 @@ fn name(rng: &mut Rng) -> Vec<u8> {
     let mut name = rng.pick(&known).as_bytes().to_vec();
     match rng.below(8) {
         0 => name.push(0),
-        1 => drop(name.pop()),
+        1 => shorten(&mut name),
         2 => name[0] ^= 0x20,
         _ => {}
     }
@@ -179,6 +179,110 @@ fn part(draft: &mut Draft, rng: &mut Rng) {
         16 => other_key(draft, rng),
         _ => other_curve(draft, rng),
     }
+}
+
+fn shorten(bytes: &mut Vec<u8>) {
+    bytes.truncate(bytes.len() - 1);
+}
+
+fn flip_last(bytes: &mut [u8]) {
+    bytes[bytes.len() - 1] ^= 1;
+}
+
+/// The string that stands `place` places before the last.
+fn back(strings: &mut [Vec<u8>], place: usize) -> &mut Vec<u8> {
+    let last = strings.len() - 1;
+    &mut strings[last - place]
+}
+
+/// Puts another name for the curve; Ed25519 has none.
+fn rename_curve(strings: &mut [Vec<u8>], name: &str) {
+    if strings[1].starts_with(b"nistp") {
+        strings[1] = name.into();
+    }
+}
+
+/// Keeps the algorithm's name before a key of another curve; the zero is put before its scalar.
+fn curve_unlike(strings: &mut Vec<Vec<u8>>, private: bool) {
+    let algorithm = if strings[1] == b"nistp384" { 3 } else { 2 };
+    let length = SIZES[usize::from(algorithm)];
+    let key = Key { algorithm, public: vec![4; 1 + 2 * length], private: vec![0x90; length] };
+    if strings[1].starts_with(b"nistp") {
+        let other = if private { key.pair(true) } else { key.blob() };
+        strings.splice(1.., other.into_iter().skip(1));
+    }
+}
+
+/// The other KDF with options that fit it: a fault in a plain image only.
+fn other_kdf(draft: &mut Draft) {
+    let bcrypt = draft.kdf == b"none";
+    draft.kdf = KDFS[usize::from(bcrypt)].into();
+    draft.options = if bcrypt { Some((b"salt".to_vec(), 1)) } else { None };
+}
+
+/// A fault for each rule of the reader, the padding's last.
+const FAULTS: [fn(&mut Draft); 35] = [
+    |draft| draft.magic[14] = 1,
+    |draft| draft.cipher.push(b'x'),
+    |draft| draft.kdf.push(b'x'),
+    |draft| draft.kdf = KDFS[usize::from(draft.kdf == b"none")].into(),
+    other_kdf,
+    |draft| draft.options = None,
+    |draft| draft.options = Some((b"salt".to_vec(), 1)),
+    |draft| draft.options_rest = vec![0; 3],
+    |draft| draft.count = 2,
+    |draft| draft.blob[0].push(b'x'),
+    |draft| rename_curve(&mut draft.blob, "nistp192"),
+    |draft| curve_unlike(&mut draft.blob, false),
+    |draft| shorten(back(&mut draft.blob, 0)),
+    |draft| flip_last(back(&mut draft.blob, 0)),
+    |draft| back(&mut draft.blob, 0).extend([4; 5]),
+    |draft| back(&mut draft.blob, 0)[0] = 5,
+    |draft| draft.blob_rest = vec![0; 4],
+    |draft| draft.sealed.iter_mut().for_each(|parts| parts.0.push(0)),
+    |draft| draft.sealed.iter_mut().for_each(|parts| parts.1.truncate(15)),
+    |draft| draft.rest = vec![0; 2],
+    |draft| draft.checkints[1] ^= 1,
+    |draft| draft.pair[0].push(b'x'),
+    |draft| rename_curve(&mut draft.pair, "nistp192"),
+    |draft| curve_unlike(&mut draft.pair, true),
+    |draft| shorten(back(&mut draft.pair, 1)),
+    |draft| back(&mut draft.pair, 1).extend([4; 5]),
+    |draft| back(&mut draft.pair, 1)[0] = 5,
+    |draft| shorten(back(&mut draft.pair, 0)),
+    |draft| back(&mut draft.pair, 0).extend([1; 6]),
+    |draft| back(&mut draft.pair, 0)[0] ^= 1,
+    |draft| flip_last(back(&mut draft.pair, 0)),
+    |draft| draft.comment = b"oven\xff".to_vec(),
+    |draft| draft.padding.extend(draft.padding.len() as u8 + 1..draft.padding.len() as u8 + 9),
+    |draft| draft.padding.iter_mut().for_each(|byte| *byte += 1),
+    |draft| draft.padding.push(1),
+];
+
+/// The place of the first fault in the padding: before it, each fault has the section padded anew.
+const FIRST_IN_PADDING: usize = 32;
+
+fn put_fault(draft: &mut Draft, place: usize) {
+    FAULTS[place](draft);
+    if place < FIRST_IN_PADDING {
+        draft.pad();
+    }
+}
+
+/// The image with each fault, and with every two of them.
+pub fn with_two_faults(draft: &Draft) -> Vec<Vec<u8>> {
+    let mut images = Vec::new();
+    for first in 0..FAULTS.len() {
+        let mut one = draft.clone();
+        put_fault(&mut one, first);
+        images.push(one.bytes());
+        for second in first + 1..FAULTS.len() {
+            let mut two = one.clone();
+            put_fault(&mut two, second);
+            images.push(two.bytes());
+        }
+    }
+    images
 }
 
 /// Changes one to three parts and mostly pads the section anew; now and then damages the bytes too.
