@@ -1,67 +1,25 @@
 // Replays the stored images: reads them from the file `vectors`, each a length of four bytes, big-endian,
 // and that many bytes, and writes for each what the reader, the views and the report say of it.
-ghost use Prim.Native.Nat.{_<_};
 use container::Fields;
 use container::ImageRead;
 use fields::Fault;
 use fields::Part;
-use libc::STDOUT_FILENO;
-use names::Cipher;
-use names::Kdf;
 use report::Reported;
-use section::Kind;
-
-fn word(w: &[u8]) {
-    io::write_all(STDOUT_FILENO, w);
-}
-
-// A number after a space.
-fn number(n: usize) {
-    word(b" ");
-    io::print_decimal(STDOUT_FILENO, n as u64);
-}
+use telling::say_number;
+use telling::word;
 
 fn place(part: Part) {
-    number(part.start);
-    number(part.length);
-}
-
-fn kind_code(kind: Kind) -> usize {
-    match kind {
-        Kind::Plain => 1,
-        Kind::Encrypted => 2,
-    }
-}
-
-fn kdf_code(kdf: Kdf) -> usize {
-    match kdf {
-        Kdf::None => 0,
-        Kdf::Bcrypt => 1,
-    }
-}
-
-fn cipher_code(cipher: Cipher) -> usize {
-    match cipher {
-        Cipher::None => 0,
-        Cipher::TripleDesCbc => 1,
-        Cipher::Aes128Cbc => 2,
-        Cipher::Aes192Cbc => 3,
-        Cipher::Aes256Cbc => 4,
-        Cipher::Aes128Ctr => 5,
-        Cipher::Aes192Ctr => 6,
-        Cipher::Aes256Ctr => 7,
-        Cipher::Aes128Gcm => 8,
-        Cipher::Aes256Gcm => 9,
-    }
+    say_number(part.start);
+    say_number(part.length);
 }
 
 // A refusal: number, count and place, and 0 for every field and view.
 fn say_refused(f: Fault) {
     let why = f.why;
     word(b"read");
-    number(why.number() as usize);
-    number(why.count());
-    number(f.at);
+    say_number(why.number() as usize);
+    say_number(why.count());
+    say_number(f.at);
     word(b" 0 0 0 0 0 0 0 0 0 0 0 0 0 0 0 0 0 0 0 0 0 0\nviews 0 0 0 0 0 0 0\n");
 }
 
@@ -74,19 +32,19 @@ fn say_names(f: Fields) {
     let cipher = header.cipher;
     let kdf = header.kdf;
     word(b"read 0 0 0");
-    number(kind_code(kind));
-    number(algorithm.code() as usize);
-    number(cipher_code(cipher));
-    number(kdf_code(kdf));
+    say_number(judge::kind_code(kind) as usize);
+    say_number(algorithm.code() as usize);
+    say_number(codes::cipher_code(cipher) as usize);
+    say_number(codes::kdf_code(kdf) as usize);
 }
 
 fn say_numbers(f: Fields) {
     let header = f.header;
     let section = f.section;
-    number(header.rounds as usize);
-    number(section.checkint as usize);
-    number(section.padding);
-    number(header.section);
+    say_number(header.rounds as usize);
+    say_number(section.checkint as usize);
+    say_number(section.padding);
+    say_number(header.section);
 }
 
 // The places of its fields.
@@ -102,9 +60,7 @@ fn say_places(f: Fields) {
     place(section.tag);
 }
 
-fn wide(x: u8) -> usize
-    ensures { λ r. ⌜ r < 256 ⌝ }
-{
+fn wide(x: u8) -> usize {
     x as usize
 }
 
@@ -118,16 +74,24 @@ fn total(view: &[u8]) -> usize {
     sum
 }
 
-// The sum of the bytes of each view.
+fn say_sum(view: &[u8]) {
+    say_number(total(view));
+}
+
+// The sum of the bytes of each view; the comment's by the record that holds the image.
 fn say_views(image: &[u8], f: Fields) {
     word(b"\nviews");
-    number(total(parts::blob(image, f)));
-    number(total(parts::point(image, f)));
-    number(total(parts::scalar(image, f)));
-    number(total(parts::comment(image, f)));
-    number(total(parts::salt(image, f)));
-    number(total(parts::ciphertext(image, f)));
-    number(total(parts::tag(image, f)));
+    say_sum(parts::blob(image, f));
+    say_sum(parts::point(image, f));
+    say_sum(parts::scalar(image, f));
+    say_sum(record::comment_of(image));
+    say_later_views(image, f);
+}
+
+fn say_later_views(image: &[u8], f: Fields) {
+    say_sum(parts::salt(image, f));
+    say_sum(parts::ciphertext(image, f));
+    say_sum(parts::tag(image, f));
     word(b"\n");
 }
 
@@ -157,10 +121,6 @@ fn say_report(image: &[u8]) {
     }
 }
 
-fn length_of(head: &[u8; 4]) -> usize {
-    wide(head[0]) * 16777216 + wide(head[1]) * 65536 + wide(head[2]) * 256 + wide(head[3])
-}
-
 // Reads len bytes, or as many as there are, into the start of buf.
 fn fill(fd: i32, buf: &mut [u8], len: usize) -> usize {
     if len <= buf.len() {
@@ -178,7 +138,7 @@ fn one(fd: i32) -> bool {
         return false;
     }
     let mut buf = [0u8; 65536];
-    let n = fill(fd, &mut buf, length_of(&head));
+    let n = fill(fd, &mut buf, telling::number_at(&head, 0) as usize);
     let whole = Part {
         start: 0,
         length: n,

@@ -12,36 +12,17 @@
 // A text is how many pieces it has, and then each piece: the length of a unit, the length of the piece, and
 // the unit, which is to be repeated over the piece.
 use fields::Part;
-use libc::STDOUT_FILENO;
 use material::Checkint;
 use material::Material;
-use names::Algorithm;
-use names::Cipher;
-use names::Curve;
-use names::Kdf;
 use reply::Written;
 
-fn word(w: &[u8]) {
-    io::write_all(STDOUT_FILENO, w);
-}
-
-// A number after a space.
-fn say_number(n: usize) {
-    word(b" ");
-    io::print_decimal(STDOUT_FILENO, n as u64);
-}
-
 // ---- reading the file
-
-fn joined(a: u8, b: u8, c: u8, d: u8) -> u32 {
-    (((a as u32) * 256 + (b as u32)) * 256 + (c as u32)) * 256 + (d as u32)
-}
 
 // A number; 0 at the end of the file.
 fn number(fd: i32) -> u32 {
     let mut head = [0u8; 4];
     io::read_full(fd, &mut head);
-    joined(head[0], head[1], head[2], head[3])
+    telling::number_at(&head, 0)
 }
 
 // Each byte from `from` up to `end` becomes the one that stands `unit` before it.
@@ -127,38 +108,7 @@ fn between(bytes: &[u8], start: usize, end: usize) -> &[u8] {
     fields::view(bytes, part)
 }
 
-// ---- codes
-
-fn algorithm_of(code: u32) -> Algorithm {
-    match code {
-        0 => Algorithm::Ed25519,
-        1 => Algorithm::Ecdsa(Curve::Nistp256),
-        2 => Algorithm::Ecdsa(Curve::Nistp384),
-        _ => Algorithm::Ecdsa(Curve::Nistp521),
-    }
-}
-
-fn cipher_of(code: u32) -> Cipher {
-    match code {
-        0 => Cipher::None,
-        1 => Cipher::TripleDesCbc,
-        2 => Cipher::Aes128Cbc,
-        3 => Cipher::Aes192Cbc,
-        4 => Cipher::Aes256Cbc,
-        5 => Cipher::Aes128Ctr,
-        6 => Cipher::Aes192Ctr,
-        7 => Cipher::Aes256Ctr,
-        8 => Cipher::Aes128Gcm,
-        _ => Cipher::Aes256Gcm,
-    }
-}
-
-fn kdf_of(code: u32) -> Kdf {
-    if code == 0 {
-        return Kdf::None;
-    }
-    Kdf::Bcrypt
-}
+// ---- what the numbers say
 
 fn checkint_of(derive: u32, value: u32) -> Checkint {
     if derive == 1 {
@@ -172,7 +122,7 @@ fn length_of(of: Given, n: usize) -> usize {
     if of.x == 0 {
         return n;
     }
-    (of.y as usize) * 4294967296 + (of.z as usize)
+    telling::halves(of.y, of.z)
 }
 
 // ---- the calls
@@ -181,13 +131,13 @@ fn call_plain(of: Given, texts: &[u8], lent: &mut [u8]) -> Written {
     let public = between(texts, 0, of.a);
     let private = between(texts, of.a, of.b);
     let comment = between(texts, of.b, of.c);
-    let m = Material::new(algorithm_of(of.x), public, private);
+    let m = Material::new(telling::algorithm_of(of.x), public, private);
     plain::write_plain(m, checkint_of(of.y, of.z), comment, lent)
 }
 
 fn call_encrypted(of: Given, texts: &[u8], lent: &mut [u8]) -> Written {
-    let cipher = cipher_of(of.x);
-    let kdf = kdf_of(of.y);
+    let cipher = telling::cipher_of(of.x);
+    let kdf = telling::kdf_of(of.y);
     let salt = between(texts, 0, of.a);
     let blob = between(texts, of.a, of.b);
     let ciphertext = between(texts, of.b, of.c);
@@ -214,57 +164,10 @@ fn stored_call(fd: i32, code: u32, n: usize, lent: &mut [u8]) -> Written {
 
 // ---- what is written of each call
 
-fn wide(x: u8) -> u64 {
-    x as u64
-}
-
-fn say_hex(bytes: &[u8]) {
-    let mut i: usize = 0;
-    while i < bytes.len() {
-        io::print_hex(STDOUT_FILENO, wide(bytes[i]), 2);
-        i += 1;
-    }
-}
-
-// One byte more of a long buffer, which is taken as a single big-endian number modulo a prime.
-fn next_rest(rest: u64, byte: u8) -> u64 {
-    ((rest % 72057594037927931) * 256 + (byte as u64)) % 72057594037927931
-}
-
-fn rest_of(bytes: &[u8]) -> u64 {
-    let mut rest: u64 = 0;
-    let mut i: usize = 0;
-    while i < bytes.len() {
-        rest = next_rest(rest, bytes[i]);
-        i += 1;
-    }
-    rest
-}
-
-// A short buffer byte by byte, a long one by what remains of it modulo the prime.
-fn say_buffer(bytes: &[u8]) {
-    say_number(bytes.len());
-    if bytes.len() <= 256 {
-        word(b" hex:");
-        say_hex(bytes);
-    } else {
-        word(b" mod:");
-        io::print_decimal(STDOUT_FILENO, rest_of(bytes));
-    }
-    word(b"\n");
-}
-
 fn say_entry(code: u32) {
     let names = b"plain    encryptedrewrite  change   ";
     let start = (code as usize) * 9;
-    word(between(names, start, start + 9));
-}
-
-fn say_numbers(number: usize, count: usize, at: usize, length: usize) {
-    say_number(number);
-    say_number(count);
-    say_number(at);
-    say_number(length);
+    telling::word(between(names, start, start + 9));
 }
 
 // The reply; answers the length of the image in the buffer from now on.
@@ -272,11 +175,11 @@ fn say_reply(written: Written, n: usize) -> usize {
     match written {
         Written::Refused(f) => {
             let why = f.why;
-            say_numbers(why.number() as usize, why.count(), f.at, 0);
+            telling::say_reply(why.number(), why.count(), f.at, 0);
             n
         }
         Written::Length(length) => {
-            say_numbers(0, 0, 0, length);
+            telling::say_reply(0, 0, 0, length);
             length
         }
     }
@@ -290,7 +193,7 @@ fn called(fd: i32, n: usize, lent: &mut [u8]) -> usize {
     say_entry(code);
     let written = stored_call(fd, code, n, lent);
     let length = say_reply(written, n);
-    say_buffer(lent);
+    telling::say_buffer(lent);
     length
 }
 
