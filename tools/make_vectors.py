@@ -1,12 +1,13 @@
 #!/usr/bin/env python3
-"""Makes the stored vectors of crates/replay and crates/replay_writing anew: the images and the calls, and what must be
-answered to each.
+"""Makes the stored vectors of crates/replay, crates/replay_writing and crates/replay_records anew: the images, the calls and
+the records handed in, and what must be answered to each.
 
-    python3 tools/make_vectors.py            writes data/vectors, data/calls and stdout of the two crates
+    python3 tools/make_vectors.py            writes data/ and stdout of the three crates
     python3 tools/make_vectors.py --check    only compares them with what would be written; exit status 1 if they differ
 
 It comes out the same each time: the images are made here or stored in tools/corpus, and the answers are those of model.py
-and model_writing.py. Of the calls of the writers and of the comment change calls.py says how they are stored and printed.
+and model_writing.py. Of the calls of the writers and of the comment change calls.py says how they are stored and printed,
+of the records handed in records.py.
 In the file of images each is its length, 4 bytes big-endian, and its bytes. For each image there are in stdout
   - `read` and 25 numbers: number, count, at, kind, algorithm, cipher, KDF, rounds, checkint, padding, section (where
     its length, or the ciphertext's, begins), then start and length of blob, point, scalar, comment, salt, ciphertext
@@ -20,11 +21,13 @@ import sys
 
 import calls
 import model
+import records
 from cases_change import change_rows
 from cases_encrypted import encrypted_rows
 from cases_header import header_cases
 from cases_marked import marked_cases
 from cases_plain import plain_rows
+from cases_records import record_cases
 from cases_rewrite import rewrite_rows
 from cases_section import section_cases
 from damage import damages
@@ -34,14 +37,14 @@ from images import corpus
 CRATES = pathlib.Path(__file__).resolve().parent.parent / "crates"
 REPLAY = CRATES / "replay"
 WRITING = CRATES / "replay_writing"
-PARTS = ["blob", "point", "scalar", "comment", "salt", "ciphertext", "tag"]
-NUMBERS = ["number", "count", "at", "kind", "algorithm", "cipher", "kdf", "rounds", "checkint", "padding", "section"]
+RECORDS = CRATES / "replay_records"
 MUST_OCCUR = {
     "read": [0, 1, 2, 3, 4, 5, 6, 7, 11],
     "plain": [0, 1, 2, 7, 9, 11],
     "encrypted": [0, 1, 2, 3, 4, 6, 9, 11],
     "rewrite": [0, 1, 2, 3, 4, 5, 6, 7, 9, 11],
     "change": [0, 1, 2, 3, 4, 5, 6, 7, 8, 9, 10, 11],
+    "record": [0, 1, 9, 11],
 }
 
 
@@ -82,11 +85,9 @@ def numbers_line(word, numbers):
 def expected(image):
     """What the replay prints for an image."""
     answer = model.read(image)
-    parts = [getattr(answer, part) for part in PARTS]
-    numbers = [getattr(answer, number) for number in NUMBERS]
-    places = [number for part in parts for number in part]
-    sums = [sum(content(image, part)) for part in parts]
-    return numbers_line("read", numbers + places) + numbers_line("views", sums) + model.report(image)
+    numbers = [answer.number, answer.count, answer.at, *records.numbers_of(answer)]
+    sums = [sum(content(image, getattr(answer, part))) for part in records.PARTS]
+    return numbers_line("read", numbers) + numbers_line("views", sums) + model.report(image)
 
 
 # ---- calls
@@ -99,14 +100,14 @@ def all_rows():
     yield from change_rows()
 
 
-def hold_call(row, call, reply, before, after):
-    """The model's reply and buffer must be what the maker of the call meant, and what was written must be read back."""
-    if call.reply not in (None, reply) or call.after not in (None, after):
-        sys.exit(f"{row.title}: meant {call.reply}, but the model says {reply}, or leaves another buffer")
+def hold_call(title, meant, reply, before, after):
+    """The model's reply must be what the maker of the call meant, and what was written must be read back."""
+    if meant not in (None, reply):
+        sys.exit(f"{title}: meant {meant}, but the model says {reply}")
     if reply.number != 0 and after != before:
-        sys.exit(f"{row.title}: refused, but the buffer is changed")
+        sys.exit(f"{title}: refused, but the buffer is changed")
     if reply.number == 0 and not model.form(after[: reply.length]):
-        sys.exit(f"{row.title}: what was written isn't read back as in the form")
+        sys.exit(f"{title}: what was written isn't read back as in the form")
 
 
 def rows():
@@ -116,28 +117,46 @@ def rows():
         answers = list(calls.answers(row))
         befores = [row.buffer, *(after for _, _, after in answers)]
         for before, (call, reply, after) in zip(befores, answers):
-            hold_call(row, call, reply, before, after)
+            hold_call(row.title, call.reply, reply, before, after)
+            if call.after not in (None, after):
+                sys.exit(f"{row.title}: the model leaves another buffer than was meant")
         once.setdefault(calls.stored(row), answers)
     return once
 
 
-# ---- both
+# ---- records handed in
+
+
+def handed():
+    """Every record with its image once, in the order in which they were made."""
+    once = {}
+    for case in record_cases():
+        reply, after = records.answer(case)
+        hold_call(case.title, case.reply, reply, calls.filled(case.room), after)
+        once.setdefault(records.stored(case), case)
+    return once
+
+
+# ---- all three
 
 
 def made():
     """The files by their paths, and how often each entry gives each reply number."""
-    vectors, written = images(), rows()
+    vectors, written, by_hand = images(), rows(), handed()
     data = b"".join(len(image).to_bytes(4, "big") + image for image in vectors)
     text = "".join(expected(image) for image in vectors)
     answers = [answer for row in written.values() for answer in row]
     lines = "".join(calls.line(call.entry, reply, after) for call, reply, after in answers)
     count = collections.Counter(("read", model.read(image).number) for image in vectors)
     count.update((call.entry, reply.number) for call, reply, _ in answers)
+    count.update(("record", records.answer(case)[0].number) for case in by_hand.values())
     files = {
         REPLAY / "data" / "vectors": data,
         REPLAY / "stdout": text.encode(),
         WRITING / "data" / "calls": b"".join(written),
         WRITING / "stdout": lines.encode(),
+        RECORDS / "data" / "records": b"".join(by_hand),
+        RECORDS / "stdout": "".join(map(records.lines, by_hand.values())).encode(),
     }
     return files, count, vectors
 

@@ -1,4 +1,5 @@
-"""Document 01's writing rules once more, in plain Python: a second opinion on the writers and the comment change.
+"""Document 01's writing rules once more, in plain Python: a second opinion on the writers, on records
+that are handed in, and on the comment change.
 
 Like model.py, this was written from document 01 and the readings recorded in docs/DECISIONS.md, and from no other code of
 this project. Each entry is handed the lent buffer's bytes and answers its reply and the buffer as it must be afterwards.
@@ -6,6 +7,7 @@ this project. Each entry is handed the lent buffer's bytes and answers its reply
     plain(algorithm, public, private, checkint, comment, buffer=..)    checkint None: the derived one
     encrypted(cipher, kdf, salt, rounds, blob, ciphertext, tag, buffer=..)
     rewrite(image, buffer=..)
+    record(fields, image, buffer=..)                                   fields is a model.Answer that was made by hand
     change(n, comment, buffer=..)                                      n is the length of the image in the buffer
 """
 from typing import NamedTuple
@@ -136,6 +138,18 @@ def with_comment(image, record, comment):
     """The plain writer's image of the record's key and checkint with this comment, of whatever size."""
     point, scalar = content(image, record.point), content(image, record.scalar)
     return model.write_plain(record.algorithm, point, scalar, record.checkint, comment)
+
+
+# ---- a record that is handed in
+
+
+@replying
+def record(fields, image, buffer):
+    """Unless every field is what an accepted read of the image gives, 1 before all else; then as rewrite."""
+    own = model.read(image)
+    if own.number != 0 or fields != own:
+        raise Refused(1, 0)
+    return placed(written_again(image, fields), buffer)
 
 
 # ---- the comment change

@@ -1,0 +1,181 @@
+// Replays records that are handed in by hand: reads them from the file `records`, has each written again
+// with its image, and writes the reply, the whole lent buffer afterwards, and what the views of it are.
+//
+// Every number in the file is big-endian. A vector is the image's length and the lent buffer's, four bytes
+// each, the record's 22 numbers, eight bytes each, and the image. The numbers are kind (1 plain, 2
+// encrypted), algorithm, cipher, KDF, rounds, checkint, padding and section, and then start and length of
+// blob, point, scalar, comment, salt, ciphertext and tag.
+use container::Fields;
+use fields::Part;
+use header::Header;
+use reply::Written;
+use section::Kind;
+use section::Section;
+use telling::number_at;
+use telling::say_number;
+use telling::word;
+
+// ---- the record's numbers, which follow the two lengths
+
+// The lower half of the i-th number.
+fn lower(head: &[u8], i: u8) -> u32 {
+    number_at(head, (i as usize) * 8 + 12)
+}
+
+fn number(head: &[u8], i: u8) -> usize {
+    telling::halves(number_at(head, (i as usize) * 8 + 8), lower(head, i))
+}
+
+// A start, and the length that follows it.
+fn place(head: &[u8], i: u8, j: u8) -> Part {
+    Part {
+        start: number(head, i),
+        length: number(head, j),
+    }
+}
+
+// ---- the record
+
+fn kind_of(code: u32) -> Kind {
+    if code == 1 {
+        return Kind::Plain;
+    }
+    Kind::Encrypted
+}
+
+fn header_of(head: &[u8]) -> Header {
+    Header {
+        cipher: telling::cipher_of(lower(head, 2)),
+        kdf: telling::kdf_of(lower(head, 3)),
+        salt: place(head, 16, 17),
+        rounds: lower(head, 4),
+        algorithm: telling::algorithm_of(lower(head, 1)),
+        blob: place(head, 8, 9),
+        point: place(head, 10, 11),
+        section: number(head, 7),
+    }
+}
+
+fn section_of(head: &[u8]) -> Section {
+    Section {
+        kind: kind_of(lower(head, 0)),
+        checkint: lower(head, 5),
+        padding: number(head, 6),
+        scalar: place(head, 12, 13),
+        comment: place(head, 14, 15),
+        ciphertext: place(head, 18, 19),
+        tag: place(head, 20, 21),
+    }
+}
+
+// ---- what is said of it
+
+fn say_written(written: Written) {
+    match written {
+        Written::Refused(f) => {
+            let why = f.why;
+            telling::say_reply(why.number(), why.count(), f.at, 0);
+        }
+        Written::Length(length) => telling::say_reply(0, 0, 0, length),
+    }
+}
+
+// A view's length, and what remains of it modulo the prime.
+fn say_view(view: &[u8]) {
+    say_number(view.len());
+    say_number(telling::rest_of(view) as usize);
+}
+
+fn say_views(image: &[u8], f: Fields) {
+    word(b"views");
+    say_view(container::blob(image, f));
+    say_view(container::point(image, f));
+    say_view(container::scalar(image, f));
+    say_view(container::comment(image, f));
+    say_view(container::salt(image, f));
+    say_view(container::ciphertext(image, f));
+    say_view(container::tag(image, f));
+    word(b"\n");
+}
+
+// ---- the call
+
+// The i-th byte of a buffer before it is lent: never 0, and no run of one byte.
+fn stale(i: usize) -> u8 {
+    let seven = b"\xa1\xb2\xc3\xd4\xe5\xf6\x97";
+    keys::byte(seven, i % 7)
+}
+
+fn fill(lent: &mut [u8]) {
+    let mut i: usize = 0;
+    while i < lent.len() {
+        lent[i] = stale(i);
+        i += 1;
+    }
+}
+
+fn handed_in(image: &[u8], f: Fields, lent: &mut [u8]) {
+    fill(lent);
+    word(b"record   ");
+    say_written(writer::rewrite_record(image, f, lent));
+    telling::say_buffer(lent);
+    say_views(image, f);
+}
+
+// ---- the vectors
+
+// The image; as many bytes as there are, if that is no more than the room for it.
+fn image_into(fd: i32, room: &mut [u8], length: usize) -> usize {
+    if room.len() < length {
+        return 0;
+    }
+    io::read_full(fd, &mut room[0..length])
+}
+
+fn replay(image: &[u8], f: Fields, length: usize) {
+    let mut buffer = [0u8; 66000];
+    if length > 66000 {
+        return;
+    }
+    handed_in(image, f, &mut buffer[0..length]);
+}
+
+// One vector; whether there was one.
+fn one(fd: i32) -> bool {
+    let mut head = [0u8; 184];
+    let got = io::read_full(fd, &mut head);
+    if got < 184 {
+        return false;
+    }
+    let mut room = [0u8; 66000];
+    let n = image_into(fd, &mut room, number_at(&head, 0) as usize);
+    let whole = Part {
+        start: 0,
+        length: n,
+    };
+    let f = Fields {
+        header: header_of(&head),
+        section: section_of(&head),
+    };
+    replay(fields::view(&room, whole), f, number_at(&head, 4) as usize);
+    true
+}
+
+// A proved loop has to end, so it counts its turns down.
+fn all(fd: i32) {
+    let mut turns = u64::MAX;
+    while turns > 0 && one(fd) {
+        turns -= 1;
+    }
+}
+
+fn main() {
+    let path = b"records";
+    let fd = os::open_read(path);
+    if fd < 0 {
+        os::fail(path);
+        return;
+    }
+    all(fd);
+    libc::close(fd);
+}
