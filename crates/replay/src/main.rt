@@ -4,6 +4,7 @@ use container::Fields;
 use container::ImageRead;
 use fields::Fault;
 use fields::Part;
+use header::Header;
 use report::Reported;
 use telling::say_number;
 use telling::word;
@@ -17,31 +18,32 @@ fn place(part: Part) {
 fn say_refused(f: Fault) {
     let why = f.why;
     word(b"read");
-    say_number(why.number() as usize);
-    say_number(why.count());
-    say_number(f.at);
-    word(b" 0 0 0 0 0 0 0 0 0 0 0 0 0 0 0 0 0 0 0 0 0 0\nviews 0 0 0 0 0 0 0\n");
+    telling::say_reply(why.number(), why.count(), f.at, 0);
+    word(b" 0 0 0 0 0 0 0 0 0 0 0 0 0 0 0 0 0 0 0 0 0\nviews 0 0 0 0 0 0 0\n");
 }
 
 // The record's kind and names, and then its numbers.
 fn say_names(f: Fields) {
-    let header = f.header;
     let section = f.section;
     let kind = section.kind;
+    word(b"read 0 0 0");
+    say_number(judge::kind_code(kind) as usize);
+    say_header_names(f.header);
+}
+
+fn say_header_names(header: Header) {
     let algorithm = header.algorithm;
     let cipher = header.cipher;
     let kdf = header.kdf;
-    word(b"read 0 0 0");
-    say_number(judge::kind_code(kind) as usize);
     say_number(algorithm.code() as usize);
     say_number(codes::cipher_code(cipher) as usize);
     say_number(codes::kdf_code(kdf) as usize);
+    say_number(header.rounds as usize);
 }
 
 fn say_numbers(f: Fields) {
     let header = f.header;
     let section = f.section;
-    say_number(header.rounds as usize);
     say_number(section.checkint as usize);
     say_number(section.padding);
     say_number(header.section);

@@ -68,6 +68,13 @@ fn section_of(head: &[u8]) -> Section {
     }
 }
 
+fn record_of(head: &[u8]) -> Fields {
+    Fields {
+        header: header_of(head),
+        section: section_of(head),
+    }
+}
+
 // ---- what is said of it
 
 fn say_written(written: Written) {
@@ -91,11 +98,15 @@ fn say_views(image: &[u8], f: Fields) {
     say_view(container::blob(image, f));
     say_view(container::point(image, f));
     say_view(container::scalar(image, f));
+    say_later_views(image, f);
+    word(b"\n");
+}
+
+fn say_later_views(image: &[u8], f: Fields) {
     say_view(container::comment(image, f));
     say_view(container::salt(image, f));
     say_view(container::ciphertext(image, f));
     say_view(container::tag(image, f));
-    word(b"\n");
 }
 
 // ---- the call
@@ -132,12 +143,24 @@ fn image_into(fd: i32, room: &mut [u8], length: usize) -> usize {
     io::read_full(fd, &mut room[0..length])
 }
 
-fn replay(image: &[u8], f: Fields, length: usize) {
+fn replay(image: &[u8], head: &[u8]) {
     let mut buffer = [0u8; 66000];
+    let length = number_at(head, 4) as usize;
     if length > 66000 {
         return;
     }
-    handed_in(image, f, &mut buffer[0..length]);
+    handed_in(image, record_of(head), &mut buffer[0..length]);
+}
+
+// A vector, of which all but the image has been read.
+fn vector(fd: i32, head: &[u8]) {
+    let mut room = [0u8; 66000];
+    let n = image_into(fd, &mut room, number_at(head, 0) as usize);
+    let whole = Part {
+        start: 0,
+        length: n,
+    };
+    replay(fields::view(&room, whole), head);
 }
 
 // One vector; whether there was one.
@@ -147,17 +170,7 @@ fn one(fd: i32) -> bool {
     if got < 184 {
         return false;
     }
-    let mut room = [0u8; 66000];
-    let n = image_into(fd, &mut room, number_at(&head, 0) as usize);
-    let whole = Part {
-        start: 0,
-        length: n,
-    };
-    let f = Fields {
-        header: header_of(&head),
-        section: section_of(&head),
-    };
-    replay(fields::view(&room, whole), f, number_at(&head, 4) as usize);
+    vector(fd, &head);
     true
 }
 
