@@ -95,18 +95,18 @@ fn say_view(view: &[u8]) {
 
 fn say_views(image: &[u8], f: Fields) {
     word(b"views");
-    say_view(container::blob(image, f));
-    say_view(container::point(image, f));
-    say_view(container::scalar(image, f));
+    say_view(parts::blob(image, f));
+    say_view(parts::point(image, f));
+    say_view(parts::scalar(image, f));
     say_later_views(image, f);
     word(b"\n");
 }
 
 fn say_later_views(image: &[u8], f: Fields) {
-    say_view(container::comment(image, f));
-    say_view(container::salt(image, f));
-    say_view(container::ciphertext(image, f));
-    say_view(container::tag(image, f));
+    say_view(parts::comment(image, f));
+    say_view(parts::salt(image, f));
+    say_view(parts::ciphertext(image, f));
+    say_view(parts::tag(image, f));
 }
 
 // ---- the call
