@@ -1,7 +1,7 @@
 -- Document 01, 'Writing': the conditions of the two writers and of the comment change, as lists in the paper's order, each with its
 -- number. The reply is the first that holds, for every input; where none does it is 0 0 0 and the length.
 use Prim.Native.Nat.{ℕ, _%_}
-use mathlib.Core.Path.{_≡_, refl, _∙_, ap}
+use mathlib.Core.Path.{_≡_, refl, sym, _∙_, ap}
 use mathlib.Core.Bool.{Bool, true, false, cond, not, _&&_, _||_}
 use mathlib.Core.List.{List, [], _∷_}
 use borrow.Author.Tests.{leb-true, leb-false, lt-ltb, le-ltb}
@@ -23,6 +23,7 @@ use Rattle.format.specs.Format.{publicLength, privateLength, pointTag, writtenI
 use Rattle.keys.specs.Keys.{onBlob, blobAt}
 use Rattle.keys.specs.declared.Blob.{Blob}
 use Rattle.keys.specs.declared.Blob.the-variants as blob
+use Rattle.section.specs.declared.Kind.{Kind}
 use Rattle.section.specs.declared.Kind.the-variants.{Plain}
 use Rattle.container.specs.declared.Fields.{Fields}
 use Rattle.container.specs.Container.{onRead, readAt}
@@ -53,7 +54,7 @@ abbrev pub says : Bool → ℕ → Condition
 says holds number = record { holds = holds; number = number; count = 0; at = 0 }
 
 -- the first that holds
-abbrev pub first : List Condition → ℕ → Reply
+unfoldable pub first : List Condition → ℕ → Reply
 first [] length = record { number = 0; count = 0; at = 0; length = length }
 first (c ∷ more) length = cond (c .holds) (record { number = c .number; count = c .count; at = c .at; length = 0 }) (first more length)
 
@@ -76,6 +77,10 @@ abbrev pub misused : Kdf → List ℕ → ℕ → Bool
 misused kdf.None salt rounds = not (eqb (length salt) 0) || not (eqb rounds 0)
 misused kdf.Bcrypt salt rounds = false
 
+-- a blob's refusal, with its count
+abbrev pub blobCondition : Fault → Condition
+blobCondition f = record { holds = true; number = numberOf (f .why); count = countOf (f .why); at = 0 }
+
 -- cipher `none` 3; KDF `none` with salt bytes or rounds other than 0, 3; blob refused as in step 5; ciphertext not a multiple of the
 -- block 3; tag length wrong 1; size 11; room 9
 abbrev pub encryptedConditions : Cipher → Kdf → List ℕ → ℕ → List ℕ → List ℕ → List ℕ → ℕ → List Condition
@@ -83,25 +88,29 @@ encryptedConditions cipher k salt rounds key ciphertext tag room =
     says (isNone cipher) 3
     ∷ says (misused k salt rounds) 3
     ∷ onBlob (blobAt key (whole key))
-    (λ f. record { holds = true; number = numberOf (f .why); count = countOf (f .why); at = 0 } ∷ [])
+    (λ f. blobCondition f ∷ [])
     (λ a point.
     says (not (eqb (length ciphertext % blockSize cipher) 0)) 3
     ∷ says (not (eqb (length tag) (tagLength cipher))) 1
     ∷ sizes (encryptedImage cipher k salt rounds key ciphertext tag) room)
 
--- n above 65,535: 11; n above the buffer's length: 1; the reader's refusals; encrypted: 8; not the writer's form: 10; comment 7, at the
--- old comment's field; size 11; room 9
+abbrev pub readCondition : Fault → Condition
+readCondition g = record { holds = true; number = numberOf (g .why); count = countOf (g .why); at = g .at }
+
+-- of an accepted image: encrypted: 8; not the writer's form: 10; comment 7, at the old comment's field; size 11; room 9
+abbrev pub recordConditions : List ℕ → Fields → List ℕ → ℕ → List Condition
+recordConditions s f comment room =
+    says (onKind (f .section .kind) false true) 8
+    ∷ says (not (formOf s f)) 10
+    ∷ record { holds = not (utf8 comment); number = 7; count = 0; at = commentField f }
+    ∷ sizes (afresh s f comment) room
+
+-- n above 65,535: 11; n above the buffer's length: 1; the reader's refusals; then as above
 abbrev pub changeConditions : List ℕ → ℕ → List ℕ → List Condition
 changeConditions old n comment =
     says (ltb 65535 n) 11
     ∷ says (ltb (length old) n) 1
-    ∷ onRead (readAt (take n old))
-    (λ g. record { holds = true; number = numberOf (g .why); count = countOf (g .why); at = g .at } ∷ [])
-    (λ f.
-    says (onKind (f .section .kind) false true) 8
-    ∷ says (not (formOf (take n old) f)) 10
-    ∷ record { holds = not (utf8 comment); number = 7; count = 0; at = commentField f }
-    ∷ sizes (afresh (take n old) f comment) (length old))
+    ∷ onRead (readAt (take n old)) (λ g. readCondition g ∷ []) (λ f. recordConditions (take n old) f comment (length old))
 
 abbrev pub changedLength : List ℕ → ℕ → List ℕ → ℕ
 changedLength old n comment = onRead (readAt (take n old)) (λ g. 0) (λ f. length (afresh (take n old) f comment))
@@ -112,7 +121,7 @@ changedLength old n comment = onRead (readAt (take n old)) (λ g. 0) (λ f. leng
 then-first :
     (h b : Bool) → h ≡ not b → (why : Refusal) → countOf why ≡ 0 → (next : Written) (more : List Condition) (n : ℕ) → replyOf next ≡ first more n
     → replyOf (unless b why next) ≡ first (says h (numberOf why) ∷ more) n
-unfolding replyOf
+unfolding replyOf first
 then-first h true e why none next more n p = rw e p
 then-first h false e why none next more n p = rw (e, none)
 
@@ -134,15 +143,35 @@ above a b =
     (λ e. rw e (le-ltb a b (leb-true b a e)))
     (λ e. rw e (lt-ltb a b (leb-false b a e)))
 
-sized-first : (image : List ℕ) (room : ℕ) → replyOf (sized image room) ≡ first (sizes image room) (length image)
-unfolding sized replyOf
-sized-first image room =
-    then-first _ _ (above 65535 (length image)) Size refl _ _ _
-    (then-first _ _ (above room (length image)) Room refl (written.Length (length image)) [] (length image) refl)
+done-first : (n : ℕ) → replyOf (written.Length n) ≡ first [] n
+unfolding replyOf first
+done-first n = refl
 
-refused-first : (why : Refusal) → replyOf (refused why) ≡ record { number = numberOf why; count = countOf why; at = 0; length = 0 }
-unfolding replyOf
-refused-first why = refl
+sized-first : (image : List ℕ) (room : ℕ) → replyOf (sized image room) ≡ first (sizes image room) (length image)
+unfolding sized
+sized-first image room =
+    let fits = leb (length image) room in
+    let w = written.Length (length image) in
+    then-first (ltb 65535 (length image)) (leb (length image) 65535) (above 65535 (length image)) Size refl (unless fits Room w)
+    (says (ltb room (length image)) 9 ∷ []) (length image)
+    (then-first (ltb room (length image)) fits (above room (length image)) Room refl w [] (length image) (done-first (length image)))
+
+refused-first :
+    (why : Refusal) (more : List Condition) (n : ℕ)
+    → replyOf (refused why) ≡ first (record { holds = true; number = numberOf why; count = countOf why; at = 0 } ∷ more) n
+unfolding replyOf first
+refused-first why more n = refl
+
+fault-first :
+    (g : Fault) (more : List Condition) (n : ℕ)
+    → replyOf (written.Refused g) ≡ first (record { holds = true; number = numberOf (g .why); count = countOf (g .why); at = g .at } ∷ more) n
+unfolding replyOf first
+fault-first g more n = refl
+
+-- a condition that fails is passed over
+passed-first : (number count at : ℕ) (more : List Condition) (n : ℕ) → first more n ≡ first (record { holds = false; number = number; count = count; at = at } ∷ more) n
+unfolding first
+passed-first number count at more n = refl
 
 -- ---- the claims
 
@@ -152,12 +181,19 @@ pub plain-first :
     ≡ first (plainConditions a public private checkint comment room) (length (writtenImage checkint a public private comment))
 unfolding plainReply
 plain-first a public private checkint comment room =
-    let both = eqb (length public) (publicLength a) && eqb (length private) (privateLength a) in
-    rw (either-fails (eqb (length public) (publicLength a)) (eqb (length private) (privateLength a)) Length _)
-    (then-first _ both (not-both (eqb (length public) (publicLength a)) (eqb (length private) (privateLength a))) Length refl _ _ _
-    (then-first _ (pointTag a public) refl FormatEncoding refl _ _ _
-    (then-first _ (utf8 comment) refl CharacterEncoding refl _ _ _
-    (sized-first (writtenImage checkint a public private comment) room))))
+    let image = writtenImage checkint a public private comment in
+    let n = length image in
+    let long = eqb (length public) (publicLength a) in
+    let private-long = eqb (length private) (privateLength a) in
+    let w₇ = unless (utf8 comment) CharacterEncoding (sized image room) in
+    let w₂ = unless (pointTag a public) FormatEncoding w₇ in
+    let c₇ = says (not (utf8 comment)) 7 ∷ sizes image room in
+    let c₂ = says (not (pointTag a public)) 2 ∷ c₇ in
+    ap replyOf (either-fails long private-long Length w₂)
+    ∙ then-first (not long || not private-long) (long && private-long) (not-both long private-long) Length refl w₂ c₂ n
+    (then-first (not (pointTag a public)) (pointTag a public) refl FormatEncoding refl w₇ c₇ n
+    (then-first (not (utf8 comment)) (utf8 comment) refl CharacterEncoding refl (sized image room) (sizes image room) n
+    (sized-first image room)))
 
 misused-not : (k : Kdf) (salt : List ℕ) (rounds : ℕ) → misused k salt rounds ≡ not (optionsFit k salt rounds)
 misused-not kdf.None salt rounds = not-both (eqb (length salt) 0) (eqb rounds 0)
@@ -169,34 +205,32 @@ pub encrypted-first :
     ≡ first (encryptedConditions cipher k salt rounds key ciphertext tag room) (length (encryptedImage cipher k salt rounds key ciphertext tag))
 unfolding encryptedReply
 encrypted-first cipher k salt rounds key ciphertext tag room =
-    then-first _ (not (isNone cipher)) (not-not (isNone cipher)) Crypto refl _ _ _
-    (then-first _ (optionsFit k salt rounds) (misused-not k salt rounds) Crypto refl _ _ _
+    let n = length (encryptedImage cipher k salt rounds key ciphertext tag) in
+    let w = onBlob (blobAt key (whole key)) (λ f. refused (f .why)) (λ a point. wrapped) in
+    let c = onBlob (blobAt key (whole key)) (λ f. blobCondition f ∷ []) (λ a point. listed) in
+    then-first (isNone cipher) (not (isNone cipher)) (not-not (isNone cipher)) Crypto refl (unless (optionsFit k salt rounds) Crypto w)
+    (says (misused k salt rounds) 3 ∷ c) n
+    (then-first (misused k salt rounds) (optionsFit k salt rounds) (misused-not k salt rounds) Crypto refl w c n
     (by-blob (blobAt key (whole key))))
   where
+    image : List ℕ
+    image = encryptedImage cipher k salt rounds key ciphertext tag
+
+    wrapped : Written
+    wrapped = unless (eqb (length ciphertext % blockSize cipher) 0) Crypto (unless (eqb (length tag) (tagLength cipher)) Length (sized image room))
+
+    listed : List Condition
+    listed = says (not (eqb (length ciphertext % blockSize cipher) 0)) 3 ∷ says (not (eqb (length tag) (tagLength cipher))) 1 ∷ sizes image room
+
     by-blob :
         (b : Blob)
-        → replyOf
-        (onBlob b (λ f. refused (f .why)) (λ a point.
-        unless (eqb (length ciphertext % blockSize cipher) 0) Crypto
-        (unless (eqb (length tag) (tagLength cipher)) Length
-        (sized (encryptedImage cipher k salt rounds key ciphertext tag) room))))
-        ≡ first
-        (onBlob b
-        (λ f. record { holds = true; number = numberOf (f .why); count = countOf (f .why); at = 0 } ∷ [])
-        (λ a point.
-        says (not (eqb (length ciphertext % blockSize cipher) 0)) 3
-        ∷ says (not (eqb (length tag) (tagLength cipher))) 1
-        ∷ sizes (encryptedImage cipher k salt rounds key ciphertext tag) room))
-        (length (encryptedImage cipher k salt rounds key ciphertext tag))
-    by-blob (blob.Refused f) = refused-first (f .why)
+        → replyOf (onBlob b (λ f. refused (f .why)) (λ a point. wrapped)) ≡ first (onBlob b (λ f. blobCondition f ∷ []) (λ a point. listed)) (length image)
+    by-blob (blob.Refused f) = refused-first (f .why) [] (length image)
     by-blob (blob.Key a point) =
-        then-first _ (eqb (length ciphertext % blockSize cipher) 0) refl Crypto refl _ _ _
-        (then-first _ (eqb (length tag) (tagLength cipher)) refl Length refl _ _ _
-        (sized-first (encryptedImage cipher k salt rounds key ciphertext tag) room))
-
-fault-first : (g : Fault) → replyOf (written.Refused g) ≡ record { number = numberOf (g .why); count = countOf (g .why); at = g .at; length = 0 }
-unfolding replyOf
-fault-first g = refl
+        then-first (not (eqb (length ciphertext % blockSize cipher) 0)) (eqb (length ciphertext % blockSize cipher) 0) refl Crypto refl
+        (unless (eqb (length tag) (tagLength cipher)) Length (sized image room)) (says (not (eqb (length tag) (tagLength cipher))) 1 ∷ sizes image room) (length image)
+        (then-first (not (eqb (length tag) (tagLength cipher))) (eqb (length tag) (tagLength cipher)) refl Length refl (sized image room) (sizes image room) (length image)
+        (sized-first image room))
 
 comment-first :
     (s : List ℕ) (f : Fields) (comment : List ℕ) (room : ℕ) → PlainText s f
@@ -206,23 +240,34 @@ comment-first :
     (length (afresh s f comment))
 comment-first s f comment room p =
     by-bool (utf8 comment)
-    (λ u. rw u (ap replyOf (afresh-sized s f p comment u room) ∙ sized-first (afresh s f comment) room))
-    (λ u. rw u (fault-first (fault CharacterEncoding (commentField f))))
+    (λ u.
+    rw u
+    (ap replyOf (afresh-sized s f p comment u room) ∙ sized-first (afresh s f comment) room
+    ∙ passed-first 7 0 (commentField f) (sizes (afresh s f comment) room) (length (afresh s f comment))))
+    (λ u. rw u (fault-first (fault CharacterEncoding (commentField f)) (sizes (afresh s f comment) room) (length (afresh s f comment))))
 
 record-first :
     (s : List ℕ) (f : Fields) (comment : List ℕ) (room : ℕ) → (f .section .kind ≡ Plain → PlainText s f)
     → replyOf (recordReply s f comment room)
-    ≡ first
-    (says (onKind (f .section .kind) false true) 8
-    ∷ says (not (formOf s f)) 10
-    ∷ record { holds = not (utf8 comment); number = 7; count = 0; at = commentField f }
-    ∷ sizes (afresh s f comment) room)
-    (length (afresh s f comment))
+    ≡ first (recordConditions s f comment room) (length (afresh s f comment))
 unfolding recordReply
 record-first s f comment room text =
     by-kind (f .section .kind)
-    (λ k. rw k (then-first _ (formOf s f) refl Form refl _ _ _ (comment-first s f comment room (text k))))
-    (λ k. rw k (refused-first Encrypted))
+    (λ k.
+    let w = cond (utf8 comment) (afreshReply s f comment room) (written.Refused (fault CharacterEncoding (commentField f))) in
+    let c = record { holds = not (utf8 comment); number = 7; count = 0; at = commentField f } ∷ sizes (afresh s f comment) room in
+    let n = length (afresh s f comment) in
+    ap (λ (x : Kind). replyOf (onKind x (unless (formOf s f) Form w) (refused Encrypted))) k
+    ∙ then-first (not (formOf s f)) (formOf s f) refl Form refl w c n (comment-first s f comment room (text k))
+    ∙ passed-first 8 0 0 (says (not (formOf s f)) 10 ∷ c) n
+    ∙ ap (λ (x : Kind). first (says (onKind x false true) 8 ∷ says (not (formOf s f)) 10 ∷ c) n) (sym k))
+    (λ k.
+    let w = unless (formOf s f) Form (cond (utf8 comment) (afreshReply s f comment room) (written.Refused (fault CharacterEncoding (commentField f)))) in
+    let c = says (not (formOf s f)) 10 ∷ record { holds = not (utf8 comment); number = 7; count = 0; at = commentField f } ∷ sizes (afresh s f comment) room in
+    let n = length (afresh s f comment) in
+    ap (λ (x : Kind). replyOf (onKind x w (refused Encrypted))) k
+    ∙ refused-first Encrypted c n
+    ∙ ap (λ (x : Kind). first (says (onKind x false true) 8 ∷ c) n) (sym k))
 
 -- for every buffer and comment; that the buffer's bytes are bytes is the slice's own rule
 pub change-first :
@@ -230,8 +275,12 @@ pub change-first :
     → replyOf (changeReply old n comment) ≡ first (changeConditions old n comment) (changedLength old n comment)
 unfolding changeReply
 change-first old n comment all =
-    then-first _ (leb n 65535) (above 65535 n) Size refl _ _ _
-    (then-first _ (leb n (length old)) (above (length old) n) Length refl _ _ _
-    (by-read (readAt (take n old))
-    (λ g w. rw w (fault-first g))
-    (λ f w. rw w (record-first (take n old) f comment (length old) (plain-of (take n old) all f w)))))
+    let s = take n old in
+    let w = onRead (readAt s) written.Refused (λ f. recordReply s f comment (length old)) in
+    let c = onRead (readAt s) (λ g. readCondition g ∷ []) (λ f. recordConditions s f comment (length old)) in
+    then-first (ltb 65535 n) (leb n 65535) (above 65535 n) Size refl (unless (leb n (length old)) Length w) (says (ltb (length old) n) 1 ∷ c)
+    (changedLength old n comment)
+    (then-first (ltb (length old) n) (leb n (length old)) (above (length old) n) Length refl w c (changedLength old n comment)
+    (by-read (readAt s)
+    (λ g e. rw e (fault-first g [] 0))
+    (λ f e. rw e (record-first s f comment (length old) (plain-of s all f e)))))
