@@ -11,7 +11,6 @@ use Rattle.fields.specs.Fields.{viewOf}
 use Rattle.container.specs.declared.Fields.{Fields}
 use Rattle.container.specs.declared.ImageRead.the-variants as read
 use Rattle.container.specs.Container.{readAt}
-use Rattle.buffer.specs.Puts.{zeros}
 use Rattle.reply.specs.declared.Written.the-variants as written
 use Rattle.plain.specs.Plain.{plainReply}
 use Rattle.comment.specs.Change.{afresh, recordReply, changeReply, changeLeft}

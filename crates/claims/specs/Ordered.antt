@@ -9,6 +9,7 @@ use lib.Dec.{eqb, leb, ltb}
 use lib.ListN.{length, take}
 use Rattle.fields.specs.Bytes.{AllBytes}
 use Rattle.fields.specs.Fields.{fault, whole}
+use Rattle.fields.specs.Place.{by-bool}
 use Rattle.fields.specs.Refusals.{numberOf, countOf}
 use Rattle.fields.specs.declared.Fault.{Fault}
 use Rattle.fields.specs.declared.Refusal.{Refusal}
@@ -29,8 +30,7 @@ use Rattle.container.specs.declared.Fields.{Fields}
 use Rattle.container.specs.Container.{onRead, readAt}
 use Rattle.container.specs.Form.{onKind, formOf}
 use Rattle.container.specs.Read.{PlainText}
-use Rattle.container.specs.FormLaws.{plain-of}
-use Rattle.judge.specs.Judge.{by-read}
+use Rattle.container.specs.FormLaws.{by-read, plain-of}
 use Rattle.reply.specs.declared.Written.{Written}
 use Rattle.reply.specs.declared.Written.the-variants as written
 use Rattle.reply.specs.Reply.{refused, unless, sized}
@@ -40,7 +40,7 @@ use Rattle.comment.specs.Change.{afresh, afreshReply, commentField, recordReply
 use Rattle.comment.specs.Afresh.{afresh-sized}
 use Rattle.saltorchard.specs.declared.Reply.{Reply}
 use Rattle.saltorchard.specs.Interface.{replyOf}
-use Rattle.claims.specs.Refusals.{by-bool, by-kind}
+use Rattle.claims.specs.Refusals.{by-kind}
 
 -- a condition: whether it holds, and the reply that it gives
 pub record Condition : Type 0 where

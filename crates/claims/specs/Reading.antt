@@ -3,7 +3,7 @@
 use Prim.Native.Nat.{ℕ, _+_, _≤_, _<_, _^_}
 use native.Mathlib.Omega.{arith}
 use mathlib.Core.Path.{_≡_, refl, sym, ap}
-use mathlib.Core.Bool.{Bool, true, false, not}
+use mathlib.Core.Bool.{Bool, true, false}
 use mathlib.Core.List.{List}
 use borrow.Author.Tests.{eqb-true, leb-true}
 use lib.Dec.{leb}
@@ -18,7 +18,7 @@ use Rattle.container.specs.Back.{PlainImageBack, plain-image-back}
 use Rattle.buffer.specs.Puts.{take-splice}
 use Rattle.reply.specs.declared.Written.{Written}
 use Rattle.reply.specs.declared.Written.the-variants as written
-use Rattle.reply.specs.Reply.{refused, unless, sized}
+use Rattle.reply.specs.Reply.{unless, sized}
 use Rattle.plain.specs.Plain.{plainReply, plainLeft}
 
 -- ---- an accepted write meets every condition

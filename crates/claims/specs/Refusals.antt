@@ -2,28 +2,25 @@
 -- each with all that it is given beside the buffer; its reply and what it leaves are the definitions that its contract cites.
 use Prim.Native.Nat.{ℕ}
 use mathlib.Core.Path.{_≡_, refl}
-use mathlib.Core.Bool.{Bool, true, false}
 use mathlib.Core.List.{List}
 use lib.ListN.{length}
+use Rattle.fields.specs.Place.{by-bool}
 use Rattle.fields.specs.declared.Fault.{Fault}
 use Rattle.names.specs.declared.Algorithm.{Algorithm}
-use Rattle.names.specs.declared.AlgorithmName.{AlgorithmName}
-use Rattle.names.specs.declared.AlgorithmName.the-variants as algorithm-name
 use Rattle.names.specs.declared.Cipher.{Cipher}
-use Rattle.names.specs.declared.CipherName.{CipherName}
-use Rattle.names.specs.declared.CipherName.the-variants as cipher-name
 use Rattle.names.specs.declared.Kdf.{Kdf}
-use Rattle.names.specs.declared.KdfName.{KdfName}
-use Rattle.names.specs.declared.KdfName.the-variants as kdf-name
 use Rattle.codes.specs.Codes.{algorithmCoded, cipherCoded, kdfCoded}
 use Rattle.material.specs.Material.{publicOf, privateOf, checkintOf}
 use Rattle.material.specs.declared.Material.{Material}
 use Rattle.material.specs.declared.Checkint.{Checkint}
+use Rattle.key_laws.specs.Read.{by-algorithm}
+use Rattle.header.specs.Place.{by-cipher-name, by-kdf-name}
 use Rattle.section.specs.declared.Kind.{Kind}
 use Rattle.section.specs.declared.Kind.the-variants.{Plain, Encrypted}
 use Rattle.container.specs.declared.Fields.{Fields}
 use Rattle.container.specs.Container.{readAt}
-use Rattle.judge.specs.Judge.{isRead, by-read}
+use Rattle.container.specs.FormLaws.{by-read}
+use Rattle.judge.specs.Judge.{isRead}
 use Rattle.reply.specs.declared.Written.{Written}
 use Rattle.reply.specs.declared.Written.the-variants as written
 use Rattle.plain.specs.Plain.{plainReply, plainLeft}
@@ -101,28 +98,12 @@ rewrite-keeps s old g e =
     (λ h w. rw w)
     (λ f w. rw w (record-keeps s f old g (rw w at e)))
 
-pub by-bool : {P : Type 0} (b : Bool) → (b ≡ true → P) → (b ≡ false → P) → P
-by-bool true yes′ no′ = yes′ refl
-by-bool false yes′ no′ = no′ refl
-
 handed-keeps : (s : List ℕ) (f : Fields) (old : List ℕ) (g : Fault) → handedReply s f (length old) ≡ written.Refused g → handedLeft s f old ≡ old
 unfolding handedReply handedLeft
 handed-keeps s f old g e =
     by-bool (isRead s f)
     (λ b. rw b (record-keeps s f old g (rw b at e)))
     (λ b. rw b)
-
-by-algorithm : {P : Type 0} (n : AlgorithmName) → (n ≡ algorithm-name.Unknown → P) → ((a : Algorithm) → n ≡ algorithm-name.Known a → P) → P
-by-algorithm algorithm-name.Unknown unknown known = unknown refl
-by-algorithm (algorithm-name.Known a) unknown known = known a refl
-
-by-cipher : {P : Type 0} (n : CipherName) → (n ≡ cipher-name.Unknown → P) → ((c : Cipher) → n ≡ cipher-name.Known c → P) → P
-by-cipher cipher-name.Unknown unknown known = unknown refl
-by-cipher (cipher-name.Known c) unknown known = known c refl
-
-by-kdf : {P : Type 0} (n : KdfName) → (n ≡ kdf-name.Unknown → P) → ((k : Kdf) → n ≡ kdf-name.Known k → P) → P
-by-kdf kdf-name.Unknown unknown known = unknown refl
-by-kdf (kdf-name.Known k) unknown known = known k refl
 
 coded-plain-keeps :
     (code : ℕ) (public private : List ℕ) (checkint : ℕ) (comment old : List ℕ) (g : Fault)
@@ -140,12 +121,12 @@ coded-encrypted-keeps :
     → codedEncryptedLeft cipher k salt rounds blob ciphertext tag old ≡ old
 unfolding codedEncryptedReply codedEncryptedLeft
 coded-encrypted-keeps cipher k salt rounds blob ciphertext tag old g e =
-    by-cipher (cipherCoded cipher)
+    by-cipher-name (cipherCoded cipher)
     (λ w. rw w)
     (λ c w.
     let e′ = rw w at e in
     rw w
-    (by-kdf (kdfCoded k)
+    (by-kdf-name (kdfCoded k)
     (λ v. rw v)
     (λ d v. rw v (encrypted-keeps c d salt rounds blob ciphertext tag old g (rw v at e′)))))
 

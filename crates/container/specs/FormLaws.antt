@@ -107,7 +107,7 @@ form-scalar s all f e = go (image-text s all f e)
 
 -- ---- what a read with the form says of the read
 
-by-read : {P : Type 0} (w : ImageRead) → ((g : Fault) → w ≡ read.Refused g → P) → ((f : Fields) → w ≡ read.Record f → P) → P
+pub by-read : {P : Type 0} (w : ImageRead) → ((g : Fault) → w ≡ read.Refused g → P) → ((f : Fields) → w ≡ read.Record f → P) → P
 by-read (read.Refused g) refused record′ = refused g refl
 by-read (read.Record f) refused record′ = record′ f refl
 

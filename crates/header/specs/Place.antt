@@ -33,11 +33,11 @@ use Rattle.header.specs.declared.BlobField.the-variants as blob-field
 use Rattle.header.specs.Header.{onKdf, magicAt, cipherAt, noneAt, bcryptAt, kdfAt, countAt, blobFieldAt}
 
 -- by cases, with the equation in hand
-by-cipher-name : {P : Type 0} (w : CipherName) → (w ≡ cipher-name.Unknown → P) → ((c : Cipher) → w ≡ cipher-name.Known c → P) → P
+pub by-cipher-name : {P : Type 0} (w : CipherName) → (w ≡ cipher-name.Unknown → P) → ((c : Cipher) → w ≡ cipher-name.Known c → P) → P
 by-cipher-name cipher-name.Unknown unknown known = unknown refl
 by-cipher-name (cipher-name.Known c) unknown known = known c refl
 
-by-kdf-name : {P : Type 0} (w : KdfName) → (w ≡ kdf-name.Unknown → P) → ((k : Kdf) → w ≡ kdf-name.Known k → P) → P
+pub by-kdf-name : {P : Type 0} (w : KdfName) → (w ≡ kdf-name.Unknown → P) → ((k : Kdf) → w ≡ kdf-name.Known k → P) → P
 by-kdf-name kdf-name.Unknown unknown known = unknown refl
 by-kdf-name (kdf-name.Known k) unknown known = known k refl
 

@@ -7,9 +7,9 @@ use mathlib.Core.List.{List}
 use borrow.Author.Tests.{eq-eqb, eqb-true}
 use native.Mathlib.Omega.{arith}
 use lib.Dec.{eqb}
+use Rattle.fields.specs.Bytes.{both-true}
 use Rattle.fields.specs.Fields.{part}
 use Rattle.fields.specs.Place.{clash}
-use Rattle.fields.specs.declared.Fault.{Fault}
 use Rattle.fields.specs.declared.Part.{Part}
 use Rattle.names.specs.Algorithms.{algorithmCode}
 use Rattle.codes.specs.Codes.{cipherCode, kdfCode, algorithm-code-same, cipher-code-same, kdf-code-same}
@@ -18,9 +18,9 @@ use Rattle.section.specs.declared.Kind.{Kind}
 use Rattle.section.specs.declared.Kind.the-variants.{Plain, Encrypted}
 use Rattle.section.specs.declared.Section.{Section}
 use Rattle.container.specs.declared.Fields.{Fields}
-use Rattle.container.specs.declared.ImageRead.{ImageRead}
 use Rattle.container.specs.declared.ImageRead.the-variants as read
 use Rattle.container.specs.Container.{onRead, readAt}
+use Rattle.container.specs.FormLaws.{by-read}
 
 abbrev pub kindCode : Kind → ℕ
 kindCode Plain = 1
@@ -54,10 +54,6 @@ unfoldable pub isRead : List ℕ → Fields → Bool
 isRead s f = onRead (readAt s) (λ x. false) (λ g. sameHeader (f .header) (g .header) && sameSection (f .section) (g .section))
 
 -- ---- laws: the comparisons say that all is equal, and no less
-
-both-true : (a b : Bool) → (a && b) ≡ true → (a ≡ true) × (b ≡ true)
-both-true true b e = (refl, e)
-both-true false b e = clash cc
 
 part-same : (a b : Part) → samePart a b ≡ true → a ≡ b
 part-same a b e =
@@ -122,10 +118,6 @@ header-self a = simp (eqb-self)
 section-self : (a : Section) → sameSection a a ≡ true
 unfolding sameSection
 section-self a = simp (eqb-self)
-
-pub by-read : {P : Type 0} (w : ImageRead) → ((g : Fault) → w ≡ read.Refused g → P) → ((f : Fields) → w ≡ read.Record f → P) → P
-by-read (read.Refused g) refused record′ = refused g refl
-by-read (read.Record f) refused record′ = record′ f refl
 
 -- a record passes exactly if it is what an accepted read gives
 pub read-passes : (s : List ℕ) (f : Fields) → readAt s ≡ read.Record f → isRead s f ≡ true

@@ -19,7 +19,7 @@ use Rattle.fields.specs.declared.Refusal.the-variants.{Length, FormatEncoding, 
 use Rattle.container.specs.declared.Fields.{Fields}
 use Rattle.container.specs.declared.ImageRead.the-variants as read
 use Rattle.container.specs.Container.{readAt}
-use Rattle.judge.specs.Judge.{by-read}
+use Rattle.container.specs.FormLaws.{by-read}
 use Rattle.found.specs.Found.{noFields, foundAt, heldPart}
 use Rattle.record.specs.Reply.{isReply}
 
