@@ -86,7 +86,7 @@ fn say_views(image: &[u8], f: Fields) {
     say_sum(parts::blob(image, f));
     say_sum(parts::point(image, f));
     say_sum(parts::scalar(image, f));
-    say_sum(record::comment_of(image));
+    say_sum(recorded::comment_of(image));
     say_later_views(image, f);
 }
 

@@ -1,4 +1,4 @@
--- `record::rewrite` meets its contract: a walk of its MIR, by hand. The record is taken apart, and `rewrite_record` is called on the
+-- `recorded::rewrite` meets its contract: a walk of its MIR, by hand. The record is taken apart, and `rewrite_record` is called on the
 -- image, the fields and the lent buffer, which is given up to it. Assumes nothing.
 use mathlib.Core.Path.{_≡_, refl}
 use Prim.Native.Nat.{ℕ}
@@ -54,10 +54,10 @@ use Rattle.writer.proofs.rewrite_record as inner
 use Rattle.writer.proofs.rewrite_record.Symbol as inner-def
 use Rattle.writer.proofs.rewrite_record.Symbol.{name as #inner}
 use Rattle.writer.proofs.rewrite_record.Met as inner-thm
-use Rattle.record.proofs.rewrite.Key.{name as #outer}
-use Rattle.record.proofs.rewrite as outer
-use Rattle.record.proofs.rewrite.Statement as stated
-use Rattle.record.proofs.rewrite.Code as code
+use Rattle.recorded.proofs.rewrite.Key.{name as #outer}
+use Rattle.recorded.proofs.rewrite as outer
+use Rattle.recorded.proofs.rewrite.Statement as stated
+use Rattle.recorded.proofs.rewrite.Code as code
 
 abbrev B : Lfts 2 → RattleType
 B κs = T.the-row (namedLft 2 0 tt κs)

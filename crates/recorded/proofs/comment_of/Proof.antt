@@ -1,4 +1,4 @@
--- `record::comment_of` meets its contract: a walk of its MIR, by hand. The reply of `read` is held in a local, and its record goes to
+-- `recorded::comment_of` meets its contract: a walk of its MIR, by hand. The reply of `read` is held in a local, and its record goes to
 -- `comment`. Assumes nothing.
 use mathlib.Core.Path.{_≡_, refl, ap}
 use Prim.Native.Nat.{ℕ}
@@ -41,25 +41,25 @@ use denote.Exit.{yes}
 use denote.Triple.Clauses.{ensured, lasts}
 use Rattle.fields.specs.Fields.{isView}
 use Rattle.found.specs.Found.{foundAt}
 use Rattle.record.specs.Reply.{isReply}
 use Rattle.record.specs.Held.{read-then-comment}
 use Rattle.record.specs.declared.Reply.{Reply}
 use Rattle.views.proofs.Record as T
 use Rattle.views.proofs.Record.Laws as T′
 use Rattle.record.proofs.Reply as P
 use Rattle.record.proofs.Reply.Laws as P′
 use Rattle.record.proofs.read as read
 use Rattle.record.proofs.read.Symbol as read-def
 use Rattle.record.proofs.read.Symbol.{name as #read}
 use Rattle.record.proofs.read.Met as read-thm
 use Rattle.views.proofs.comment as comment
 use Rattle.views.proofs.comment.Symbol as comment-def
 use Rattle.views.proofs.comment.Symbol.{name as #comment}
 use Rattle.views.proofs.comment.Met as comment-thm
-use Rattle.record.proofs.comment_of.Key.{name as #own}
-use Rattle.record.proofs.comment_of as own
-use Rattle.record.proofs.comment_of.Statement as stated
-use Rattle.record.proofs.comment_of.Code as code
+use Rattle.recorded.proofs.comment_of.Key.{name as #own}
+use Rattle.recorded.proofs.comment_of as own
+use Rattle.recorded.proofs.comment_of.Statement as stated
+use Rattle.recorded.proofs.comment_of.Code as code
 
 abbrev stayed : Stays (own.ended .signature .params) (own.ended .kept)
 stayed = (stay-none-slice (0 ∷ []) tt (plain (λ _. u8)) yes, tt)
