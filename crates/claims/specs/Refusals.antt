@@ -4,7 +4,7 @@ use Prim.Native.Nat.{ℕ}
 use mathlib.Core.Path.{_≡_, refl}
 use mathlib.Core.List.{List}
 use lib.ListN.{length}
-use Rattle.fields.specs.Place.{by-bool}
+use Rattle.fields.specs.Place.{clash, by-bool}
 use Rattle.fields.specs.declared.Fault.{Fault}
 use Rattle.names.specs.declared.Algorithm.{Algorithm}
 use Rattle.names.specs.declared.Cipher.{Cipher}
@@ -26,6 +26,10 @@ use Rattle.reply.specs.declared.Written.the-variants as written
 use Rattle.plain.specs.Plain.{plainReply, plainLeft}
 use Rattle.encrypted.specs.Encrypted.{encryptedReply, encryptedLeft}
 use Rattle.writer.specs.Rewrite.{recordReply, recordLeft, rewriteReply, rewriteLeft, handedReply, handedLeft}
+use Rattle.report.specs.declared.Reported.{Reported}
+use Rattle.report.specs.declared.Reported.the-variants as reported
+use Rattle.report.specs.Report.{reportOf, reportedAt}
+use Rattle.buffer.specs.Puts.{placed, fits}
 use Rattle.comment.specs.Change.{changeReply, changeLeft}
 use Rattle.saltorchard.specs.Interface.{checkintFor, codedPlainReply, codedPlainLeft, codedEncryptedReply, codedEncryptedLeft}
 use Rattle.claims.specs.Change.{refused-stays}
@@ -40,6 +44,12 @@ pub data Entry : Type 0 where
   change-comment : ℕ → List ℕ → Entry
   saltorchard-write-plain : ℕ → List ℕ → List ℕ → ℕ → ℕ → List ℕ → Entry
   saltorchard-write-encrypted : ℕ → ℕ → List ℕ → ℕ → List ℕ → List ℕ → List ℕ → Entry
+  write-report : List ℕ → Entry
+
+-- the report's answer, as a writer's
+abbrev asWritten : Reported → Written
+asWritten (reported.Length n) = written.Length n
+asWritten (reported.Refused f) = written.Refused f
 
 abbrev pub replyTo : Entry → List ℕ → Written
 replyTo (write-parts a point scalar checkint comment) old = plainReply a point scalar checkint comment (length old)
@@ -52,6 +62,7 @@ replyTo (saltorchard-write-plain code public private derive checkint comment) ol
     codedPlainReply code public private (checkintFor derive checkint private) comment (length old)
 replyTo (saltorchard-write-encrypted cipher k salt rounds blob ciphertext tag) old =
     codedEncryptedReply cipher k salt rounds blob ciphertext tag (length old)
+replyTo (write-report s) old = asWritten (reportedAt s old)
 
 abbrev pub leftBy : Entry → List ℕ → List ℕ
 leftBy (write-parts a point scalar checkint comment) old = plainLeft a point scalar checkint comment old
@@ -64,6 +75,7 @@ leftBy (saltorchard-write-plain code public private derive checkint comment) old
     codedPlainLeft code public private (checkintFor derive checkint private) comment old
 leftBy (saltorchard-write-encrypted cipher k salt rounds blob ciphertext tag) old =
     codedEncryptedLeft cipher k salt rounds blob ciphertext tag old
+leftBy (write-report s) old = placed old 0 (reportOf s)
 
 -- ---- each by itself
 
@@ -130,6 +142,13 @@ coded-encrypted-keeps cipher k salt rounds blob ciphertext tag old g e =
     (λ v. rw v)
     (λ d v. rw v (encrypted-keeps c d salt rounds blob ciphertext tag old g (rw v at e′)))))
 
+report-keeps : (s old : List ℕ) (g : Fault) → asWritten (reportedAt s old) ≡ written.Refused g → placed old 0 (reportOf s) ≡ old
+unfolding reportedAt placed
+report-keeps s old g e =
+    by-bool (fits old 0 (reportOf s))
+    (λ b. let d : written.Length (length (reportOf s)) ≡ written.Refused g = rw b at e in clash cc)
+    (λ b. rw b)
+
 -- ---- the claim
 
 pub refused-keeps : (entry : Entry) (old : List ℕ) (g : Fault) → replyTo entry old ≡ written.Refused g → leftBy entry old ≡ old
@@ -143,3 +162,4 @@ refused-keeps (saltorchard-write-plain code public private derive checkint comme
     coded-plain-keeps code public private (checkintFor derive checkint private) comment old g e
 refused-keeps (saltorchard-write-encrypted cipher k salt rounds blob ciphertext tag) old g e =
     coded-encrypted-keeps cipher k salt rounds blob ciphertext tag old g e
+refused-keeps (write-report s) old g e = report-keeps s old g e

@@ -80,11 +80,6 @@ unfolding kdfCoded
 kdf-coded kdf.None = refl
 kdf-coded kdf.Bcrypt = refl
 
-pub algorithm-code-same : (a b : Algorithm) → algorithmCode a ≡ algorithmCode b → a ≡ b
-algorithm-code-same a b e =
-    let known : algorithm-name.Known a ≡ algorithm-name.Known b = sym (algorithm-coded a) ∙ ap algorithmCoded e ∙ algorithm-coded b in
-    cc
-
 pub cipher-code-same : (c d : Cipher) → cipherCode c ≡ cipherCode d → c ≡ d
 cipher-code-same c d e =
     let known : Known c ≡ Known d = sym (cipher-coded c) ∙ ap cipherCoded e ∙ cipher-coded d in

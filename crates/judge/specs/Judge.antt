@@ -11,8 +11,8 @@ use Rattle.fields.specs.Bytes.{both-true}
 use Rattle.fields.specs.Fields.{part}
 use Rattle.fields.specs.Place.{clash}
 use Rattle.fields.specs.declared.Part.{Part}
-use Rattle.names.specs.Algorithms.{algorithmCode}
-use Rattle.codes.specs.Codes.{cipherCode, kdfCode, algorithm-code-same, cipher-code-same, kdf-code-same}
+use Rattle.names.specs.Algorithms.{algorithmCode, sameAlgorithm, algorithm-same}
+use Rattle.codes.specs.Codes.{cipherCode, kdfCode, cipher-code-same, kdf-code-same}
 use Rattle.header.specs.declared.Header.{Header}
 use Rattle.section.specs.declared.Kind.{Kind}
 use Rattle.section.specs.declared.Kind.the-variants.{Plain, Encrypted}
@@ -69,7 +69,7 @@ kind-same Encrypted Plain e = clash (let z : _≡_ {A = ℕ} 2 1 = e in omega ar
 kind-same Encrypted Encrypted e = refl
 
 pub header-same : (a b : Header) → sameHeader a b ≡ true → a ≡ b
-unfolding sameHeader
+unfolding sameHeader sameAlgorithm
 header-same a b e =
     let e₇ = both-true _ (eqb (a .section) (b .section)) e in
     let e₆ = both-true _ (samePart (a .point) (b .point)) (e₇ .0) in
@@ -82,7 +82,7 @@ header-same a b e =
     let kdf : a .kdf ≡ b .kdf = kdf-code-same _ _ (eqb-true _ _ (e₁ .1)) in
     let salt : a .salt ≡ b .salt = part-same _ _ (e₂ .1) in
     let rounds : a .rounds ≡ b .rounds = eqb-true _ _ (e₃ .1) in
-    let algorithm : a .algorithm ≡ b .algorithm = algorithm-code-same _ _ (eqb-true _ _ (e₄ .1)) in
+    let algorithm : a .algorithm ≡ b .algorithm = algorithm-same _ _ (e₄ .1) in
     let blob : a .blob ≡ b .blob = part-same _ _ (e₅ .1) in
     let point : a .point ≡ b .point = part-same _ _ (e₆ .1) in
     let section : a .section ≡ b .section = eqb-true _ _ (e₇ .1) in
