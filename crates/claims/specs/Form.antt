@@ -18,7 +18,7 @@ use Rattle.names.specs.declared.Curve.{Curve}
 use Rattle.names.specs.declared.Kdf.{Kdf}
 use Rattle.names.specs.declared.Kdf.the-variants as kdf
 use Rattle.format.specs.Format.{OptionsFit, blob, mayStand, needsLeadingZero, writtenImage, encryptedImage}
-use Rattle.keys.specs.Keys.{afterZero}
+use Rattle.pairs.specs.Pairs.{afterZero}
 use Rattle.key_laws.specs.Back.{blob-back}
 use Rattle.section.specs.declared.Kind.the-variants.{Plain, Encrypted}
 use Rattle.container.specs.declared.Fields.{Fields}

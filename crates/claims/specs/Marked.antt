@@ -21,7 +21,8 @@ use Rattle.names.specs.Ciphers.{cipherNamed, kdfNamed}
 use Rattle.utf8.specs.Utf8.{utf8}
 use Rattle.format.specs.Format.{magic, blob, standing, needsLeadingZero, content, section, header, plainImage, writtenImage}
 use Rattle.format.specs.Laws.{key-small, standing-same}
-use Rattle.keys.specs.Keys.{pointAt, scalarAt, ecdsaPublicAt, ecdsaKeyAt, publicKeyAt, blobAt, ecdsaPairAt, keypairAt}
+use Rattle.keys.specs.Keys.{pointAt, ecdsaPublicAt, ecdsaKeyAt, publicKeyAt, blobAt}
+use Rattle.pairs.specs.Pairs.{scalarAt, ecdsaPairAt, keypairAt}
 use Rattle.material.specs.Material.{derivedCheckint}
 use Rattle.material.specs.Laws.{derived-m16}
 use Rattle.header.specs.Header.{magicAt, cipherAt, noneAt, kdfAt, countAt, blobFieldAt, headerAt}

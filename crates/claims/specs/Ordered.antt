@@ -33,13 +33,11 @@ use Rattle.container.specs.Read.{PlainText}
 use Rattle.container.specs.FormLaws.{by-read, plain-of}
 use Rattle.reply.specs.declared.Written.{Written}
 use Rattle.reply.specs.declared.Written.the-variants as written
-use Rattle.reply.specs.Reply.{refused, unless, sized}
+use Rattle.reply.specs.Reply.{Told, told, refused, unless, sized}
 use Rattle.plain.specs.Plain.{plainReply}
 use Rattle.encrypted.specs.Encrypted.{optionsFit, encryptedReply}
 use Rattle.comment.specs.Change.{afresh, afreshReply, commentField, recordReply, changeReply}
 use Rattle.comment.specs.Afresh.{afresh-sized}
-use Rattle.saltorchard.specs.declared.Reply.{Reply}
-use Rattle.saltorchard.specs.Interface.{replyOf}
 use Rattle.claims.specs.Refusals.{by-kind}
 
 -- a condition: whether it holds, and the reply that it gives
@@ -54,7 +52,7 @@ abbrev pub says : Bool → ℕ → Condition
 says holds number = record { holds = holds; number = number; count = 0; at = 0 }
 
 -- the first that holds
-unfoldable pub first : List Condition → ℕ → Reply
+unfoldable pub first : List Condition → ℕ → Told
 first [] length = record { number = 0; count = 0; at = 0; length = length }
 first (c ∷ more) length = cond (c .holds) (record { number = c .number; count = c .count; at = c .at; length = 0 }) (first more length)
 
@@ -119,9 +117,9 @@ changedLength old n comment = onRead (readAt (take n old)) (λ g. 0) (λ f. leng
 
 -- a test that fails gives its refusal, at 0, and what comes next is asked where it holds
 then-first :
-    (h b : Bool) → h ≡ not b → (why : Refusal) → countOf why ≡ 0 → (next : Written) (more : List Condition) (n : ℕ) → replyOf next ≡ first more n
-    → replyOf (unless b why next) ≡ first (says h (numberOf why) ∷ more) n
-unfolding replyOf first
+    (h b : Bool) → h ≡ not b → (why : Refusal) → countOf why ≡ 0 → (next : Written) (more : List Condition) (n : ℕ) → told next ≡ first more n
+    → told (unless b why next) ≡ first (says h (numberOf why) ∷ more) n
+unfolding told first
 then-first h true e why none next more n p = rw e p
 then-first h false e why none next more n p = rw (e, none)
 
@@ -143,11 +141,11 @@ above a b =
     (λ e. rw e (le-ltb a b (leb-true b a e)))
     (λ e. rw e (lt-ltb a b (leb-false b a e)))
 
-done-first : (n : ℕ) → replyOf (written.Length n) ≡ first [] n
-unfolding replyOf first
+done-first : (n : ℕ) → told (written.Length n) ≡ first [] n
+unfolding told first
 done-first n = refl
 
-sized-first : (image : List ℕ) (room : ℕ) → replyOf (sized image room) ≡ first (sizes image room) (length image)
+sized-first : (image : List ℕ) (room : ℕ) → told (sized image room) ≡ first (sizes image room) (length image)
 unfolding sized
 sized-first image room =
     let fits = leb (length image) room in
@@ -158,14 +156,14 @@ sized-first image room =
 
 refused-first :
     (why : Refusal) (more : List Condition) (n : ℕ)
-    → replyOf (refused why) ≡ first (record { holds = true; number = numberOf why; count = countOf why; at = 0 } ∷ more) n
-unfolding replyOf first
+    → told (refused why) ≡ first (record { holds = true; number = numberOf why; count = countOf why; at = 0 } ∷ more) n
+unfolding told first
 refused-first why more n = refl
 
 fault-first :
     (g : Fault) (more : List Condition) (n : ℕ)
-    → replyOf (written.Refused g) ≡ first (record { holds = true; number = numberOf (g .why); count = countOf (g .why); at = g .at } ∷ more) n
-unfolding replyOf first
+    → told (written.Refused g) ≡ first (record { holds = true; number = numberOf (g .why); count = countOf (g .why); at = g .at } ∷ more) n
+unfolding told first
 fault-first g more n = refl
 
 -- a condition that fails is passed over
@@ -177,7 +175,7 @@ passed-first number count at more n = refl
 
 pub plain-first :
     (a : Algorithm) (public private : List ℕ) (checkint : ℕ) (comment : List ℕ) (room : ℕ)
-    → replyOf (plainReply a public private checkint comment room)
+    → told (plainReply a public private checkint comment room)
     ≡ first (plainConditions a public private checkint comment room) (length (writtenImage checkint a public private comment))
 unfolding plainReply
 plain-first a public private checkint comment room =
@@ -189,7 +187,7 @@ plain-first a public private checkint comment room =
     let w₂ = unless (pointTag a public) FormatEncoding w₇ in
     let c₇ = says (not (utf8 comment)) 7 ∷ sizes image room in
     let c₂ = says (not (pointTag a public)) 2 ∷ c₇ in
-    ap replyOf (either-fails long private-long Length w₂)
+    ap told (either-fails long private-long Length w₂)
     ∙ then-first (not long || not private-long) (long && private-long) (not-both long private-long) Length refl w₂ c₂ n
     (then-first (not (pointTag a public)) (pointTag a public) refl FormatEncoding refl w₇ c₇ n
     (then-first (not (utf8 comment)) (utf8 comment) refl CharacterEncoding refl (sized image room) (sizes image room) n
@@ -201,7 +199,7 @@ misused-not kdf.Bcrypt salt rounds = refl
 
 pub encrypted-first :
     (cipher : Cipher) (k : Kdf) (salt : List ℕ) (rounds : ℕ) (key ciphertext tag : List ℕ) (room : ℕ)
-    → replyOf (encryptedReply cipher k salt rounds key ciphertext tag room)
+    → told (encryptedReply cipher k salt rounds key ciphertext tag room)
     ≡ first (encryptedConditions cipher k salt rounds key ciphertext tag room) (length (encryptedImage cipher k salt rounds key ciphertext tag))
 unfolding encryptedReply
 encrypted-first cipher k salt rounds key ciphertext tag room =
@@ -224,7 +222,7 @@ encrypted-first cipher k salt rounds key ciphertext tag room =
 
     by-blob :
         (b : Blob)
-        → replyOf (onBlob b (λ f. refused (f .why)) (λ a point. wrapped)) ≡ first (onBlob b (λ f. blobCondition f ∷ []) (λ a point. listed)) (length image)
+        → told (onBlob b (λ f. refused (f .why)) (λ a point. wrapped)) ≡ first (onBlob b (λ f. blobCondition f ∷ []) (λ a point. listed)) (length image)
     by-blob (blob.Refused f) = refused-first (f .why) [] (length image)
     by-blob (blob.Key a point) =
         then-first (not (eqb (length ciphertext % blockSize cipher) 0)) (eqb (length ciphertext % blockSize cipher) 0) refl Crypto refl
@@ -234,7 +232,7 @@ encrypted-first cipher k salt rounds key ciphertext tag room =
 
 comment-first :
     (s : List ℕ) (f : Fields) (comment : List ℕ) (room : ℕ) → PlainText s f
-    → replyOf (cond (utf8 comment) (afreshReply s f comment room) (written.Refused (fault CharacterEncoding (commentField f))))
+    → told (cond (utf8 comment) (afreshReply s f comment room) (written.Refused (fault CharacterEncoding (commentField f))))
     ≡ first
     (record { holds = not (utf8 comment); number = 7; count = 0; at = commentField f } ∷ sizes (afresh s f comment) room)
     (length (afresh s f comment))
@@ -242,13 +240,13 @@ comment-first s f comment room p =
     by-bool (utf8 comment)
     (λ u.
     rw u
-    (ap replyOf (afresh-sized s f p comment u room) ∙ sized-first (afresh s f comment) room
+    (ap told (afresh-sized s f p comment u room) ∙ sized-first (afresh s f comment) room
     ∙ passed-first 7 0 (commentField f) (sizes (afresh s f comment) room) (length (afresh s f comment))))
     (λ u. rw u (fault-first (fault CharacterEncoding (commentField f)) (sizes (afresh s f comment) room) (length (afresh s f comment))))
 
 record-first :
     (s : List ℕ) (f : Fields) (comment : List ℕ) (room : ℕ) → (f .section .kind ≡ Plain → PlainText s f)
-    → replyOf (recordReply s f comment room)
+    → told (recordReply s f comment room)
     ≡ first (recordConditions s f comment room) (length (afresh s f comment))
 unfolding recordReply
 record-first s f comment room text =
@@ -257,7 +255,7 @@ record-first s f comment room text =
     let w = cond (utf8 comment) (afreshReply s f comment room) (written.Refused (fault CharacterEncoding (commentField f))) in
     let c = record { holds = not (utf8 comment); number = 7; count = 0; at = commentField f } ∷ sizes (afresh s f comment) room in
     let n = length (afresh s f comment) in
-    ap (λ (x : Kind). replyOf (onKind x (unless (formOf s f) Form w) (refused Encrypted))) k
+    ap (λ (x : Kind). told (onKind x (unless (formOf s f) Form w) (refused Encrypted))) k
     ∙ then-first (not (formOf s f)) (formOf s f) refl Form refl w c n (comment-first s f comment room (text k))
     ∙ passed-first 8 0 0 (says (not (formOf s f)) 10 ∷ c) n
     ∙ ap (λ (x : Kind). first (says (onKind x false true) 8 ∷ says (not (formOf s f)) 10 ∷ c) n) (sym k))
@@ -265,14 +263,14 @@ record-first s f comment room text =
     let w = unless (formOf s f) Form (cond (utf8 comment) (afreshReply s f comment room) (written.Refused (fault CharacterEncoding (commentField f)))) in
     let c = says (not (formOf s f)) 10 ∷ record { holds = not (utf8 comment); number = 7; count = 0; at = commentField f } ∷ sizes (afresh s f comment) room in
     let n = length (afresh s f comment) in
-    ap (λ (x : Kind). replyOf (onKind x w (refused Encrypted))) k
+    ap (λ (x : Kind). told (onKind x w (refused Encrypted))) k
     ∙ refused-first Encrypted c n
     ∙ ap (λ (x : Kind). first (says (onKind x false true) 8 ∷ c) n) (sym k))
 
 -- for every buffer and comment; that the buffer's bytes are bytes is the slice's own rule
 pub change-first :
     (old : List ℕ) (n : ℕ) (comment : List ℕ) → AllBytes (take n old)
-    → replyOf (changeReply old n comment) ≡ first (changeConditions old n comment) (changedLength old n comment)
+    → told (changeReply old n comment) ≡ first (changeConditions old n comment) (changedLength old n comment)
 unfolding changeReply
 change-first old n comment all =
     let s = take n old in

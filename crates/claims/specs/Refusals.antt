@@ -1,7 +1,7 @@
 -- Demand 1: any input to any public entry that takes a lent buffer; a refused call changes no byte of it. The entries stand in one list,
--- each with all that it is given beside the buffer; its reply and what it leaves are the definitions that its contract cites.
+-- each with all that it is given beside the buffer, and with the promise that its contract cites.
 use Prim.Native.Nat.{ℕ}
-use mathlib.Core.Path.{_≡_, refl}
+use mathlib.Core.Path.{_≡_, refl, sym, _∙_, ap}
 use mathlib.Core.List.{List}
 use lib.ListN.{length}
 use Rattle.fields.specs.Place.{clash, by-bool}
@@ -21,61 +21,56 @@ use Rattle.container.specs.declared.Fields.{Fields}
 use Rattle.container.specs.Container.{readAt}
 use Rattle.container.specs.FormLaws.{by-read}
 use Rattle.judge.specs.Judge.{isRead}
+use Rattle.reply.specs.Reply.{told, answers}
 use Rattle.reply.specs.declared.Written.{Written}
 use Rattle.reply.specs.declared.Written.the-variants as written
-use Rattle.plain.specs.Plain.{plainReply, plainLeft}
-use Rattle.encrypted.specs.Encrypted.{encryptedReply, encryptedLeft}
-use Rattle.writer.specs.Rewrite.{recordReply, recordLeft, rewriteReply, rewriteLeft, handedReply, handedLeft}
-use Rattle.report.specs.declared.Reported.{Reported}
-use Rattle.report.specs.declared.Reported.the-variants as reported
-use Rattle.report.specs.Report.{reportOf, reportedAt}
+use Rattle.plain.specs.Plain.{plainReply, plainLeft, isPlain}
+use Rattle.encrypted.specs.Encrypted.{encryptedReply, encryptedLeft, isEncrypted}
+use Rattle.writer.specs.Rewrite.{recordReply, recordLeft, rewriteReply, rewriteLeft, isRewritten, handedReply, handedLeft, isHanded}
+use Rattle.report.specs.Report.{reportOf, reportReply, isReport}
 use Rattle.buffer.specs.Puts.{placed, fits}
-use Rattle.comment.specs.Change.{changeReply, changeLeft}
-use Rattle.saltorchard.specs.Interface.{checkintFor, codedPlainReply, codedPlainLeft, codedEncryptedReply, codedEncryptedLeft}
+use Rattle.comment.specs.Change.{changeReply, changeLeft, isChange}
+use Rattle.numbers.specs.Numbers.{replyOf}
+use Rattle.numbers.specs.declared.Reply.{Reply}
+use Rattle.saltorchard.specs.Interface.{checkintFor, codedPlainReply, codedPlainLeft, codedEncryptedReply, codedEncryptedLeft, answersC}
 use Rattle.claims.specs.Change.{refused-stays}
 
--- the entries; `record::rewrite` is the fifth, `saltorchard_rewrite` and `saltorchard_change_comment` are the fourth and the sixth
+-- the entries of the library
 pub data Entry : Type 0 where
   write-parts : Algorithm → List ℕ → List ℕ → ℕ → List ℕ → Entry
   write-plain : Material → Checkint → List ℕ → Entry
   write-encrypted : Cipher → Kdf → List ℕ → ℕ → List ℕ → List ℕ → List ℕ → Entry
   rewrite : List ℕ → Entry
   rewrite-record : List ℕ → Fields → Entry
+  recorded-rewrite : List ℕ → Fields → Entry
   change-comment : ℕ → List ℕ → Entry
-  saltorchard-write-plain : ℕ → List ℕ → List ℕ → ℕ → ℕ → List ℕ → Entry
-  saltorchard-write-encrypted : ℕ → ℕ → List ℕ → ℕ → List ℕ → List ℕ → List ℕ → Entry
   write-report : List ℕ → Entry
 
--- the report's answer, as a writer's
-abbrev asWritten : Reported → Written
-asWritten (reported.Length n) = written.Length n
-asWritten (reported.Refused f) = written.Refused f
+abbrev pub Promise : Entry → List ℕ → Written → List ℕ → Type 0
+Promise (write-parts a point scalar checkint comment) old r out = isPlain a point scalar checkint comment old r out
+Promise (write-plain m given comment) old r out = isPlain (m .algorithm) (publicOf m) (privateOf m) (checkintOf given (privateOf m)) comment old r out
+Promise (write-encrypted cipher k salt rounds blob ciphertext tag) old r out = isEncrypted cipher k salt rounds blob ciphertext tag old r out
+Promise (rewrite s) old r out = isRewritten s old r out
+Promise (rewrite-record s f) old r out = isHanded s f old r out
+Promise (recorded-rewrite s f) old r out = isHanded s f old r out
+Promise (change-comment n comment) old r out = isChange old n comment r out
+Promise (write-report s) old r out = isReport s old r out
 
-abbrev pub replyTo : Entry → List ℕ → Written
-replyTo (write-parts a point scalar checkint comment) old = plainReply a point scalar checkint comment (length old)
-replyTo (write-plain m given comment) old = plainReply (m .algorithm) (publicOf m) (privateOf m) (checkintOf given (privateOf m)) comment (length old)
-replyTo (write-encrypted cipher k salt rounds blob ciphertext tag) old = encryptedReply cipher k salt rounds blob ciphertext tag (length old)
-replyTo (rewrite s) old = rewriteReply s (length old)
-replyTo (rewrite-record s f) old = handedReply s f (length old)
-replyTo (change-comment n comment) old = changeReply old n comment
-replyTo (saltorchard-write-plain code public private derive checkint comment) old =
-    codedPlainReply code public private (checkintFor derive checkint private) comment (length old)
-replyTo (saltorchard-write-encrypted cipher k salt rounds blob ciphertext tag) old =
-    codedEncryptedReply cipher k salt rounds blob ciphertext tag (length old)
-replyTo (write-report s) old = asWritten (reportedAt s old)
+-- the entries for C
+pub data EntryC : Type 0 where
+  saltorchard-write-plain : ℕ → List ℕ → List ℕ → ℕ → ℕ → List ℕ → EntryC
+  saltorchard-write-encrypted : ℕ → ℕ → List ℕ → ℕ → List ℕ → List ℕ → List ℕ → EntryC
+  saltorchard-rewrite : List ℕ → EntryC
+  saltorchard-change-comment : ℕ → List ℕ → EntryC
 
-abbrev pub leftBy : Entry → List ℕ → List ℕ
-leftBy (write-parts a point scalar checkint comment) old = plainLeft a point scalar checkint comment old
-leftBy (write-plain m given comment) old = plainLeft (m .algorithm) (publicOf m) (privateOf m) (checkintOf given (privateOf m)) comment old
-leftBy (write-encrypted cipher k salt rounds blob ciphertext tag) old = encryptedLeft cipher k salt rounds blob ciphertext tag old
-leftBy (rewrite s) old = rewriteLeft s old
-leftBy (rewrite-record s f) old = handedLeft s f old
-leftBy (change-comment n comment) old = changeLeft old n comment
-leftBy (saltorchard-write-plain code public private derive checkint comment) old =
-    codedPlainLeft code public private (checkintFor derive checkint private) comment old
-leftBy (saltorchard-write-encrypted cipher k salt rounds blob ciphertext tag) old =
-    codedEncryptedLeft cipher k salt rounds blob ciphertext tag old
-leftBy (write-report s) old = placed old 0 (reportOf s)
+abbrev pub PromiseC : EntryC → List ℕ → Reply → List ℕ → Type 0
+PromiseC (saltorchard-write-plain code public private derive checkint comment) old r out =
+    answersC (codedPlainReply code public private (checkintFor derive checkint private) comment (length old))
+    (codedPlainLeft code public private (checkintFor derive checkint private) comment old) r out
+PromiseC (saltorchard-write-encrypted cipher k salt rounds blob ciphertext tag) old r out =
+    answersC (codedEncryptedReply cipher k salt rounds blob ciphertext tag (length old)) (codedEncryptedLeft cipher k salt rounds blob ciphertext tag old) r out
+PromiseC (saltorchard-rewrite s) old r out = answersC (rewriteReply s (length old)) (rewriteLeft s old) r out
+PromiseC (saltorchard-change-comment n comment) old r out = answersC (changeReply old n comment) (changeLeft old n comment) r out
 
 -- ---- each by itself
 
@@ -142,24 +137,47 @@ coded-encrypted-keeps cipher k salt rounds blob ciphertext tag old g e =
     (λ v. rw v)
     (λ d v. rw v (encrypted-keeps c d salt rounds blob ciphertext tag old g (rw v at e′)))))
 
-report-keeps : (s old : List ℕ) (g : Fault) → asWritten (reportedAt s old) ≡ written.Refused g → placed old 0 (reportOf s) ≡ old
-unfolding reportedAt placed
+report-keeps : (s old : List ℕ) (g : Fault) → reportReply s old ≡ written.Refused g → placed old 0 (reportOf s) ≡ old
+unfolding reportReply placed
 report-keeps s old g e =
     by-bool (fits old 0 (reportOf s))
     (λ b. let d : written.Length (length (reportOf s)) ≡ written.Refused g = rw b at e in clash cc)
     (λ b. rw b)
 
--- ---- the claim
+-- ---- the claims
 
-pub refused-keeps : (entry : Entry) (old : List ℕ) (g : Fault) → replyTo entry old ≡ written.Refused g → leftBy entry old ≡ old
-refused-keeps (write-parts a point scalar checkint comment) old g e = plain-keeps a point scalar checkint comment old g e
-refused-keeps (write-plain m given comment) old g e = plain-keeps _ _ _ _ comment old g e
-refused-keeps (write-encrypted cipher k salt rounds blob ciphertext tag) old g e = encrypted-keeps cipher k salt rounds blob ciphertext tag old g e
-refused-keeps (rewrite s) old g e = rewrite-keeps s old g e
-refused-keeps (rewrite-record s f) old g e = handed-keeps s f old g e
-refused-keeps (change-comment n comment) old g e = refused-stays old n comment g e
-refused-keeps (saltorchard-write-plain code public private derive checkint comment) old g e =
-    coded-plain-keeps code public private (checkintFor derive checkint private) comment old g e
-refused-keeps (saltorchard-write-encrypted cipher k salt rounds blob ciphertext tag) old g e =
-    coded-encrypted-keeps cipher k salt rounds blob ciphertext tag old g e
-refused-keeps (write-report s) old g e = report-keeps s old g e
+-- a promise whose answer is refused, of one that keeps the buffer where it refuses
+kept :
+    (w r : Written) (after out old : List ℕ) (g : Fault) → ((h : Fault) → w ≡ written.Refused h → after ≡ old) → answers w after r out
+    → r ≡ written.Refused g → out ≡ old
+kept w r after out old g keeps p e = p .1 ∙ keeps g (sym (p .0) ∙ e)
+
+-- a refused call of any entry leaves every byte
+pub refused-keeps : (entry : Entry) (old : List ℕ) (r : Written) (out : List ℕ) (g : Fault) → Promise entry old r out → r ≡ written.Refused g → out ≡ old
+refused-keeps (write-parts a point scalar checkint comment) old r out g p e =
+    kept _ r _ out old g (plain-keeps a point scalar checkint comment old) p e
+refused-keeps (write-plain m given comment) old r out g p e =
+    kept _ r _ out old g (plain-keeps (m .algorithm) (publicOf m) (privateOf m) (checkintOf given (privateOf m)) comment old) p e
+refused-keeps (write-encrypted cipher k salt rounds blob ciphertext tag) old r out g p e =
+    kept _ r _ out old g (encrypted-keeps cipher k salt rounds blob ciphertext tag old) p e
+refused-keeps (rewrite s) old r out g p e = kept _ r _ out old g (rewrite-keeps s old) p e
+refused-keeps (rewrite-record s f) old r out g p e = kept _ r _ out old g (handed-keeps s f old) p e
+refused-keeps (recorded-rewrite s f) old r out g p e = kept _ r _ out old g (handed-keeps s f old) p e
+refused-keeps (change-comment n comment) old r out g p e = kept _ r _ out old g (refused-stays old n comment) p e
+refused-keeps (write-report s) old r out g p e = kept _ r _ out old g (report-keeps s old) (p .0) e
+
+-- over C a refusal is a number that isn't 0
+kept-c :
+    (w : Written) (r : Reply) (after out old : List ℕ) → ((h : Fault) → w ≡ written.Refused h → after ≡ old) → answersC w after r out
+    → (r .number ≡ 0 → ⊥) → out ≡ old
+unfolding replyOf told
+kept-c (written.Refused g) r after out old keeps p refused = p .1 ∙ keeps g refl
+kept-c (written.Length n) r after out old keeps p refused = absurd (refused (ap (λ (x : Reply). x .number) (p .0)))
+
+pub refused-keeps-c : (entry : EntryC) (old : List ℕ) (r : Reply) (out : List ℕ) → PromiseC entry old r out → (r .number ≡ 0 → ⊥) → out ≡ old
+refused-keeps-c (saltorchard-write-plain code public private derive checkint comment) old r out p refused =
+    kept-c _ r _ out old (coded-plain-keeps code public private (checkintFor derive checkint private) comment old) p refused
+refused-keeps-c (saltorchard-write-encrypted cipher k salt rounds blob ciphertext tag) old r out p refused =
+    kept-c _ r _ out old (coded-encrypted-keeps cipher k salt rounds blob ciphertext tag old) p refused
+refused-keeps-c (saltorchard-rewrite s) old r out p refused = kept-c _ r _ out old (rewrite-keeps s old) p refused
+refused-keeps-c (saltorchard-change-comment n comment) old r out p refused = kept-c _ r _ out old (refused-stays old n comment) p refused

@@ -16,7 +16,7 @@ use Rattle.buffer.specs.Puts.{splice, zeros}
 use Rattle.reply.specs.declared.Written.{Written}
 use Rattle.reply.specs.declared.Written.the-variants as written
 use Rattle.plain.specs.Plain.{plainReply, plainLeft}
-use Rattle.reply.specs.Reply.{onWritten, refused, unless}
+use Rattle.reply.specs.Reply.{onWritten, refused, unless, answers}
 
 -- ---- written afresh: the plain writer, given the material that the record's views give, the record's checkint, and the new comment
 
@@ -62,6 +62,10 @@ changeLeft old n comment =
     onWritten (changeReply old n comment) (λ g. old) (λ k.
     onRead (readAt (take n old)) (λ g. old) (λ f.
     splice (afreshLeft (take n old) f comment old) k (zeros (n - k))))
+
+-- the contract of a change: it answers r and leaves out
+abbrev pub isChange : List ℕ → ℕ → List ℕ → Written → List ℕ → Type 0
+isChange old n comment r out = answers (changeReply old n comment) (changeLeft old n comment) r out
 
 -- what the code's helper leaves, for an accepted image s
 unfoldable pub recordLeft : List ℕ → Fields → List ℕ → ℕ → List ℕ → List ℕ

@@ -6,7 +6,7 @@ ghost use lib.ListN.{length, take};
 ghost use Rattle.container.specs.Container.{readAt};
 ghost use Rattle.container.specs.Form.{formOf};
 ghost use Rattle.container.specs.declared.ImageRead.the-variants as read;
-ghost use Rattle.comment.specs.Change.{recordReply, recordLeft, changeReply, changeLeft};
+ghost use Rattle.comment.specs.Change.{recordReply, recordLeft, isChange};
 ghost use Rattle.comment.specs.Shell.{shellAt, isRenewed};
 use container::Fields;
 use container::FormRead;
@@ -80,7 +80,7 @@ fn change_record(lent: &mut [u8], n: usize, f: Fields, form: bool, comment: &[u8
 
 // Changes the comment of the image that the first n bytes of a lent buffer are, and answers the new length.
 pub fn change_comment(lent: &mut [u8], n: usize, comment: &[u8]) -> Written
-    ensures { λ r. ⌜ (r ≡ changeReply (now (lent .entry)) n (now (comment .entry))) × (now (lent .exit) ≡ changeLeft (now (lent .entry)) n (now (comment .entry))) ⌝ }
+    ensures { λ r. ⌜ isChange (now (lent .entry)) n (now (comment .entry)) r (now (lent .exit)) ⌝ }
 {
     if 65535 < n {
         return reply::refused(Refusal::Size);

@@ -1,15 +1,23 @@
 -- Document 01, 'Bytes of the container', steps 6 and 7: the section that goes on from a header, and the full read, which is the
 -- header read followed by the section's, with their replies.
-use Prim.Native.Nat.{ℕ}
+use Prim.Native.Nat.{ℕ, _+_}
+use mathlib.Core.Path.{_≡_}
 use mathlib.Core.List.{List}
 use mathlib.Core.Bool.{cond}
 use lib.ListN.{length}
-use Rattle.fields.specs.Fields.{fault}
+use Rattle.fields.specs.Fields.{fault, absent}
+use Rattle.fields.specs.Refusals.{numberOf, countOf}
 use Rattle.fields.specs.declared.Refusal.the-variants.{Crypto}
 use Rattle.fields.specs.declared.Fault.{Fault}
+use Rattle.fields.specs.Bytes.{string}
+use Rattle.format.specs.Format.{magic}
 use Rattle.header.specs.declared.Header.{Header}
-use Rattle.names.specs.Ciphers.{isNone}
+use Rattle.names.specs.declared.Algorithm.the-variants.{Ed25519}
+use Rattle.names.specs.declared.Cipher.the-variants as cipher
+use Rattle.names.specs.declared.Kdf.the-variants as kdf
+use Rattle.names.specs.Ciphers.{isNone, cipherName}
 use Rattle.header.specs.Header.{onKdf, onHeaderRead, headerAt}
+use Rattle.section.specs.declared.Kind.the-variants.{Plain}
 use Rattle.section.specs.declared.SectionRead.{SectionRead}
 use Rattle.section.specs.declared.SectionRead.the-variants as section-read
 use Rattle.section.specs.Section.{onSectionRead, plainAt, encryptedAt}
@@ -21,9 +29,9 @@ abbrev pub onRead : {R : Type 0} → ImageRead → (Fault → R) → (Fields →
 onRead (read.Refused f) refused accepted = refused f
 onRead (read.Record x) refused accepted = accepted x
 
--- after a magic of 15 bytes and the cipher name `none`, a string of 8, the KDF name begins at 23
+-- the KDF name begins after the magic and the cipher name `none`
 abbrev pub kdfNamePlace : ℕ
-kdfNamePlace = 23
+kdfNamePlace = length magic + length (string (cipherName cipher.None))
 
 -- the section begins where the header says; cipher `none` with a KDF not `none`: 3, at the KDF name
 unfoldable pub sectionAt : List ℕ → Header → SectionRead
@@ -39,3 +47,50 @@ readAt s =
     onHeaderRead (headerAt s) read.Refused (λ h.
     onSectionRead (sectionAt s h) read.Refused (λ x.
     read.Record (record { header = h; section = x })))
+
+-- ---- the paper's reply to a read
+
+-- the record of a refused image: no place, no number; kind and names are the first of theirs
+abbrev pub noFields : Fields
+noFields =
+    record {
+      header =
+          record {
+            cipher = cipher.None;
+            kdf = kdf.None;
+            salt = absent;
+            rounds = 0;
+            algorithm = Ed25519;
+            blob = absent;
+            point = absent;
+            section = 0;
+          };
+      section =
+          record {
+            kind = Plain;
+            checkint = 0;
+            padding = 0;
+            scalar = absent;
+            comment = absent;
+            ciphertext = absent;
+            tag = absent;
+          };
+    }
+
+-- number, count, the place at which the failing field began, and the record
+pub record ToldRead : Type 0 where
+  pub number : ℕ
+  pub count : ℕ
+  pub at : ℕ
+  pub fields : Fields
+
+-- of each case of a read's answer
+unfoldable pub toldRead : ImageRead → ToldRead
+toldRead r =
+    onRead r
+    (λ f. record { number = numberOf (f .why); count = countOf (f .why); at = f .at; fields = noFields })
+    (λ x. record { number = 0; count = 0; at = 0; fields = x })
+
+-- the promise of a read: it answers this, which is this in the paper's numbers
+abbrev pub answersRead : List ℕ → ImageRead → Type 0
+answersRead s r = (r ≡ readAt s) × (toldRead r ≡ toldRead (readAt s))

@@ -1,19 +1,23 @@
 -- Document 01, 'Writing': an image is in the writer's form if writing its record with its own checkint gives it back.
 use Prim.Native.Nat.{ℕ}
-use mathlib.Core.Bool.{Bool, true, cond, not}
+use mathlib.Core.Path.{_≡_}
+use mathlib.Core.Bool.{Bool, true, false, cond, not}
 use mathlib.Core.List.{List}
 use lib.ListN.{getD}
 use lib.Dec.{leb}
 use Rattle.fields.specs.Bytes.{sameBytes}
 use Rattle.fields.specs.Fields.{viewOf}
+use Rattle.fields.specs.declared.Fault.{Fault}
 use Rattle.format.specs.Format.{writtenImage, encryptedImage}
-use Rattle.keys.specs.Keys.{onAlgorithm, afterZero}
+use Rattle.keys.specs.Keys.{onAlgorithm}
+use Rattle.pairs.specs.Pairs.{afterZero}
 use Rattle.section.specs.declared.Kind.{Kind}
 use Rattle.section.specs.declared.Kind.the-variants.{Plain, Encrypted}
 use Rattle.container.specs.declared.Fields.{Fields}
 use Rattle.container.specs.declared.FormRead.{FormRead}
 use Rattle.container.specs.declared.FormRead.the-variants as form-read
-use Rattle.container.specs.Container.{onRead, readAt}
+use Rattle.container.specs.declared.ImageRead.the-variants as read
+use Rattle.container.specs.Container.{onRead, readAt, ToldRead, toldRead}
 
 abbrev pub onKind : {R : Type 0} → Kind → R → R → R
 onKind Plain plain encrypted = plain
@@ -34,6 +38,18 @@ formOf s f = sameBytes (rewritten s f) s
 
 unfoldable pub formReadAt : List ℕ → FormRead
 formReadAt s = onRead (readAt s) form-read.Refused (λ f. form-read.Record f (formOf s f))
+
+-- the paper's reply, and whether the image is in the form
+abbrev pub onForm : {R : Type 0} → FormRead → (Fault → R) → (Fields → Bool → R) → R
+onForm (form-read.Refused f) refused accepted = refused f
+onForm (form-read.Record x form) refused accepted = accepted x form
+
+unfoldable pub toldForm : FormRead → ToldRead × Bool
+toldForm r = onForm r (λ f. (toldRead (read.Refused f), false)) (λ x form. (toldRead (read.Record x), form))
+
+-- the promise of a read with the form
+abbrev pub answersForm : List ℕ → FormRead → Type 0
+answersForm s r = (r ≡ formReadAt s) × (toldForm r ≡ toldForm (formReadAt s))
 
 -- ---- the form by the scalar alone, which is what the code looks at; `form-scalar` says that it is the same
 

@@ -19,7 +19,7 @@ use Rattle.names.specs.declared.Kdf.{Kdf}
 use Rattle.names.specs.declared.Kdf.the-variants as kdf
 use Rattle.names.specs.Ciphers.{isNone, none-only}
 use Rattle.format.specs.Format.{standing, blob, section, header, plainImage, encryptedImage}
-use Rattle.keys.specs.Keys.{afterZero}
+use Rattle.pairs.specs.Pairs.{afterZero}
 use Rattle.header.specs.declared.Header.{Header}
 use Rattle.header.specs.declared.HeaderRead.{HeaderRead}
 use Rattle.header.specs.declared.HeaderRead.the-variants as header-read

@@ -1,9 +1,9 @@
 // An image read whole: the header, then the section that goes on from it. The record's fields are plain
 // data, places in the image among them.
 ghost use mathlib.Core.Path.{_≡_};
-ghost use Rattle.container.specs.Container.{sectionAt, readAt};
-ghost use Rattle.container.specs.Form.{scalarInForm, formReadAt};
-ghost use Rattle.keys.specs.Keys.{afterZero};
+ghost use Rattle.container.specs.Container.{sectionAt, answersRead};
+ghost use Rattle.container.specs.Form.{scalarInForm, answersForm};
+ghost use Rattle.pairs.specs.Pairs.{afterZero};
 use fields::Cursor;
 use fields::Fault;
 use fields::Part;
@@ -55,7 +55,7 @@ fn read_section(image: &[u8], header: Header) -> SectionRead
 
 // The full read: the one followed by the other.
 pub fn read(image: &[u8]) -> ImageRead
-    ensures { λ r. ⌜ r ≡ readAt (now (image .entry)) ⌝ }
+    ensures { λ r. ⌜ answersRead (now (image .entry)) r ⌝ }
 {
     match header::read_header(image) {
         HeaderRead::Refused(f) => ImageRead::Refused(f),
@@ -112,7 +112,7 @@ pub enum FormRead {
 
 // The full read, and whether the image is in the writer's form.
 pub fn read_with_form(image: &[u8]) -> FormRead
-    ensures { λ r. ⌜ r ≡ formReadAt (now (image .entry)) ⌝ }
+    ensures { λ r. ⌜ answersForm (now (image .entry)) r ⌝ }
 {
     match read(image) {
         ImageRead::Refused(f) => FormRead::Refused(f),

@@ -1,7 +1,6 @@
 -- Document 01, 'Writing'. Order, encrypted: cipher `none` 3; KDF `none` with salt bytes or rounds other than 0, 3; blob refused as in
 -- step 5; ciphertext not a multiple of the block 3; tag length wrong 1; size 11; room 9.
 use Prim.Native.Nat.{ℕ, _%_}
-use mathlib.Core.Path.{_≡_}
 use mathlib.Core.Bool.{Bool, true, not, _&&_}
 use mathlib.Core.List.{List}
 use lib.Dec.{eqb}
@@ -15,7 +14,7 @@ use Rattle.names.specs.Ciphers.{isNone, blockSize, tagLength}
 use Rattle.format.specs.Format.{encryptedImage}
 use Rattle.keys.specs.Keys.{onBlob, blobAt}
 use Rattle.reply.specs.declared.Written.{Written}
-use Rattle.reply.specs.Reply.{refused, unless, left, sized}
+use Rattle.reply.specs.Reply.{refused, unless, left, sized, answers}
 
 abbrev pub optionsFit : Kdf → List ℕ → ℕ → Bool
 optionsFit kdf.None salt rounds = eqb (length salt) 0 && eqb rounds 0
@@ -34,6 +33,7 @@ unfoldable pub encryptedLeft : Cipher → Kdf → List ℕ → ℕ → List ℕ 
 encryptedLeft cipher k salt rounds key ciphertext tag old =
     left (encryptedReply cipher k salt rounds key ciphertext tag (length old)) (encryptedImage cipher k salt rounds key ciphertext tag) old
 
+-- the contract of an encrypted write: it answers r and leaves out
 abbrev pub isEncrypted : Cipher → Kdf → List ℕ → ℕ → List ℕ → List ℕ → List ℕ → List ℕ → Written → List ℕ → Type 0
 isEncrypted cipher k salt rounds key ciphertext tag old r out =
-    (r ≡ encryptedReply cipher k salt rounds key ciphertext tag (length old)) × (out ≡ encryptedLeft cipher k salt rounds key ciphertext tag old)
+    answers (encryptedReply cipher k salt rounds key ciphertext tag (length old)) (encryptedLeft cipher k salt rounds key ciphertext tag old) r out

@@ -61,15 +61,6 @@ pub same-self : (a : List ℕ) → sameBytes a a ≡ true
 same-self [] = refl
 same-self (x ∷ xs) = simp (eq-eqb x x refl, same-self xs)
 
--- a test that is true just where the lists are equal is sameBytes
-pub same-is : (r : Bool) (a b : List ℕ) → (r ≡ true → a ≡ b) × (a ≡ b → r ≡ true) → r ≡ sameBytes a b
-same-is true a b h = rw (h .0 refl) (sym (same-self b))
-same-is false a b h = go (sameBytes a b) (same-true a b)
-  where
-    go : (t : Bool) → (t ≡ true → a ≡ b) → false ≡ t
-    go true k = h .1 (k refl)
-    go false k = refl
-
 -- no bytes
 pub length-zero : (l : List ℕ) → length l ≡ 0 → l ≡ []
 length-zero [] z = refl

@@ -2,7 +2,8 @@
 // of it holds.
 ghost use mathlib.Core.Path.{_≡_};
 ghost use Rattle.fields.specs.Fields.{absent, isView};
-ghost use Rattle.found.specs.Found.{noFields, foundAt, heldPart};
+ghost use Rattle.container.specs.Container.{noFields};
+ghost use Rattle.found.specs.Found.{foundAt, heldPart};
 use container::Fields;
 use container::ImageRead;
 use fields::Part;

@@ -3,13 +3,13 @@
 use fields::Part;
 use libc::STDIN_FILENO;
 use libc::STDOUT_FILENO;
-use report::Reported;
+use reply::Written;
 
 fn inspect(image: &[u8]) {
     let mut text = [0u8; 256];
     match report::write_report(image, &mut text) {
-        Reported::Refused(_) => {}
-        Reported::Length(n) => {
+        Written::Refused(_) => {}
+        Written::Length(n) => {
             let lines = Part {
                 start: 0,
                 length: n,

@@ -25,9 +25,10 @@ use Rattle.keys.specs.declared.EcdsaPublic.the-variants as ecdsa
 use Rattle.keys.specs.declared.PublicKey.{PublicKey}
 use Rattle.keys.specs.declared.PublicKey.the-variants as public
 use Rattle.keys.specs.declared.Blob.the-variants as key
-use Rattle.keys.specs.declared.Keypair.{Keypair}
-use Rattle.keys.specs.declared.Keypair.the-variants as keypair
-use Rattle.keys.specs.Keys.{pointAt, scalarAt, ecdsaPublicAt, ecdsaKeyAt, publicKeyAt, blobAt, ed25519PairAt, ecdsaPairAt, keypairAt}
+use Rattle.pairs.specs.declared.Keypair.{Keypair}
+use Rattle.pairs.specs.declared.Keypair.the-variants as keypair
+use Rattle.keys.specs.Keys.{pointAt, ecdsaPublicAt, ecdsaKeyAt, publicKeyAt, blobAt}
+use Rattle.pairs.specs.Pairs.{scalarAt, ed25519PairAt, ecdsaPairAt, keypairAt}
 
 -- the first byte of a part is that of its bytes
 first-byte :

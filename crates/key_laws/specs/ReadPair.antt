@@ -22,8 +22,9 @@ use Rattle.names.specs.declared.Curve.{Curve}
 use Rattle.names.specs.Algorithms.{algorithmName, algorithmNamed, curveName, sizeOf, sameAlgorithm, algorithm-same, size-small}
 use Rattle.format.specs.Format.{blob, publicLength, privateLength, pointTag, privateField, standing, mayStand}
 use Rattle.format.specs.Laws.{blob-then}
-use Rattle.keys.specs.declared.Keypair.the-variants as keypair
-use Rattle.keys.specs.Keys.{onAlgorithm, scalarAt, ecdsaPublicAt, ed25519PairAt, ecdsaPairAt, keypairAt, afterZero}
+use Rattle.pairs.specs.declared.Keypair.the-variants as keypair
+use Rattle.keys.specs.Keys.{onAlgorithm, ecdsaPublicAt}
+use Rattle.pairs.specs.Pairs.{scalarAt, ed25519PairAt, ecdsaPairAt, keypairAt, afterZero}
 use Rattle.key_laws.specs.Read.{by-algorithm, by-ecdsa, ecdsa-public-read, named-text}
 
 module _ (s : List ℕ) (all : AllBytes s) where

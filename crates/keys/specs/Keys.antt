@@ -1,17 +1,16 @@
--- Document 01, 'Keys': what reading a public key, a public blob and a keypair finds, in its order.
-use Prim.Native.Nat.{ℕ, _+_, _-_, _*_}
+-- Document 01, 'Keys': what reading a public key and a public blob finds, in its order.
+use Prim.Native.Nat.{ℕ, _+_, _*_}
 use mathlib.Core.List.{List}
-use mathlib.Core.Bool.{Bool, cond}
+use mathlib.Core.Bool.{cond}
 use lib.ListN.{getD}
 use lib.Dec.{eqb}
-use Rattle.fields.specs.Bytes.{sameBytes}
-use Rattle.fields.specs.Fields.{fault, part, onField, onEnding, stringAt, fixedAt, endAt, viewOf}
+use Rattle.fields.specs.Fields.{fault, onField, onEnding, stringAt, fixedAt, endAt, viewOf}
 use Rattle.fields.specs.declared.Cursor.{Cursor}
 use Rattle.fields.specs.declared.Fault.{Fault}
 use Rattle.fields.specs.declared.Part.{Part}
 use Rattle.fields.specs.declared.Field.{Field}
 use Rattle.fields.specs.declared.Field.the-variants as field
-use Rattle.fields.specs.declared.Refusal.the-variants.{FormatEncoding, Crypto, AlgorithmUnknown}
+use Rattle.fields.specs.declared.Refusal.the-variants.{FormatEncoding, AlgorithmUnknown}
 use Rattle.names.specs.declared.Algorithm.{Algorithm}
 use Rattle.names.specs.declared.Algorithm.the-variants.{Ed25519, Ecdsa}
 use Rattle.names.specs.declared.AlgorithmName.{AlgorithmName}
@@ -26,8 +25,6 @@ use Rattle.keys.specs.declared.PublicKey.{PublicKey}
 use Rattle.keys.specs.declared.PublicKey.the-variants as public
 use Rattle.keys.specs.declared.Blob.{Blob}
 use Rattle.keys.specs.declared.Blob.the-variants as blob
-use Rattle.keys.specs.declared.Keypair.{Keypair}
-use Rattle.keys.specs.declared.Keypair.the-variants as keypair
 
 -- by what a name is, and by what was read
 abbrev pub onAlgorithmName : {R : Type 0} → AlgorithmName → R → (Algorithm → R) → R
@@ -54,23 +51,11 @@ abbrev pub onBlob : {R : Type 0} → Blob → (Fault → R) → (Algorithm → P
 onBlob (blob.Refused f) refused key = refused f
 onBlob (blob.Key a p) refused key = key a p
 
-abbrev pub onKeypair : {R : Type 0} → Keypair → (Fault → R) → (Algorithm → Part → Part → Cursor → R) → R
-onKeypair (keypair.Refused f) refused pair = refused f
-onKeypair (keypair.Pair a p x c) refused pair = pair a p x c
-
 -- point string of 1 + 2 SIZE bytes; first byte of a point of the right length not 4: 2, at the point's field
 unfoldable pub pointAt : List ℕ → Cursor → Curve → Field
 pointAt s c k =
     onField (fixedAt s c (1 + 2 * sizeOf k)) field.Refused (λ p d.
     cond (eqb (getD s (p .start) 0) 4) (field.Part p d) (field.Refused (fault FormatEncoding (c .at))))
-
--- a scalar string of size + 1 bytes must begin with 0 (else 2), which is dropped; any other length is a fixed field of size
-unfoldable pub scalarAt : List ℕ → Cursor → ℕ → Field
-scalarAt s c size =
-    onField (stringAt s c) field.Refused (λ p d.
-    cond (eqb (p .length) (size + 1))
-    (cond (eqb (getD s (p .start) 0) 0) (field.Part (part (p .start + 1) size) d) (field.Refused (fault FormatEncoding (c .at))))
-    (fixedAt s c size))
 
 -- curve string, then point; unknown curve: 4, before the point is read
 unfoldable pub ecdsaPublicAt : List ℕ → Cursor → EcdsaPublic
@@ -102,32 +87,3 @@ blobAt s c =
     onPublicKey (publicKeyAt s c) blob.Refused (λ a point d.
     onEnding (endAt d) blob.Refused
     (blob.Key a point))
-
--- in a section a string of 64 follows, seed then public; second half unlike the public string: 3, at the string of 64
-unfoldable pub ed25519PairAt : List ℕ → Cursor → Keypair
-ed25519PairAt s c =
-    onField (fixedAt s c 32) keypair.Refused (λ point d.
-    onField (fixedAt s d 64) keypair.Refused (λ both e.
-    cond (sameBytes (viewOf s (part (both .start + 32) 32)) (viewOf s point))
-    (keypair.Pair Ed25519 point (part (both .start) 32) e)
-    (keypair.Refused (fault Crypto (d .at)))))
-
--- in a section the scalar string follows, of the size that the curve string sets, and the 4 for a curve unlike the name comes
--- after the scalar
-unfoldable pub ecdsaPairAt : List ℕ → Cursor → Curve → Keypair
-ecdsaPairAt s c named =
-    onEcdsaPublic (ecdsaPublicAt s c) keypair.Refused (λ k point d.
-    onField (scalarAt s d (sizeOf k)) keypair.Refused (λ scalar e.
-    cond (sameAlgorithm (Ecdsa k) (Ecdsa named)) (keypair.Pair (Ecdsa named) point scalar e)
-    (keypair.Refused (fault AlgorithmUnknown (c .at)))))
-
--- a keypair is read by its own name
-unfoldable pub keypairAt : List ℕ → Cursor → Keypair
-keypairAt s c =
-    onField (stringAt s c) keypair.Refused (λ name d.
-    onAlgorithmName (algorithmNamed (viewOf s name)) (keypair.Refused (fault AlgorithmUnknown (c .at))) (λ a.
-    onAlgorithm a (ed25519PairAt s d) (ecdsaPairAt s d)))
-
--- the byte before a part is zero
-unfoldable pub afterZero : List ℕ → Part → Bool
-afterZero s p = eqb (getD s (p .start - 1) 0) 0

@@ -1,6 +1,5 @@
 -- Document 01, 'Writing'. Order, plain: a length wrong for the kind 1; point tag 2; comment 7; size 11; room 9.
 use Prim.Native.Nat.{ℕ}
-use mathlib.Core.Path.{_≡_}
 use mathlib.Core.List.{List}
 use lib.Dec.{eqb}
 use lib.ListN.{length}
@@ -9,7 +8,7 @@ use Rattle.names.specs.declared.Algorithm.{Algorithm}
 use Rattle.utf8.specs.Utf8.{utf8}
 use Rattle.format.specs.Format.{publicLength, privateLength, pointTag, writtenImage}
 use Rattle.reply.specs.declared.Written.{Written}
-use Rattle.reply.specs.Reply.{unless, left, sized}
+use Rattle.reply.specs.Reply.{unless, left, sized, answers}
 
 unfoldable pub plainReply : Algorithm → List ℕ → List ℕ → ℕ → List ℕ → ℕ → Written
 plainReply a point scalar checkint comment room =
@@ -26,4 +25,4 @@ plainLeft a point scalar checkint comment old =
 -- the contract of a plain write: it answers r and leaves out
 abbrev pub isPlain : Algorithm → List ℕ → List ℕ → ℕ → List ℕ → List ℕ → Written → List ℕ → Type 0
 isPlain a point scalar checkint comment old r out =
-    (r ≡ plainReply a point scalar checkint comment (length old)) × (out ≡ plainLeft a point scalar checkint comment old)
+    answers (plainReply a point scalar checkint comment (length old)) (plainLeft a point scalar checkint comment old) r out

@@ -18,9 +18,9 @@ use Rattle.fields.specs.declared.Refusal.{Refusal}
 use Rattle.fields.specs.declared.Refusal.the-variants.{Length, FormatEncoding, Crypto, AlgorithmUnknown, PublicKey, TrailingData, CharacterEncoding, Encrypted, Room, Form, Size}
 use Rattle.container.specs.declared.Fields.{Fields}
 use Rattle.container.specs.declared.ImageRead.the-variants as read
-use Rattle.container.specs.Container.{readAt}
+use Rattle.container.specs.Container.{readAt, noFields, toldRead}
 use Rattle.container.specs.FormLaws.{by-read}
-use Rattle.found.specs.Found.{noFields, foundAt, heldPart}
+use Rattle.found.specs.Found.{foundAt, heldPart}
 use Rattle.record.specs.Reply.{isReply}
 
 -- the whole of an image is the image
@@ -75,11 +75,11 @@ never-zero Form = refl
 never-zero Size = refl
 
 found-none : (s : List ℕ) (g : Fault) → readAt s ≡ read.Refused g → (foundAt s .fields ≡ noFields) × (eqb (foundAt s .number) 0 ≡ false)
-unfolding foundAt
+unfolding foundAt toldRead
 found-none s g e = rw e (refl, never-zero (g .why))
 
 found-zero : (s : List ℕ) (f : Fields) → readAt s ≡ read.Record f → foundAt s .number ≡ 0
-unfolding foundAt
+unfolding foundAt toldRead
 found-zero s f e = rw e
 
 pub read-then-comment :

@@ -5,7 +5,7 @@ use container::ImageRead;
 use fields::Fault;
 use fields::Part;
 use header::Header;
-use report::Reported;
+use reply::Written;
 use telling::say_number;
 use telling::word;
 
@@ -86,7 +86,7 @@ fn say_views(image: &[u8], f: Fields) {
     say_sum(parts::blob(image, f));
     say_sum(parts::point(image, f));
     say_sum(parts::scalar(image, f));
-    say_sum(recorded::comment_of(image));
+    say_sum(commented::comment_of(image));
     say_later_views(image, f);
 }
 
@@ -112,8 +112,8 @@ fn say_read(image: &[u8]) {
 fn say_report(image: &[u8]) {
     let mut text = [0u8; 256];
     match report::write_report(image, &mut text) {
-        Reported::Refused(_) => {}
-        Reported::Length(n) => {
+        Written::Refused(_) => {}
+        Written::Length(n) => {
             let lines = Part {
                 start: 0,
                 length: n,

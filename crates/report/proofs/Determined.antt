@@ -6,7 +6,7 @@ use borrow.Fn.Kinds.{Dens, resT, endedOf}
 use denote.Ref.{now}
 use denote.Triple.Clauses.{AtExit}
 use Rattle.buffer.specs.Determined.{DeterminedBuffer}
-use Rattle.report.specs.Report.{summaryOf, reportOf, reportedAt, report-public}
+use Rattle.report.specs.Report.{summaryOf, reportOf, reportReply, report-public}
 use Rattle.report.proofs.write_report.Reads as write-report
 use Rattle.report.proofs.write_report.Kinds as write-report-kinds
 
@@ -19,7 +19,7 @@ pub write-report-public :
     (s₁ s₂ : AtExit (endedOf 2 write-report-kinds.ps write-report-kinds.r) κs)
     → summaryOf (now (a .0)) ≡ summaryOf (now (b .0)) → now (a .1 .0) ≡ now (b .1 .0)
     → write-report.Post κs a r₁ s₁ → write-report.Post κs b r₂ s₂ → (r₁ ≡ r₂) × (now (s₁ .1 .0) ≡ now (s₂ .1 .0))
-unfolding reportedAt
+unfolding reportReply
 write-report-public κs a b r₁ r₂ s₁ s₂ alike old p q =
     let same : reportOf (now (a .0)) ≡ reportOf (now (b .0)) = report-public (now (a .0)) (now (b .0)) alike in
     (cc, cc)

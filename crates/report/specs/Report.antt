@@ -2,11 +2,10 @@
 -- image is its summary in lines; what the summary holds is its kind, its names, its lengths and its form, or the refusal.
 use Prim.Native.Nat.{ℕ, _≤_}
 use mathlib.Core.Path.{_≡_, ap}
-use mathlib.Core.Bool.{Bool, true, false, cond}
+use mathlib.Core.Bool.{Bool, true, false}
 use mathlib.Core.List.{List, [], _∷_, _++_}
 use lib.ListN.{length}
 use Rattle.fields.specs.Bytes.{ascii, join}
-use Rattle.fields.specs.Fields.{fault}
 use Rattle.fields.specs.Refusals.{numberOf, countOf}
 use Rattle.fields.specs.declared.Fault.{Fault}
 use Rattle.fields.specs.declared.Refusal.the-variants.{Room}
@@ -20,10 +19,11 @@ use Rattle.section.specs.declared.Section.{Section}
 use Rattle.container.specs.Container.{onRead, readAt}
 use Rattle.container.specs.Form.{onKind, formOf}
 use Rattle.buffer.specs.Decimal.{decimal}
-use Rattle.buffer.specs.Puts.{fits}
+use Rattle.buffer.specs.Puts.{fits, placed}
 use Rattle.buffer.specs.Runs.{isRun}
-use Rattle.report.specs.declared.Reported.{Reported}
-use Rattle.report.specs.declared.Reported.the-variants as reported
+use Rattle.reply.specs.Reply.{unless, answers}
+use Rattle.reply.specs.declared.Written.{Written}
+use Rattle.reply.specs.declared.Written.the-variants as written
 
 -- Comment, padding, ciphertext, tag and image are lengths in bytes. `form` says whether the image is in the writer's form.
 pub data Summary : Type 0 where
@@ -39,11 +39,11 @@ accepted h x image form =
     (Encrypted (h .algorithm) (h .cipher) (h .kdf) (x .ciphertext .length) (x .tag .length) image)
 
 -- the summary of a refused one
-abbrev pub refused : Fault → Summary
-refused f = Refused (numberOf (f .why)) (countOf (f .why))
+abbrev pub refusedAs : Fault → Summary
+refusedAs f = Refused (numberOf (f .why)) (countOf (f .why))
 
 unfoldable pub summaryOf : List ℕ → Summary
-summaryOf s = onRead (readAt s) refused (λ f. accepted (f .header) (f .section) (length s) (formOf s f))
+summaryOf s = onRead (readAt s) refusedAs (λ f. accepted (f .header) (f .section) (length s) (formOf s f))
 
 abbrev pub lineFeed : List ℕ
 lineFeed = 10 ∷ []
@@ -88,8 +88,12 @@ unfoldable pub reportOf : List ℕ → List ℕ
 reportOf s = lines (summaryOf s)
 
 -- what writing it to the start of a buffer replies: its length, or 9 where the buffer is shorter
-unfoldable pub reportedAt : List ℕ → List ℕ → Reported
-reportedAt s old = cond (fits old 0 (reportOf s)) (reported.Length (length (reportOf s))) (reported.Refused (fault Room 0))
+unfoldable pub reportReply : List ℕ → List ℕ → Written
+reportReply s old = unless (fits old 0 (reportOf s)) Room (written.Length (length (reportOf s)))
+
+-- the promise of a report: that reply, and the lines at the start of the buffer where they fit; 256 bytes are always enough
+abbrev pub isReport : List ℕ → List ℕ → Written → List ℕ → Type 0
+isReport s old r out = answers (reportReply s old) (placed old 0 (reportOf s)) r out × (length (reportOf s) ≤ 256)
 
 -- the claim: images that are alike in kind, names, lengths and form, or in the refusal, have the same report
 pub report-public : (s t : List ℕ) → summaryOf s ≡ summaryOf t → reportOf s ≡ reportOf t

@@ -1,33 +1,23 @@
 // The inspection's lines: what an image is, by its kind, names, lengths and form, or how it is refused.
 // What writes them is handed those, and no byte of the image.
-ghost use mathlib.Core.Path.{_≡_};
-ghost use Prim.Native.Nat.{_≤_};
-ghost use lib.ListN.{length};
 ghost use Rattle.fields.specs.Bytes.{ascii, join};
 ghost use Rattle.fields.specs.Fields.{viewOf};
 ghost use Rattle.fields.specs.Refusals.{numberOf, countOf};
-ghost use Rattle.names.specs.Algorithms.{algorithmName};
-ghost use Rattle.names.specs.Ciphers.{cipherName, kdfName};
 ghost use Rattle.buffer.specs.Decimal.{decimal};
-ghost use Rattle.buffer.specs.Puts.{placed, isPut};
+ghost use Rattle.buffer.specs.Puts.{isPut};
 ghost use Rattle.buffer.specs.Runs.{isRun};
 ghost use Rattle.spelling.specs.Spelling.{nameTable};
-ghost use Rattle.report.specs.Report.{Plain, Encrypted, Refused, accepted, summaryOf, line, names, formName, isText, reportOf, reportedAt};
+ghost use Rattle.report.specs.Report.{Plain, Encrypted, Refused, accepted, summaryOf, line, names, formName, isText, isReport};
 use container::FormRead;
-use fields::Fault;
 use fields::Part;
 use fields::Refusal;
 use header::Header;
 use names::Algorithm;
 use names::Cipher;
 use names::Kdf;
+use reply::Written;
 use section::Kind;
 use section::Section;
-
-pub enum Reported {
-    Length(usize),
-    Refused(Fault),
-}
 
 // A line whose value is a number.
 fn put_number(out: &mut [u8], at: usize, label: &[u8], n: usize) -> usize
@@ -168,16 +158,13 @@ fn put_report(out: &mut [u8], image: &[u8]) -> usize
 
 // Writes the report on an image to the start of a lent buffer, which keeps every byte past it, and all of
 // them where it is shorter than the report. 256 bytes are always enough.
-pub fn write_report(image: &[u8], out: &mut [u8]) -> Reported
-    ensures { λ r. ⌜ (r ≡ reportedAt (now (image .entry)) (now (out .entry))) × (now (out .exit) ≡ placed (now (out .entry)) 0 (reportOf (now (image .entry)))) × (length (reportOf (now (image .entry))) ≤ 256) ⌝ }
+pub fn write_report(image: &[u8], out: &mut [u8]) -> Written
+    ensures { λ r. ⌜ isReport (now (image .entry)) (now (out .entry)) r (now (out .exit)) ⌝ }
 {
     let mut text = [0u8; 256];
     let n = put_report(&mut text, image);
     if out.len() < n {
-        return Reported::Refused(Fault {
-            why: Refusal::Room,
-            at: 0,
-        });
+        return reply::refused(Refusal::Room);
     }
-    Reported::Length(buffer::put(out, 0, &text[..n]))
+    Written::Length(buffer::put(out, 0, &text[..n]))
 }

@@ -23,9 +23,9 @@ use Rattle.names.specs.Algorithms.{sameAlgorithm, algorithm-same}
 use Rattle.utf8.specs.Utf8.{utf8}
 use Rattle.format.specs.Format.{privateField, standing, blob, content, section, short, paddingBytes}
 use Rattle.format.specs.Laws.{content-then}
-use Rattle.keys.specs.declared.Keypair.{Keypair}
-use Rattle.keys.specs.declared.Keypair.the-variants as keypair
-use Rattle.keys.specs.Keys.{keypairAt, afterZero}
+use Rattle.pairs.specs.declared.Keypair.{Keypair}
+use Rattle.pairs.specs.declared.Keypair.the-variants as keypair
+use Rattle.pairs.specs.Pairs.{keypairAt, afterZero}
 use Rattle.key_laws.specs.ReadPair.{PairRead, keypair-read}
 use Rattle.section.specs.declared.Entry.{Entry}
 use Rattle.section.specs.declared.Entry.the-variants as entry

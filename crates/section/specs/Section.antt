@@ -20,7 +20,7 @@ use Rattle.names.specs.Algorithms.{sameAlgorithm}
 use Rattle.names.specs.Ciphers.{blockSize, tagLength}
 use Rattle.utf8.specs.Utf8.{utf8}
 use Rattle.format.specs.Format.{paddingBytes}
-use Rattle.keys.specs.Keys.{onKeypair, keypairAt}
+use Rattle.pairs.specs.Pairs.{onKeypair, keypairAt}
 use Rattle.section.specs.declared.Entry.{Entry}
 use Rattle.section.specs.declared.Entry.the-variants as entry
 use Rattle.section.specs.declared.Kind.the-variants.{Plain, Encrypted}

@@ -8,9 +8,9 @@ use fields::Field;
 use fields::Part;
 use fields::Refusal;
 use fields::Uint32;
-use keys::Keypair;
 use names::Algorithm;
 use names::Cipher;
+use pairs::Keypair;
 
 pub enum Kind {
     Plain,
@@ -78,7 +78,7 @@ fn read_entry(c: Cursor, image: &[u8], algorithm: Algorithm, point: Part) -> Ent
     ensures { λ r. ⌜ r ≡ entryAt (now (image .entry)) c algorithm point ⌝ }
 {
     let at = c.at;
-    match keys::read_keypair(c, image) {
+    match pairs::read_keypair(c, image) {
         Keypair::Refused(f) => Entry::Refused(f),
         Keypair::Pair(a, p, scalar, d) => {
             if same_public(image, a, p, algorithm, point) {

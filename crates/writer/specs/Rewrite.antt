@@ -1,6 +1,6 @@
--- Document 01, 'Writing': writing an image's record, with its own checkint where it is plain.
+-- Document 01, 'Writing': writing an image's record, with its own checkint where it is plain; and 'Views': a record handed in that isn't
+-- what an accepted read of its image gives replies 1 before all else.
 use Prim.Native.Nat.{ℕ}
-use mathlib.Core.Path.{_≡_}
 use mathlib.Core.Bool.{cond}
 use mathlib.Core.List.{List}
 use lib.ListN.{length}
@@ -10,7 +10,7 @@ use Rattle.container.specs.Container.{onRead, readAt}
 use Rattle.container.specs.Form.{onKind}
 use Rattle.container.specs.declared.Fields.{Fields}
 use Rattle.judge.specs.Judge.{isRead}
-use Rattle.reply.specs.Reply.{unless}
+use Rattle.reply.specs.Reply.{unless, answers}
 use Rattle.reply.specs.declared.Written.{Written}
 use Rattle.reply.specs.declared.Written.the-variants as written
 use Rattle.plain.specs.Plain.{plainReply, plainLeft}
@@ -33,7 +33,7 @@ recordLeft s f old =
     (viewOf s (f .section .ciphertext)) (viewOf s (f .section .tag)) old)
 
 abbrev pub isRewrite : List ℕ → Fields → List ℕ → Written → List ℕ → Type 0
-isRewrite s f old r out = (r ≡ recordReply s f (length old)) × (out ≡ recordLeft s f old)
+isRewrite s f old r out = answers (recordReply s f (length old)) (recordLeft s f old) r out
 
 -- a refused image gets the reader's refusal
 unfoldable pub rewriteReply : List ℕ → ℕ → Written
@@ -41,6 +41,9 @@ rewriteReply s room = onRead (readAt s) written.Refused (λ f. recordReply s f r
 
 unfoldable pub rewriteLeft : List ℕ → List ℕ → List ℕ
 rewriteLeft s old = onRead (readAt s) (λ f. old) (λ f. recordLeft s f old)
+
+abbrev pub isRewritten : List ℕ → List ℕ → Written → List ℕ → Type 0
+isRewritten s old r out = answers (rewriteReply s (length old)) (rewriteLeft s old) r out
 
 -- a record that is handed in, and isn't what an accepted read of its image gives, gets 1 before all else
 unfoldable pub handedReply : List ℕ → Fields → ℕ → Written
@@ -50,4 +53,4 @@ unfoldable pub handedLeft : List ℕ → Fields → List ℕ → List ℕ
 handedLeft s f old = cond (isRead s f) (recordLeft s f old) old
 
 abbrev pub isHanded : List ℕ → Fields → List ℕ → Written → List ℕ → Type 0
-isHanded s f old r out = (r ≡ handedReply s f (length old)) × (out ≡ handedLeft s f old)
+isHanded s f old r out = answers (handedReply s f (length old)) (handedLeft s f old) r out

@@ -1,7 +1,5 @@
 // An image's record written again.
-ghost use mathlib.Core.Path.{_≡_};
-ghost use lib.ListN.{length};
-ghost use Rattle.writer.specs.Rewrite.{isRewrite, rewriteReply, rewriteLeft, isHanded};
+ghost use Rattle.writer.specs.Rewrite.{isRewrite, isRewritten, isHanded};
 use container::Fields;
 use container::ImageRead;
 use fields::Refusal;
@@ -41,7 +39,7 @@ fn write_record(image: &[u8], f: Fields, out: &mut [u8]) -> Written
 
 // An image's record written again, with its own checkint where it is plain.
 pub fn rewrite(image: &[u8], out: &mut [u8]) -> Written
-    ensures { λ r. ⌜ (r ≡ rewriteReply (now (image .entry)) (length (now (out .entry)))) × (now (out .exit) ≡ rewriteLeft (now (image .entry)) (now (out .entry))) ⌝ }
+    ensures { λ r. ⌜ isRewritten (now (image .entry)) (now (out .entry)) r (now (out .exit)) ⌝ }
 {
     match container::read(image) {
         ImageRead::Refused(f) => Written::Refused(f),

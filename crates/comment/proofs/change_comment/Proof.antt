@@ -6,6 +6,7 @@ use lib.Seq.{length-take-le}
 use Rattle.container.specs.FormLaws.{form-refused, form-record}
 use Rattle.comment.specs.Change.{changeReply, changeLeft, recordLeft}
 use borrow.Author.Needs.{needs}
+use Rattle.reply.specs.Reply.{answered}
 use Rattle.comment.proofs.change_comment.Statement.{statement}
 use Rattle.comment.proofs.change_comment.Tie as tie
 
@@ -14,14 +15,14 @@ refused-requires c κs = search needs
 
 returns : tie.Need-returns
 unfolding changeReply changeLeft
-returns c = rw (c .refused .ensures, lt-leb _ _ (c .before .if1 .taken)) (refl, refl)
+returns c = rw (c .refused .ensures, lt-leb _ _ (c .before .if1 .taken)) (refl, refl, refl)
 
 refused-requires-2 : tie.Need-refused-requires-2
 refused-requires-2 c κs = search needs
 
 returns-2 : tie.Need-returns-2
 unfolding changeReply changeLeft
-returns-2 c = rw (c .refused2 .ensures, le-leb _ _ (c .before .before .if1 .left), lt-leb _ _ (c .before .if2 .taken)) (refl, refl)
+returns-2 c = rw (c .refused2 .ensures, le-leb _ _ (c .before .before .if1 .left), lt-leb _ _ (c .before .if2 .taken)) (refl, refl, refl)
 
 slice-reshare-prefix-read-with-form : tie.Need-slice-reshare-prefix-read-with-form
 slice-reshare-prefix-read-with-form c = search needs
@@ -39,21 +40,21 @@ enum-known-f-2 : tie.Need-enum-known-f-2
 enum-known-f-2 c = search needs
 
 change-record-requires : tie.Need-change-record-requires
-change-record-requires c κs = ((c .before .before .before .before .before .before .before .if1 .left, c .before .before .before .before .before .before .if2 .left), form-record _ _ _ (sym (c .before .before .before .before .read-with-form .ensures) ∙ c .before .before .f2 .given .1))
+change-record-requires c κs = ((c .before .before .before .before .before .before .before .if1 .left, c .before .before .before .before .before .before .if2 .left), form-record _ _ _ (sym (c .before .before .before .before .read-with-form .ensures .0) ∙ c .before .before .f2 .given .1))
 
 same-length : tie.Need-same-length
 same-length c = search needs
 
 returns-3 : tie.Need-returns-3
 unfolding changeReply changeLeft
-returns-3 c = rw (le-leb _ _ (c .before .before .before .before .before .before .if1 .left), le-leb _ _ (c .before .before .before .before .before .if2 .left), form-refused _ _ (sym (c .before .before .before .read-with-form .ensures) ∙ c .before .f .given .1)) (refl, refl)
+returns-3 c = rw (le-leb _ _ (c .before .before .before .before .before .before .if1 .left), le-leb _ _ (c .before .before .before .before .before .if2 .left), form-refused _ _ (sym (c .before .before .before .read-with-form .ensures .0) ∙ c .before .f .given .1)) (refl, refl, refl)
 
 same-length-2 : tie.Need-same-length-2
 same-length-2 c = search needs
 
 returns-4 : tie.Need-returns-4
 unfolding changeReply changeLeft recordLeft
-returns-4 c = rw (le-leb _ _ (c .before .before .before .before .before .before .before .before .before .before .if1 .left), le-leb _ _ (c .before .before .before .before .before .before .before .before .before .if2 .left), form-record _ _ _ (sym (c .before .before .before .before .before .before .before .read-with-form .ensures) ∙ c .before .before .before .before .before .f2 .given .1) .0) (c .before .before .change-record .ensures)
+returns-4 c = rw (le-leb _ _ (c .before .before .before .before .before .before .before .before .before .before .if1 .left), le-leb _ _ (c .before .before .before .before .before .before .before .before .before .if2 .left), form-record _ _ _ (sym (c .before .before .before .before .before .before .before .read-with-form .ensures .0) ∙ c .before .before .before .before .before .f2 .given .1) .0) (answered _ _ _ _ (c .before .before .change-record .ensures))
 
 pub change-comment-spec : {M : Type 1} → statement M
 change-comment-spec =

@@ -1,5 +1,5 @@
 -- `container::after_zero` meets its contract: before the first byte the difference stops at 0, as the definition's does. Assumes nothing.
-use Rattle.keys.specs.Keys.{afterZero}
+use Rattle.pairs.specs.Pairs.{afterZero}
 use borrow.Author.Needs.{needs}
 use Rattle.container.proofs.after_zero.Statement.{statement}
 use Rattle.container.proofs.after_zero.Tie as tie

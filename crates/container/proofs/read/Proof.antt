@@ -1,4 +1,5 @@
 -- `container::read` meets its contract: each return is the case of `readAt` that the two halves pick. Assumes nothing.
+use mathlib.Core.Path.{refl}
 use Rattle.container.specs.Container.{readAt}
 use borrow.Author.Needs.{needs}
 use Rattle.container.proofs.read.Statement.{statement}
@@ -24,15 +25,15 @@ enum-known-x c = search needs
 
 returns : tie.Need-returns
 unfolding readAt
-returns c = rw (← c .before .before .before .read-header .ensures, c .before .f .given .1)
+returns c = rw (← c .before .before .before .read-header .ensures, c .before .f .given .1) (refl, refl)
 
 returns-2 : tie.Need-returns-2
 unfolding readAt
-returns-2 c = rw (← c .before .before .before .before .before .before .before .read-header .ensures, c .before .before .before .before .before .h .given .1, ← c .before .before .before .read-section .ensures, c .before .f2 .given .1)
+returns-2 c = rw (← c .before .before .before .before .before .before .before .read-header .ensures, c .before .before .before .before .before .h .given .1, ← c .before .before .before .read-section .ensures, c .before .f2 .given .1) (refl, refl)
 
 returns-3 : tie.Need-returns-3
 unfolding readAt
-returns-3 c = rw (← c .before .before .before .before .before .before .before .read-header .ensures, c .before .before .before .before .before .h .given .1, ← c .before .before .before .read-section .ensures, c .before .x .given .1)
+returns-3 c = rw (← c .before .before .before .before .before .before .before .read-header .ensures, c .before .before .before .before .before .h .given .1, ← c .before .before .before .read-section .ensures, c .before .x .given .1) (refl, refl)
 
 pub read-spec : {M : Type 1} → statement M
 read-spec =

@@ -1,5 +1,7 @@
 -- `container::read_section` meets its contract: cipher and KDF pick the case of `sectionAt`. Assumes nothing.
 use Rattle.container.specs.Container.{sectionAt}
+use Rattle.fields.specs.Bytes.{uint32, string}
+use Rattle.format.specs.Format.{magic}
 use borrow.Author.Needs.{needs}
 use Rattle.container.proofs.read_section.Statement.{statement}
 use Rattle.container.proofs.read_section.Tie as tie
@@ -21,7 +23,7 @@ enum-told-2 : tie.Need-enum-told-2
 enum-told-2 c = search needs
 
 returns-2 : tie.Need-returns-2
-unfolding sectionAt
+unfolding sectionAt magic string uint32
 returns-2 c = rw (← c .before .before .before .is-none .ensures, c .before .before .if1 .taken, c .enum-told2 .given .1)
 
 read-encrypted-requires : tie.Need-read-encrypted-requires

@@ -1,9 +1,9 @@
 -- `container::read_with_form` meets its contract. Rests on `form-scalar`: for an accepted image the scalar alone says whether it is in the form. Assumes nothing.
-use mathlib.Core.Path.{sym, _∙_, ap}
+use mathlib.Core.Path.{refl, sym, _∙_, ap}
 use denote.Ref.{now}
 use Rattle.container.specs.declared.FormRead.the-variants as form-read
 use Rattle.container.specs.FormLaws.{form-scalar}
-use Rattle.container.specs.Form.{formReadAt}
+use Rattle.container.specs.Form.{formReadAt, toldForm}
 use borrow.Author.Needs.{needs}
 use Rattle.container.proofs.read_with_form.Statement.{statement}
 use Rattle.container.proofs.read_with_form.Tie as tie
@@ -22,16 +22,16 @@ scalar-in-form-requires c κs = search needs
 
 returns : tie.Need-returns
 unfolding formReadAt
-returns c = rw (← c .before .before .before .read .ensures, c .before .f .given .1)
+returns c = rw (← c .before .before .before .read .ensures .0, c .before .f .given .1) (refl, refl)
 
 returns-2 : tie.Need-returns-2
 unfolding formReadAt
 returns-2 c = let start = c .before .before .before .before .before in
     let record′ = c .before .before .fields .given .0 .0 in
-    let accepted = sym (c .before .before .before .before .read .ensures) ∙ c .before .before .fields .given .1 in
+    let accepted = sym (c .before .before .before .before .read .ensures .0) ∙ c .before .before .fields .given .1 in
     let form = form-scalar (now (start .before .args .image)) (λ i. start .shared-slice-known .given i .fits) record′ accepted in
-    rw (← c .before .before .before .before .read .ensures, c .before .before .fields .given .1)
-    (ap (form-read.Record record′) (c .scalar-in-form .ensures ∙ sym form))
+    let same = ap (form-read.Record record′) (c .scalar-in-form .ensures ∙ sym form) in
+    rw (← c .before .before .before .before .read .ensures .0, c .before .before .fields .given .1) (same, ap toldForm same)
 
 pub read-with-form-spec : {M : Type 1} → statement M
 read-with-form-spec =

@@ -1,14 +1,100 @@
--- `fields::same` meets its contract: a test that is true just where the lists are equal is `sameBytes`. Assumes nothing.
-use Rattle.fields.specs.Bytes.{same-is}
-use borrow.Author.Needs.{needs}
+-- `fields::same` meets its contract: what was found so far, and whether the bytes from i on are the same, is `sameBytes` of all.
+-- Rests on the two laws of `sameBytes` below.
+use Prim.Native.Nat.{ℕ, zero, suc, _+_, _-_, _≤_, _<_}
+use native.Mathlib.Omega.{arith}
+use native.Mathlib.Numerals.{add-one}
+use mathlib.Core.Path.{_≡_, refl, sym, _∙_, ap}
+use mathlib.Core.Bool.{Bool, true, false, _&&_}
+use mathlib.Core.List.{List, [], _∷_}
+use lib.Dec.{eqb}
+use lib.ListN.{length, drop, getD}
+use Rattle.fields.specs.Bytes.{sameBytes, same-true}
 use Rattle.fields.proofs.same.Statement.{statement}
 use Rattle.fields.proofs.same.Tie as tie
 
-same-requires : tie.Need-same-requires
-same-requires c κs = search needs
+abbrev Inv-loop : tie.InvT-loop
+Inv-loop a b equal₀ i₀ equal i = (i ≤ length a) × ((equal && sameBytes (drop i a) (drop i b)) ≡ sameBytes a b)
 
-returns : tie.Need-returns
-returns c = same-is _ _ _ (c .same .ensures)
+abbrev μ-loop : tie.MeasureT-loop
+μ-loop a b equal₀ i₀ equal i = length a - i
+
+-- lists of other lengths aren't the same
+not-as-long : (a b : List ℕ) → (length a ≡ length b → ⊥) → false ≡ sameBytes a b
+not-as-long a b h = go (sameBytes a b) (same-true a b)
+  where
+    go : (t : Bool) → (t ≡ true → a ≡ b) → false ≡ t
+    go true k = absurd (h (ap length (k refl)))
+    go false k = refl
+
+and-next : (x y z : Bool) → (x && (y && z)) ≡ ((x && y) && z)
+and-next true y z = refl
+and-next false y z = refl
+
+-- one byte more
+same-next :
+    (a b : List ℕ) (i : ℕ) → i < length a → i < length b
+    → sameBytes (drop i a) (drop i b) ≡ (eqb (getD a i 0) (getD b i 0) && sameBytes (drop (suc i) a) (drop (suc i) b))
+same-next [] b i h k = absurd (omega arith)
+same-next (x ∷ xs) [] i h k = absurd (omega arith)
+same-next (x ∷ xs) (y ∷ ys) zero h k = refl
+same-next (x ∷ xs) (y ∷ ys) (suc i) h k = same-next xs ys i (omega arith) (omega arith)
+
+-- past the last byte
+same-end : (a b : List ℕ) (i : ℕ) → length a ≤ i → length a ≡ length b → sameBytes (drop i a) (drop i b) ≡ true
+same-end [] [] zero h k = refl
+same-end [] [] (suc i) h k = refl
+same-end [] (y ∷ ys) i h k = absurd (omega arith)
+same-end (x ∷ xs) [] i h k = absurd (omega arith)
+same-end (x ∷ xs) (y ∷ ys) zero h k = absurd (omega arith)
+same-end (x ∷ xs) (y ∷ ys) (suc i) h k = same-end xs ys i (omega arith) (omega arith)
+
+and-true : (x : Bool) → x ≡ (x && true)
+and-true true = refl
+and-true false = refl
+
+returns : tie.Need-returns Inv-loop μ-loop
+returns c = not-as-long (c .before .args .a .now) (c .before .args .b .now) (c .if1 .taken)
+
+loop-holds : tie.Need-loop-holds Inv-loop μ-loop
+loop-holds c = (omega arith, refl)
+
+shared-slice-read-equal : tie.Need-shared-slice-read-equal Inv-loop μ-loop
+shared-slice-read-equal c = omega arith
+
+shared-slice-read-equal-2 : tie.Need-shared-slice-read-equal-2 Inv-loop μ-loop
+shared-slice-read-equal-2 c = omega arith
+
+add-i : tie.Need-add-i Inv-loop μ-loop
+add-i c = omega arith
+
+loop-less : tie.Need-loop-less Inv-loop μ-loop
+loop-less c = omega arith
+
+loop-again : tie.Need-loop-again Inv-loop μ-loop
+loop-again c =
+    let l = c .before .before .before in
+    let a = l .before .before .args in
+    let n = same-next (a .a .now) (a .b .now) (l .loop .i) (omega arith) (omega arith) in
+    (omega arith, rw add-one (sym (and-next (l .loop .equal) _ _) ∙ ap (λ (t : Bool). l .loop .equal && t) (sym n) ∙ l .loop .inv .1))
+
+returns-2 : tie.Need-returns-2 Inv-loop μ-loop
+returns-2 c =
+    let l = c .before in
+    let a = l .before .before .args in
+    let e = same-end (a .a .now) (a .b .now) (l .loop .i) (omega arith) (omega arith) in
+    and-true (l .loop .equal) ∙ ap (λ (t : Bool). l .loop .equal && t) (sym e) ∙ l .loop .inv .1
 
 pub same-spec : {M : Type 1} → statement M
-same-spec = tie.close (tie.spec same-requires returns)
+same-spec =
+    tie.close
+    (tie.spec
+    Inv-loop
+    μ-loop
+    returns
+    loop-holds
+    shared-slice-read-equal
+    shared-slice-read-equal-2
+    add-i
+    loop-less
+    loop-again
+    returns-2)

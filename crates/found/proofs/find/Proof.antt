@@ -1,4 +1,5 @@
 -- `found::find` meets its contract: what the read answered picks the case. Rests on the callees' contracts.
+use Rattle.container.specs.Container.{toldRead}
 use Rattle.found.specs.Found.{foundAt}
 use borrow.Author.Needs.{needs}
 use Rattle.found.proofs.find.Statement.{statement}
@@ -23,12 +24,12 @@ no-fields-requires : tie.Need-no-fields-requires
 no-fields-requires c κs = search needs
 
 returns : tie.Need-returns
-unfolding foundAt
-returns c = rw (← c .before .before .before .read .ensures, c .before .f .given .1)
+unfolding foundAt toldRead
+returns c = rw (← c .before .before .before .read .ensures .0, c .before .f .given .1)
 
 returns-2 : tie.Need-returns-2
-unfolding foundAt
-returns-2 c = rw (← c .before .before .before .before .before .before .read .ensures, c .before .before .before .before .f2 .given .1, c .before .before .number .ensures, c .before .count .ensures, c .no-fields .ensures)
+unfolding foundAt toldRead
+returns-2 c = rw (← c .before .before .before .before .before .before .read .ensures .0, c .before .before .before .before .f2 .given .1, c .before .before .number .ensures, c .before .count .ensures, c .no-fields .ensures)
 
 pub find-spec : {M : Type 1} → statement M
 find-spec =

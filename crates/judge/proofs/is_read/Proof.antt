@@ -24,11 +24,11 @@ both-requires c κs = search needs
 
 returns : tie.Need-returns
 unfolding isRead
-returns c = rw (← c .before .before .read .ensures, c .enum-told .given .1)
+returns c = rw (← c .before .before .read .ensures .0, c .enum-told .given .1)
 
 returns-2 : tie.Need-returns-2
 unfolding isRead
-returns-2 c = rw (← c .before .before .before .before .before .before .read .ensures, c .before .before .before .before .g .given .1, ← c .before .before .same-header .ensures, ← c .before .same-section .ensures) (c .both .ensures)
+returns-2 c = rw (← c .before .before .before .before .before .before .read .ensures .0, c .before .before .before .before .g .given .1, ← c .before .before .same-header .ensures, ← c .before .same-section .ensures) (c .both .ensures)
 
 pub is-read-spec : {M : Type 1} → statement M
 is-read-spec =

@@ -3,6 +3,7 @@ use borrow.Author.Tests.{eq-eqb, ne-eqb, not-true, not-false}
 use mathlib.Core.Path.{refl, sym, _∙_}
 use Rattle.plain.specs.Plain.{plainReply, plainLeft}
 use borrow.Author.Needs.{needs}
+use Rattle.reply.specs.Reply.{answered}
 use Rattle.plain.proofs.write_parts.Statement.{statement}
 use Rattle.plain.proofs.write_parts.Tie as tie
 
@@ -14,7 +15,7 @@ refused-requires c κs = search needs
 
 returns : tie.Need-returns
 unfolding plainReply plainLeft
-returns c = rw (c .refused .ensures, ne-eqb _ _ (λ e. c .before .if1 .taken (e ∙ sym (c .before .before .public-length .ensures)))) (refl, refl)
+returns c = rw (c .refused .ensures, ne-eqb _ _ (λ e. c .before .if1 .taken (e ∙ sym (c .before .before .public-length .ensures)))) (refl, refl, refl)
 
 private-length-requires : tie.Need-private-length-requires
 private-length-requires c κs = search needs
@@ -26,7 +27,7 @@ returns-2 : tie.Need-returns-2
 unfolding plainReply plainLeft
 returns-2 c = rw
     (c .refused2 .ensures, eq-eqb _ _ (c .before .before .before .if1 .left ∙ c .before .before .before .before .public-length .ensures), ne-eqb _ _ (λ e. c .before .if2 .taken (e ∙ sym (c .before .before .private-length .ensures))))
-    (refl, refl)
+    (refl, refl, refl)
 
 tagged-requires : tie.Need-tagged-requires
 tagged-requires c κs = search needs
@@ -38,7 +39,7 @@ returns-3 : tie.Need-returns-3
 unfolding plainReply plainLeft
 returns-3 c = rw
     (c .refused3 .ensures, eq-eqb _ _ (c .before .before .before .before .before .if1 .left ∙ c .before .before .before .before .before .before .public-length .ensures), eq-eqb _ _ (c .before .before .before .if2 .left ∙ c .before .before .before .before .private-length .ensures), ← c .before .before .tagged .ensures, not-true (c .before .before .tagged .result) (c .before .if3 .taken))
-    (refl, refl)
+    (refl, refl, refl)
 
 is-utf8-requires : tie.Need-is-utf8-requires
 is-utf8-requires c κs = search needs
@@ -50,7 +51,7 @@ returns-4 : tie.Need-returns-4
 unfolding plainReply plainLeft
 returns-4 c = rw
     (c .refused4 .ensures, eq-eqb _ _ (c .before .before .before .before .before .before .before .if1 .left ∙ c .before .before .before .before .before .before .before .before .public-length .ensures), eq-eqb _ _ (c .before .before .before .before .before .if2 .left ∙ c .before .before .before .before .before .before .private-length .ensures), ← c .before .before .before .before .tagged .ensures, not-false (c .before .before .before .before .tagged .result) (c .before .before .before .if3 .left), ← c .before .before .is-utf8 .ensures, not-true (c .before .before .is-utf8 .result) (c .before .if4 .taken))
-    (refl, refl)
+    (refl, refl, refl)
 
 write-sized-requires : tie.Need-write-sized-requires
 write-sized-requires c κs = search needs
@@ -62,7 +63,7 @@ returns-5 : tie.Need-returns-5
 unfolding plainReply plainLeft
 returns-5 c = rw
     (eq-eqb _ _ (c .before .before .before .before .before .before .before .before .before .before .if1 .left ∙ c .before .before .before .before .before .before .before .before .before .before .before .public-length .ensures), eq-eqb _ _ (c .before .before .before .before .before .before .before .before .if2 .left ∙ c .before .before .before .before .before .before .before .before .before .private-length .ensures), ← c .before .before .before .before .before .before .before .tagged .ensures, not-false (c .before .before .before .before .before .before .before .tagged .result) (c .before .before .before .before .before .before .if3 .left), ← c .before .before .before .before .before .is-utf8 .ensures, not-false (c .before .before .before .before .before .is-utf8 .result) (c .before .before .before .before .if4 .left))
-    (c .before .before .write-sized .ensures)
+    (answered _ _ _ _ (c .before .before .write-sized .ensures))
 
 pub write-parts-spec : {M : Type 1} → statement M
 write-parts-spec =

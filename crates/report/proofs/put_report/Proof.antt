@@ -11,13 +11,13 @@ use Rattle.container.specs.declared.ImageRead.{ImageRead}
 use Rattle.container.specs.declared.ImageRead.the-variants as read
 use Rattle.container.specs.Container.{onRead, readAt}
 use Rattle.container.specs.Form.{formOf, formReadAt}
-use Rattle.report.specs.Report.{Summary, accepted, refused, summaryOf}
+use Rattle.report.specs.Report.{Summary, accepted, refusedAs, summaryOf}
 use Rattle.report.proofs.put_report.Statement.{statement}
 use Rattle.report.proofs.put_report.Tie as tie
 
 -- the summary of what reading with the form finds
 abbrev found : List ℕ → FormRead → Summary
-found s (form-read.Refused f) = refused f
+found s (form-read.Refused f) = refusedAs f
 found s (form-read.Record f form) = accepted (f .header) (f .section) (length s) form
 
 summary-found : (s : List ℕ) → summaryOf s ≡ found s (formReadAt s)
@@ -26,7 +26,7 @@ summary-found s = go (readAt s)
   where
     go :
         (r : ImageRead)
-        → onRead r refused (λ f. accepted (f .header) (f .section) (length s) (formOf s f))
+        → onRead r refusedAs (λ f. accepted (f .header) (f .section) (length s) (formOf s f))
         ≡ found s (onRead r form-read.Refused (λ f. form-read.Record f (formOf s f)))
     go (read.Refused f) = refl
     go (read.Record f) = refl
@@ -50,13 +50,13 @@ same-length : tie.Need-same-length
 same-length c = search needs
 
 returns : tie.Need-returns
-returns c = rw (summary-found, ← c .before .before .before .before .before .before .before .read-with-form .ensures, c .before .before .before .before .before .f .given .1) (c .before .before .put-refused .ensures)
+returns c = rw (summary-found, ← c .before .before .before .before .before .before .before .read-with-form .ensures .0, c .before .before .before .before .before .f .given .1) (c .before .before .put-refused .ensures)
 
 same-length-2 : tie.Need-same-length-2
 same-length-2 c = search needs
 
 returns-2 : tie.Need-returns-2
-returns-2 c = rw (summary-found, ← c .before .before .before .before .before .before .before .read-with-form .ensures, c .before .before .before .before .before .f2 .given .1) (c .before .before .put-accepted .ensures)
+returns-2 c = rw (summary-found, ← c .before .before .before .before .before .before .before .read-with-form .ensures .0, c .before .before .before .before .before .f2 .given .1) (c .before .before .put-accepted .ensures)
 
 pub put-report-spec : {M : Type 1} → statement M
 put-report-spec =

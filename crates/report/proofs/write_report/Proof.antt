@@ -7,11 +7,11 @@ use native.Mathlib.Omega.{arith}
 use borrow.Author.Needs.{needs}
 use borrow.Author.Tests.{le-leb, lt-leb}
 use lib.ListN.{length, take, replicate}
-use Rattle.fields.specs.Fields.{fault}
 use Rattle.fields.specs.declared.Refusal.the-variants.{Room}
 use Rattle.buffer.specs.Puts.{fits, placed, next, begins, no-put, next-fits}
-use Rattle.report.specs.declared.Reported.the-variants as reported
-use Rattle.report.specs.Report.{lines, summaryOf, reportOf, reportedAt, isText}
+use Rattle.reply.specs.declared.Written.the-variants as written
+use Rattle.reply.specs.Reply.{refused, answers, answered}
+use Rattle.report.specs.Report.{lines, summaryOf, reportOf, reportReply, isText}
 use Rattle.report.proofs.write_report.Statement.{statement}
 use Rattle.report.proofs.write_report.Tie as tie
 
@@ -27,18 +27,18 @@ begun s n out p =
 -- a buffer that is shorter
 shorter :
     (s old : List ℕ) → length old < length (reportOf s)
-    → (reported.Refused (fault Room 0) ≡ reportedAt s old) × (old ≡ placed old 0 (reportOf s))
-unfolding reportedAt fits
+    → (refused Room ≡ reportReply s old) × (old ≡ placed old 0 (reportOf s))
+unfolding reportReply fits
 shorter s old h = (rw (lt-leb (0 + length (reportOf s)) (length old) (omega arith)), no-put old 0 (reportOf s) (omega arith) .1)
 
 -- a buffer with room
 enough :
     (s old : List ℕ) (r : ℕ) → length (reportOf s) ≤ length old → r ≡ next old 0 (reportOf s)
-    → reported.Length r ≡ reportedAt s old
-unfolding reportedAt fits
+    → written.Length r ≡ reportReply s old
+unfolding reportReply fits
 enough s old r h e =
     let n : r ≡ length (reportOf s) = omega (arith, e, next-fits old 0 (reportOf s) (omega arith)) in
-    rw (le-leb (0 + length (reportOf s)) (length old) (omega arith)) (ap reported.Length n)
+    rw (le-leb (0 + length (reportOf s)) (length old) (omega arith)) (ap written.Length n)
 
 slice-aggregate-put-report : tie.Need-slice-aggregate-put-report
 slice-aggregate-put-report c = search needs
@@ -46,13 +46,16 @@ slice-aggregate-put-report c = search needs
 put-report-requires : tie.Need-put-report-requires
 put-report-requires c κs = search needs
 
+refused-requires : tie.Need-refused-requires
+refused-requires c κs = search needs
+
 returns : tie.Need-returns
 returns c =
-    let called = c .before .before in
+    let called = c .before .before .before in
     let a = called .before .before .before .before .args in
     let k = begun (a .image .now) _ _ (called .put-report .ensures) in
     let x = shorter (a .image .now) (a .out .now) (omega (arith, k .0)) in
-    (x .0, x .1, k .3)
+    (answered _ _ _ _ (c .refused .ensures ∙ x .0, x .1), k .3)
 
 array-share-prefix-text : tie.Need-array-share-prefix-text
 array-share-prefix-text c =
@@ -77,7 +80,7 @@ returns-2 c =
     let a = called .before .before .before .before .args in
     let k = begun (a .image .now) _ _ (called .put-report .ensures) in
     let p = rw (k .1) at (c .before .before .put .ensures) in
-    (enough (a .image .now) (a .out .now) _ (omega (arith, k .0)) (p .0), p .1, k .3)
+    (answered _ _ _ _ (enough (a .image .now) (a .out .now) _ (omega (arith, k .0)) (p .0), p .1), k .3)
 
 pub write-report-spec : {M : Type 1} → statement M
 write-report-spec =
@@ -85,6 +88,7 @@ write-report-spec =
     (tie.spec
     slice-aggregate-put-report
     put-report-requires
+    refused-requires
     returns
     array-share-prefix-text
     slice-aggregate-put

@@ -19,14 +19,14 @@ write-record-requires c κs = search needs
 
 returns : tie.Need-returns
 unfolding rewriteReply rewriteLeft
-returns c = rw (← c .before .before .before .read .ensures, c .before .f .given .1) (refl, refl)
+returns c = rw (← c .before .before .before .read .ensures .0, c .before .f .given .1) (refl, refl, refl)
 
 same-length : tie.Need-same-length
 same-length c = search needs
 
 returns-2 : tie.Need-returns-2
 unfolding rewriteReply rewriteLeft
-returns-2 c = rw (← c .before .before .before .before .before .before .before .read .ensures, c .before .before .before .before .before .f2 .given .1) (c .before .before .write-record .ensures)
+returns-2 c = rw (← c .before .before .before .before .before .before .before .read .ensures .0, c .before .before .before .before .before .f2 .given .1) (c .before .before .write-record .ensures)
 
 pub rewrite-spec : {M : Type 1} → statement M
 rewrite-spec =

@@ -14,7 +14,7 @@ refused-requires c κs = search needs
 
 returns : tie.Need-returns
 unfolding handedReply handedLeft
-returns c = rw (c .refused .ensures, ← c .before .before .is-read .ensures, not-true (c .before .before .is-read .result) (c .before .if1 .taken)) (refl, refl)
+returns c = rw (c .refused .ensures, ← c .before .before .is-read .ensures, not-true (c .before .before .is-read .result) (c .before .if1 .taken)) (refl, refl, refl)
 
 write-record-requires : tie.Need-write-record-requires
 write-record-requires c κs = search needs

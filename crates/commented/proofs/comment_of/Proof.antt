@@ -1,4 +1,4 @@
--- `recorded::comment_of` meets its contract: a walk of its MIR, by hand. The reply of `read` is held in a local, and its record goes to
+-- `commented::comment_of` meets its contract: a walk of its MIR, by hand. The reply of `read` is held in a local, and its record goes to
 -- `comment`. Assumes nothing.
 use mathlib.Core.Path.{_≡_, refl, ap}
 use Prim.Native.Nat.{ℕ}
@@ -56,10 +56,10 @@ use Rattle.views.proofs.comment as comment
 use Rattle.views.proofs.comment.Symbol as comment-def
 use Rattle.views.proofs.comment.Symbol.{name as #comment}
 use Rattle.views.proofs.comment.Met as comment-thm
-use Rattle.recorded.proofs.comment_of.Key.{name as #own}
-use Rattle.recorded.proofs.comment_of as own
-use Rattle.recorded.proofs.comment_of.Statement as stated
-use Rattle.recorded.proofs.comment_of.Code as code
+use Rattle.commented.proofs.comment_of.Key.{name as #own}
+use Rattle.commented.proofs.comment_of as own
+use Rattle.commented.proofs.comment_of.Statement as stated
+use Rattle.commented.proofs.comment_of.Code as code
 
 abbrev stayed : Stays (own.ended .signature .params) (own.ended .kept)
 stayed = (stay-none-slice (0 ∷ []) tt (plain (λ _. u8)) yes, tt)

@@ -1,8 +1,9 @@
--- `saltorchard::reply_of` meets its contract: the case of the reply gives its numbers. Rests on the callees' contracts.
-use Rattle.saltorchard.specs.Interface.{replyOf}
+-- `numbers::reply_of` meets its contract: the case of the reply gives its numbers. Rests on the callees' contracts.
+use Rattle.reply.specs.Reply.{told}
+use Rattle.numbers.specs.Numbers.{replyOf}
 use borrow.Author.Needs.{needs}
-use Rattle.saltorchard.proofs.reply_of.Statement.{statement}
-use Rattle.saltorchard.proofs.reply_of.Tie as tie
+use Rattle.numbers.proofs.reply_of.Statement.{statement}
+use Rattle.numbers.proofs.reply_of.Tie as tie
 
 enum-known-written : tie.Need-enum-known-written
 enum-known-written c = search needs
@@ -20,11 +21,11 @@ count-requires : tie.Need-count-requires
 count-requires c κs = search needs
 
 returns : tie.Need-returns
-unfolding replyOf
+unfolding replyOf told
 returns c = rw (c .before .written .given .1)
 
 returns-2 : tie.Need-returns-2
-unfolding replyOf
+unfolding replyOf told
 returns-2 c = rw (c .before .before .before .written2 .given .1, c .before .number .ensures, c .count .ensures)
 
 pub reply-of-spec : {M : Type 1} → statement M

@@ -1,11 +1,11 @@
--- `keys::read_ed25519_pair` meets its contract: each return is the case of `ed25519PairAt` that the answers on the way pick; the string of 64 lies within the image. Assumes nothing.
+-- `pairs::read_ed25519_pair` meets its contract: each return is the case of `ed25519PairAt` that the answers on the way pick; the string of 64 lies within the image. Assumes nothing.
 use native.Mathlib.Omega.{arith}
 use mathlib.Core.Path.{sym, _∙_}
 use Rattle.fields.specs.Place.{fixed-place, string-place}
-use Rattle.keys.specs.Keys.{ed25519PairAt}
+use Rattle.pairs.specs.Pairs.{ed25519PairAt}
 use borrow.Author.Needs.{needs}
-use Rattle.keys.proofs.read_ed25519_pair.Statement.{statement}
-use Rattle.keys.proofs.read_ed25519_pair.Tie as tie
+use Rattle.pairs.proofs.read_ed25519_pair.Statement.{statement}
+use Rattle.pairs.proofs.read_ed25519_pair.Tie as tie
 
 fixed-requires : tie.Need-fixed-requires
 fixed-requires c κs = search needs

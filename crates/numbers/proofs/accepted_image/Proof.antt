@@ -1,7 +1,7 @@
--- `saltorchard::accepted_image` meets its contract: each number is its callee's. Rests on the callees' contracts.
+-- `numbers::accepted_image` meets its contract: each number is its callee's. Rests on the callees' contracts.
 use borrow.Author.Needs.{needs}
-use Rattle.saltorchard.proofs.accepted_image.Statement.{statement}
-use Rattle.saltorchard.proofs.accepted_image.Tie as tie
+use Rattle.numbers.proofs.accepted_image.Statement.{statement}
+use Rattle.numbers.proofs.accepted_image.Tie as tie
 
 kind-code-requires : tie.Need-kind-code-requires
 kind-code-requires c κs = search needs

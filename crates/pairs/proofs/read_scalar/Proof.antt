@@ -1,14 +1,14 @@
--- `keys::read_scalar` meets its contract: the two tests together are `size + 1`, at any size; the string's place keeps reads and sums in bounds. Assumes nothing.
+-- `pairs::read_scalar` meets its contract: the two tests together are `size + 1`, at any size; the string's place keeps reads and sums in bounds. Assumes nothing.
 use native.Mathlib.Omega.{arith}
 use Prim.Native.Nat.{_+_}
 use mathlib.Core.Path.{sym, _∙_}
 use borrow.Author.Tests.{eq-eqb, ne-eqb}
 use denote.Ref.{now}
 use Rattle.fields.specs.Place.{Placed, string-place}
-use Rattle.keys.specs.Keys.{scalarAt}
+use Rattle.pairs.specs.Pairs.{scalarAt}
 use borrow.Author.Needs.{needs}
-use Rattle.keys.proofs.read_scalar.Statement.{statement}
-use Rattle.keys.proofs.read_scalar.Tie as tie
+use Rattle.pairs.proofs.read_scalar.Statement.{statement}
+use Rattle.pairs.proofs.read_scalar.Tie as tie
 
 -- the string is within the image
 placed :

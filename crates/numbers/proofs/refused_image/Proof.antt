@@ -1,7 +1,7 @@
--- `saltorchard::refused_image` meets its contract: each number is its callee's. Rests on the callees' contracts.
+-- `numbers::refused_image` meets its contract: each number is its callee's. Rests on the callees' contracts.
 use borrow.Author.Needs.{needs}
-use Rattle.saltorchard.proofs.refused_image.Statement.{statement}
-use Rattle.saltorchard.proofs.refused_image.Tie as tie
+use Rattle.numbers.proofs.refused_image.Statement.{statement}
+use Rattle.numbers.proofs.refused_image.Tie as tie
 
 number-requires : tie.Need-number-requires
 number-requires c κs = search needs

@@ -1,10 +1,10 @@
--- `keys::read_ecdsa_pair` meets its contract: the scalar is read at the curve string's size, and then the codes are compared as `sameAlgorithm` does. Assumes nothing.
-use Rattle.keys.specs.Keys.{ecdsaPairAt}
+-- `pairs::read_ecdsa_pair` meets its contract: the scalar is read at the curve string's size, and then the codes are compared as `sameAlgorithm` does. Assumes nothing.
+use Rattle.pairs.specs.Pairs.{ecdsaPairAt}
 use Rattle.names.specs.Algorithms.{sameAlgorithm}
 use borrow.Author.Tests.{eq-eqb, ne-eqb}
 use borrow.Author.Needs.{needs}
-use Rattle.keys.proofs.read_ecdsa_pair.Statement.{statement}
-use Rattle.keys.proofs.read_ecdsa_pair.Tie as tie
+use Rattle.pairs.proofs.read_ecdsa_pair.Statement.{statement}
+use Rattle.pairs.proofs.read_ecdsa_pair.Tie as tie
 
 read-ecdsa-public-requires : tie.Need-read-ecdsa-public-requires
 read-ecdsa-public-requires c κs = search needs

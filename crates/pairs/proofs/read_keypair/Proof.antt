@@ -1,8 +1,8 @@
--- `keys::read_keypair` meets its contract: each return is the case of `keypairAt` that the answers on the way pick. Assumes nothing.
-use Rattle.keys.specs.Keys.{keypairAt}
+-- `pairs::read_keypair` meets its contract: each return is the case of `keypairAt` that the answers on the way pick. Assumes nothing.
+use Rattle.pairs.specs.Pairs.{keypairAt}
 use borrow.Author.Needs.{needs}
-use Rattle.keys.proofs.read_keypair.Statement.{statement}
-use Rattle.keys.proofs.read_keypair.Tie as tie
+use Rattle.pairs.proofs.read_keypair.Statement.{statement}
+use Rattle.pairs.proofs.read_keypair.Tie as tie
 
 string-requires : tie.Need-string-requires
 string-requires c κs = search needs

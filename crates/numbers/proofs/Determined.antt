@@ -1,0 +1,12 @@
+-- Any two replies that meet a public function's own contract are equal. Rests on the contracts being equations.
+use Rattle.fields.specs.Determined.{Determined}
+use Rattle.numbers.proofs.image_of.Reads as image-of
+use Rattle.numbers.proofs.image_of.Kinds as image-of-kinds
+use Rattle.numbers.proofs.reply_of.Reads as reply-of
+use Rattle.numbers.proofs.reply_of.Kinds as reply-of-kinds
+
+pub image-of-determined : Determined 0 image-of-kinds.ps image-of-kinds.r image-of.Post
+image-of-determined κs a r₁ r₂ s₁ s₂ p q = cc
+
+pub reply-of-determined : Determined 0 reply-of-kinds.ps reply-of-kinds.r reply-of.Post
+reply-of-determined κs a r₁ r₂ s₁ s₂ p q = cc

@@ -1,0 +1,82 @@
+-- What a read found and what a writer answered, in plain numbers. An accepted image is 0 0 0, its kind (1 plain, 2 encrypted), the codes,
+-- the numbers and the places of its fields; of a refused one all after the place is 0. A writer replies the refusal, or 0 0 0 and the length.
+use Prim.Native.Nat.{ℕ}
+use mathlib.Core.Bool.{Bool, true, false}
+use Rattle.fields.specs.Fields.{absent}
+use Rattle.fields.specs.Refusals.{numberOf, countOf}
+use Rattle.fields.specs.declared.Fault.{Fault}
+use Rattle.fields.specs.declared.Part.{Part}
+use Rattle.names.specs.Algorithms.{algorithmCode}
+use Rattle.codes.specs.Codes.{cipherCode, kdfCode}
+use Rattle.judge.specs.Judge.{kindCode}
+use Rattle.container.specs.declared.Fields.{Fields}
+use Rattle.container.specs.declared.FormRead.{FormRead}
+use Rattle.container.specs.Form.{onForm}
+use Rattle.reply.specs.declared.Written.{Written}
+use Rattle.reply.specs.Reply.{told}
+use Rattle.numbers.specs.declared.Place.{Place}
+use Rattle.numbers.specs.declared.Image.{Image}
+use Rattle.numbers.specs.declared.Reply.{Reply}
+
+-- ---- an image
+
+abbrev pub placeOf : Part → Place
+placeOf p = record { start = p .start; length = p .length }
+
+abbrev pub formCode : Bool → ℕ
+formCode true = 1
+formCode false = 0
+
+abbrev pub refusedImage : Fault → Image
+refusedImage f =
+    record {
+      number = numberOf (f .why);
+      count = countOf (f .why);
+      at = f .at;
+      kind = 0;
+      algorithm = 0;
+      cipher = 0;
+      kdf = 0;
+      rounds = 0;
+      checkint = 0;
+      padding = 0;
+      form = 0;
+      blob = placeOf absent;
+      point = placeOf absent;
+      scalar = placeOf absent;
+      comment = placeOf absent;
+      salt = placeOf absent;
+      ciphertext = placeOf absent;
+      tag = placeOf absent;
+    }
+
+abbrev pub acceptedImage : Fields → Bool → Image
+acceptedImage f form =
+    record {
+      number = 0;
+      count = 0;
+      at = 0;
+      kind = kindCode (f .section .kind);
+      algorithm = algorithmCode (f .header .algorithm);
+      cipher = cipherCode (f .header .cipher);
+      kdf = kdfCode (f .header .kdf);
+      rounds = f .header .rounds;
+      checkint = f .section .checkint;
+      padding = f .section .padding;
+      form = formCode form;
+      blob = placeOf (f .header .blob);
+      point = placeOf (f .header .point);
+      scalar = placeOf (f .section .scalar);
+      comment = placeOf (f .section .comment);
+      salt = placeOf (f .header .salt);
+      ciphertext = placeOf (f .section .ciphertext);
+      tag = placeOf (f .section .tag);
+    }
+
+unfoldable pub imageOf : FormRead → Image
+imageOf read = onForm read refusedImage acceptedImage
+
+-- ---- a writer's reply
+
+unfoldable pub replyOf : Written → Reply
+replyOf w = record { number = told w .number; count = told w .count; at = told w .at; length = told w .length }

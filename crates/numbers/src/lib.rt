@@ -1,0 +1,167 @@
+// What a read found and what a writer answered, in plain numbers: the structs of the functions for C.
+ghost use mathlib.Core.Path.{_≡_};
+ghost use Rattle.fields.specs.Fields.{absent};
+ghost use Rattle.numbers.specs.Numbers.{placeOf, formCode, refusedImage, acceptedImage, imageOf, replyOf};
+use codes::cipher_code;
+use codes::kdf_code;
+use container::Fields;
+use container::FormRead;
+use fields::Fault;
+use fields::Part;
+use judge::kind_code;
+use reply::Written;
+
+// Where a field stands; 0 and 0 where the image has none.
+#[repr(C)]
+pub struct Place {
+    pub start: u64,
+    pub length: u64,
+}
+
+#[repr(C)]
+pub struct Image {
+    pub number: u64,
+    pub count: u64,
+    pub at: u64,
+    pub kind: u64,
+    pub algorithm: u64,
+    pub cipher: u64,
+    pub kdf: u64,
+    pub rounds: u64,
+    pub checkint: u64,
+    pub padding: u64,
+    pub form: u64,
+    pub blob: Place,
+    pub point: Place,
+    pub scalar: Place,
+    pub comment: Place,
+    pub salt: Place,
+    pub ciphertext: Place,
+    pub tag: Place,
+}
+
+#[repr(C)]
+pub struct Reply {
+    pub number: u64,
+    pub count: u64,
+    pub at: u64,
+    pub length: u64,
+}
+
+fn place_of(part: Part) -> Place
+    ensures { λ r. ⌜ r ≡ placeOf part ⌝ }
+{
+    Place {
+        start: part.start as u64,
+        length: part.length as u64,
+    }
+}
+
+fn nowhere() -> Place
+    ensures { λ r. ⌜ r ≡ placeOf absent ⌝ }
+{
+    Place {
+        start: 0,
+        length: 0,
+    }
+}
+
+fn form_code(form: bool) -> u64
+    ensures { λ r. ⌜ r ≡ formCode form ⌝ }
+{
+    if form {
+        return 1;
+    }
+    0
+}
+
+fn refused_image(f: Fault) -> Image
+    ensures { λ r. ⌜ r ≡ refusedImage f ⌝ }
+{
+    let why = f.why;
+    Image {
+        number: why.number() as u64,
+        count: why.count() as u64,
+        at: f.at as u64,
+        kind: 0,
+        algorithm: 0,
+        cipher: 0,
+        kdf: 0,
+        rounds: 0,
+        checkint: 0,
+        padding: 0,
+        form: 0,
+        blob: nowhere(),
+        point: nowhere(),
+        scalar: nowhere(),
+        comment: nowhere(),
+        salt: nowhere(),
+        ciphertext: nowhere(),
+        tag: nowhere(),
+    }
+}
+
+fn accepted_image(f: Fields, form: bool) -> Image
+    ensures { λ r. ⌜ r ≡ acceptedImage f form ⌝ }
+{
+    let header = f.header;
+    let section = f.section;
+    let kind = section.kind;
+    let algorithm = header.algorithm;
+    let cipher = header.cipher;
+    let kdf = header.kdf;
+    Image {
+        number: 0,
+        count: 0,
+        at: 0,
+        kind: kind_code(kind) as u64,
+        algorithm: algorithm.code() as u64,
+        cipher: cipher_code(cipher) as u64,
+        kdf: kdf_code(kdf) as u64,
+        rounds: header.rounds as u64,
+        checkint: section.checkint as u64,
+        padding: section.padding as u64,
+        form: form_code(form),
+        blob: place_of(header.blob),
+        point: place_of(header.point),
+        scalar: place_of(section.scalar),
+        comment: place_of(section.comment),
+        salt: place_of(header.salt),
+        ciphertext: place_of(section.ciphertext),
+        tag: place_of(section.tag),
+    }
+}
+
+// What a read with the form answered, in numbers.
+pub fn image_of(read: FormRead) -> Image
+    ensures { λ r. ⌜ r ≡ imageOf read ⌝ }
+{
+    match read {
+        FormRead::Refused(f) => refused_image(f),
+        FormRead::Record(fields, form) => accepted_image(fields, form),
+    }
+}
+
+// What a writer answered, in numbers.
+pub fn reply_of(written: Written) -> Reply
+    ensures { λ r. ⌜ r ≡ replyOf written ⌝ }
+{
+    match written {
+        Written::Length(n) => Reply {
+            number: 0,
+            count: 0,
+            at: 0,
+            length: n as u64,
+        },
+        Written::Refused(f) => {
+            let why = f.why;
+            let at = f.at;
+            Reply {
+                number: why.number() as u64,
+                count: why.count() as u64,
+                at: at as u64,
+                length: 0,
+            }
+        }
+    }
+}

@@ -1,0 +1,63 @@
+-- Document 01, 'Keys', in a section: what reading a scalar and a keypair finds, in its order.
+use Prim.Native.Nat.{ℕ, _+_, _-_}
+use mathlib.Core.List.{List}
+use mathlib.Core.Bool.{Bool, cond}
+use lib.ListN.{getD}
+use lib.Dec.{eqb}
+use Rattle.fields.specs.Bytes.{sameBytes}
+use Rattle.fields.specs.Fields.{fault, part, onField, stringAt, fixedAt, viewOf}
+use Rattle.fields.specs.declared.Cursor.{Cursor}
+use Rattle.fields.specs.declared.Fault.{Fault}
+use Rattle.fields.specs.declared.Part.{Part}
+use Rattle.fields.specs.declared.Field.{Field}
+use Rattle.fields.specs.declared.Field.the-variants as field
+use Rattle.fields.specs.declared.Refusal.the-variants.{FormatEncoding, Crypto, AlgorithmUnknown}
+use Rattle.names.specs.declared.Algorithm.{Algorithm}
+use Rattle.names.specs.declared.Algorithm.the-variants.{Ed25519, Ecdsa}
+use Rattle.names.specs.declared.Curve.{Curve}
+use Rattle.names.specs.Algorithms.{algorithmNamed, sizeOf, sameAlgorithm}
+use Rattle.keys.specs.Keys.{onAlgorithmName, onAlgorithm, onEcdsaPublic, ecdsaPublicAt}
+use Rattle.pairs.specs.declared.Keypair.{Keypair}
+use Rattle.pairs.specs.declared.Keypair.the-variants as keypair
+
+-- by what was read
+abbrev pub onKeypair : {R : Type 0} → Keypair → (Fault → R) → (Algorithm → Part → Part → Cursor → R) → R
+onKeypair (keypair.Refused f) refused pair = refused f
+onKeypair (keypair.Pair a p x c) refused pair = pair a p x c
+
+-- a scalar string of size + 1 bytes must begin with 0 (else 2), which is dropped; any other length is a fixed field of size
+unfoldable pub scalarAt : List ℕ → Cursor → ℕ → Field
+scalarAt s c size =
+    onField (stringAt s c) field.Refused (λ p d.
+    cond (eqb (p .length) (size + 1))
+    (cond (eqb (getD s (p .start) 0) 0) (field.Part (part (p .start + 1) size) d) (field.Refused (fault FormatEncoding (c .at))))
+    (fixedAt s c size))
+
+-- in a section a string of 64 follows, seed then public; second half unlike the public string: 3, at the string of 64
+unfoldable pub ed25519PairAt : List ℕ → Cursor → Keypair
+ed25519PairAt s c =
+    onField (fixedAt s c 32) keypair.Refused (λ point d.
+    onField (fixedAt s d 64) keypair.Refused (λ both e.
+    cond (sameBytes (viewOf s (part (both .start + 32) 32)) (viewOf s point))
+    (keypair.Pair Ed25519 point (part (both .start) 32) e)
+    (keypair.Refused (fault Crypto (d .at)))))
+
+-- in a section the scalar string follows, of the size that the curve string sets, and the 4 for a curve unlike the name comes
+-- after the scalar
+unfoldable pub ecdsaPairAt : List ℕ → Cursor → Curve → Keypair
+ecdsaPairAt s c named =
+    onEcdsaPublic (ecdsaPublicAt s c) keypair.Refused (λ k point d.
+    onField (scalarAt s d (sizeOf k)) keypair.Refused (λ scalar e.
+    cond (sameAlgorithm (Ecdsa k) (Ecdsa named)) (keypair.Pair (Ecdsa named) point scalar e)
+    (keypair.Refused (fault AlgorithmUnknown (c .at)))))
+
+-- a keypair is read by its own name
+unfoldable pub keypairAt : List ℕ → Cursor → Keypair
+keypairAt s c =
+    onField (stringAt s c) keypair.Refused (λ name d.
+    onAlgorithmName (algorithmNamed (viewOf s name)) (keypair.Refused (fault AlgorithmUnknown (c .at))) (λ a.
+    onAlgorithm a (ed25519PairAt s d) (ecdsaPairAt s d)))
+
+-- the byte before a part is zero
+unfoldable pub afterZero : List ℕ → Part → Bool
+afterZero s p = eqb (getD s (p .start - 1) 0) 0
