@@ -1,7 +1,8 @@
 #!/usr/bin/env python3
-"""What the gate holds the texts to, beside the proofs: every public function of a library has a contract that asks nothing
-and a theorem NAME-determined, every proof and specification file says at its top what it is, and nothing names a place
-outside the project. It reads text and proves nothing."""
+"""What the gate holds the texts to, beside the proofs: every public function of a library has a contract that asks nothing,
+a theorem NAME-determined and a place in docs/CONTRACTS.md, every proof and specification file says at its top what it is, nothing
+names a place outside the project, and what docs/CONTRACTS.md names is there. It reads text and proves nothing."""
+import glob
 import os
 import re
 import sys
@@ -60,8 +61,44 @@ def texts():
                 yield f"{path} does not say at its top what it is"
 
 
+def all_text(*patterns):
+    files = [f for p in patterns for f in glob.glob(p, recursive=True)]
+    return "\n".join(open(f, encoding="utf-8").read() for f in files)
+
+
+def named_edits(document):
+    """The edits that the table's last column names after E, as CRATE/EDIT, where EDIT may end in a star."""
+    for cell in re.findall(r"\| E ([^|;]*)", document):
+        for crate, edit in re.findall(r"(\w+)/([\w-]*(?:\\\*)?)", cell):
+            yield crate, edit.replace("\\*", "*")
+
+
+def contracts_document():
+    """What docs/CONTRACTS.md names is there: edits, specification files, functions and definitions."""
+    document = open("docs/CONTRACTS.md", encoding="utf-8").read()
+    for crate, edit in named_edits(document):
+        if not glob.glob(f"crates/{crate}/must-fail/{edit}.edit"):
+            yield f"docs/CONTRACTS.md names the edit {crate}/{edit}, which isn't there"
+    for crate, name in re.findall(r"\((\w+)/([A-Z]\w+)\)", document):
+        if not os.path.exists(f"crates/{crate}/specs/{name}.antt"):
+            yield f"docs/CONTRACTS.md names {crate}/{name}, which isn't there"
+    for name in re.findall(r"^\| [^|]*\(([A-Z]\w+)\)", document, re.M):
+        if not os.path.exists(f"crates/claims/specs/{name}.antt"):
+            yield f"docs/CONTRACTS.md names claims/{name}, which isn't there"
+    sources = all_text("crates/**/*.antt", "crates/**/*.rt", "tools/*.py")
+    for name in sorted(set(re.findall(r"`([\w-]+)`", document))):
+        if not re.search(r"(?<![\w-])%s(?![\w-])" % re.escape(name), sources) and not os.path.isdir(f"crates/{name}"):
+            yield f"docs/CONTRACTS.md names {name}, which isn't there"
+    for crate in sorted(os.listdir("crates")):
+        source = os.path.join("crates", crate, "src", "lib.rt")
+        text = without_comments(open(source, encoding="utf-8").read()) if os.path.exists(source) else ""
+        for name, _ in public_functions(text):
+            if not re.search(r"(`|::)%s`" % name, document):
+                yield f"{crate}::{name} isn't in docs/CONTRACTS.md"
+
+
 def main():
-    wrong = list(contracts()) + list(texts())
+    wrong = list(contracts()) + list(texts()) + list(contracts_document())
     for line in wrong:
         print(line)
     print("texts: %s" % ("%d faults" % len(wrong) if wrong else "ok"))

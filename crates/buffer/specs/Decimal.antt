@@ -47,7 +47,7 @@ unfolding digits digitsOf
 digits-none = refl
 
 -- the digits of a number above 0 are its decimal
-pub digits-some : (n : ℕ) → 0 < n → digits n ≡ decimal n
+digits-some : (n : ℕ) → 0 < n → digits n ≡ decimal n
 unfolding decimal digits
 digits-some zero h = absurd (omega arith)
 digits-some (suc n) h = rw (one-more n (suc n) (omega arith), enough n (suc n / 10) (suc n / 10) (omega arith) (omega arith))

@@ -26,7 +26,7 @@ pub start-as :
 start-as {old} {a} {fields} new e h = start (rw e h)
 
 -- the next field fits
-pub next-room :
+next-room :
     {old : List ℕ} {a : ℕ} {fields : List (List ℕ)} {x : List ℕ} {more : List (List ℕ)} {at : ℕ} {out : List ℕ}
     → Left old a fields (x ∷ more) at out → at + length x ≤ length out
 next-room {old} {a} {fields} {x} {more} {at} {out} l =

@@ -4,7 +4,7 @@ ghost use mathlib.Core.Path.{_≡_};
 ghost use Prim.Native.Nat.{_≤_};
 ghost use lib.ListN.{length, take, drop};
 ghost use Rattle.fields.specs.Bytes.{uint32, string};
-ghost use Rattle.format.specs.Format.{short, paddingBytes};
+ghost use Rattle.format.specs.Format.{paddingLength, paddingBytes};
 ghost use Rattle.buffer.specs.Decimal.{lastDigit, decimal};
 ghost use Rattle.buffer.specs.Puts.{isPut, zeros};
 
@@ -65,7 +65,7 @@ pub fn put_string(out: &mut [u8], at: usize, bytes: &[u8]) -> usize
 
 // How many padding bytes take n to a multiple of 8.
 pub fn padding(n: usize) -> usize
-    ensures { λ r. ⌜ r ≡ short n ⌝ }
+    ensures { λ r. ⌜ r ≡ paddingLength n ⌝ }
 {
     (8 - n % 8) % 8
 }

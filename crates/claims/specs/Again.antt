@@ -25,7 +25,7 @@ use Rattle.container.specs.Back.{PlainImageBack, plain-image-back}
 use Rattle.reply.specs.declared.Written.{Written}
 use Rattle.reply.specs.declared.Written.the-variants as written
 use Rattle.plain.specs.Plain.{plainReply}
-use Rattle.comment.specs.Change.{afresh, afreshReply, commentField, recordReply}
+use Rattle.comment.specs.Change.{afresh, afreshReply, commentField, acceptedReply}
 use Rattle.comment.specs.Afresh.{all-take, afresh-shell}
 use Rattle.claims.specs.Bytes.{all-shell}
 use Rattle.claims.specs.Reading.{plain-accepted}
@@ -53,10 +53,10 @@ place-of s all f b =
     p .comment-place ∙ ap₂ (λ (i : ℕ) (zero : Bool). i + 4 + beforeComment a point (standing zero scalar) + 4) (p .section-place) (sym rule)
 
 -- what a change answers, by the base
-pub base-reply :
+base-reply :
     (s : List ℕ) (f : Fields) → Base s f → (comment : List ℕ) (room : ℕ)
-    → recordReply s f comment room ≡ cond (utf8 comment) (afreshReply s f comment room) (written.Refused (fault CharacterEncoding (commentField f)))
-unfolding recordReply
+    → acceptedReply s f comment room ≡ cond (utf8 comment) (afreshReply s f comment room) (written.Refused (fault CharacterEncoding (commentField f)))
+unfolding acceptedReply
 base-reply s f b comment room = rw (b .form, b .plain)
 
 -- two records of the same key and checkint
@@ -84,7 +84,7 @@ module _ (s : List ℕ) (f : Fields) (t : List ℕ) (g : Fields) (k : SameKey s 
 
   -- a change of either answers the same
   pub same-change :
-      AllBytes s → AllBytes t → Base s f → Base t g → (comment : List ℕ) (room : ℕ) → recordReply t g comment room ≡ recordReply s f comment room
+      AllBytes s → AllBytes t → Base s f → Base t g → (comment : List ℕ) (room : ℕ) → acceptedReply t g comment room ≡ acceptedReply s f comment room
   same-change hs ht bs bt comment room =
       base-reply t g bt comment room
       ∙ ap₂ (λ (w : Written) (i : ℕ). cond (utf8 comment) w (written.Refused (fault CharacterEncoding i))) (same-reply comment room) (same-place hs ht bs bt)

@@ -5,7 +5,7 @@ use mathlib.Core.List.{List, [], _∷_, _++_}
 use lib.ListN.{length, take, drop}
 use lib.Seq.{slice, getD-drop}
 use Rattle.fields.specs.Bytes.{uint32, string, AllBytes}
-use Rattle.format.specs.Format.{short, paddingBytes}
+use Rattle.format.specs.Format.{paddingLength, paddingBytes}
 use Rattle.comment.specs.Afresh.{all-take}
 use Rattle.comment.specs.Shell.{bare, shellFields, shellAt}
 
@@ -50,4 +50,4 @@ all-shell old section field comment all text =
     (all-append (uint32 _) _ (all-uint32 _)
     (all-append (slice (section + 4) field old) _ (all-drop (section + 4) (take field old) (all-take field old all))
     (all-append (string comment) _ (all-string comment text)
-    (all-append (take (short (bare section field comment)) paddingBytes) [] (all-take (short (bare section field comment)) paddingBytes all-padding) all-none))))
+    (all-append (take (paddingLength (bare section field comment)) paddingBytes) [] (all-take (paddingLength (bare section field comment)) paddingBytes all-padding) all-none))))

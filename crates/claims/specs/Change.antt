@@ -25,7 +25,7 @@ use Rattle.reply.specs.declared.Written.{Written}
 use Rattle.reply.specs.declared.Written.the-variants as written
 use Rattle.reply.specs.Reply.{refused}
 use Rattle.plain.specs.Plain.{plainReply, plainLeft}
-use Rattle.comment.specs.Change.{afresh, afreshReply, afreshLeft, commentField, recordReply, changeReply, changeLeft}
+use Rattle.comment.specs.Change.{afresh, afreshReply, afreshLeft, commentField, acceptedReply, changeReply, changeLeft}
 use Rattle.claims.specs.Laid.{laid, laid-out, laid-length, changed-laid}
 use Rattle.claims.specs.Reading.{held, plain-accepted, plain-written}
 
@@ -60,8 +60,8 @@ by-read s (read.Refused f) P k w e = clash cc
 by-read s (read.Record f) P k w e = read-held f w e
 
 module _ (old : List ℕ) (n : ℕ) (comment : List ℕ) (k : ℕ) where
-  record-held : n ≤ 65535 → n ≤ length old → ReadHeld (take n old) (λ f. recordReply (take n old) f comment (length old)) k → ChangeAccepted old n comment k
-  unfolding recordReply afreshReply
+  record-held : n ≤ 65535 → n ≤ length old → ReadHeld (take n old) (λ f. acceptedReply (take n old) f comment (length old)) k → ChangeAccepted old n comment k
+  unfolding acceptedReply afreshReply
   record-held small inside (read-held f r e) =
       let h₁ = by-kind (f .section .kind) _ k e in
       let h₂ = held (formOf (take n old) f) Form _ k (h₁ .1) in

@@ -17,8 +17,8 @@ use Rattle.names.specs.declared.Algorithm.the-variants.{Ed25519, Ecdsa}
 use Rattle.names.specs.declared.Curve.{Curve}
 use Rattle.names.specs.declared.Kdf.{Kdf}
 use Rattle.names.specs.declared.Kdf.the-variants as kdf
-use Rattle.format.specs.Format.{OptionsFit, blob, mayStand, needsLeadingZero, writtenImage, encryptedImage}
-use Rattle.pairs.specs.Pairs.{afterZero}
+use Rattle.format.specs.Format.{OptionsFit, standing, mayStand, leadingZero, needsLeadingZero, plainImage, writtenImage, encryptedImage}
+use Rattle.format.specs.Laws.{key-small, standing-same}
 use Rattle.key_laws.specs.Back.{blob-back}
 use Rattle.section.specs.declared.Kind.the-variants.{Plain, Encrypted}
 use Rattle.container.specs.declared.Fields.{Fields}
@@ -48,10 +48,17 @@ encrypted-in-form s all f e kind = go (image-text s all f e)
     go (plain-text plain p) = let o : Plain ≡ Encrypted = sym plain ∙ kind in cc
     go (encrypted-text encrypted p) = form-encrypted s f p encrypted
 
+-- the image is what the format writes of its fields, with a zero before the scalar or without one
+abbrev pub Stands : List ℕ → Fields → Bool → Type 0
+Stands s f zero =
+    s
+    ≡ plainImage (f .section .checkint) (f .header .algorithm) (viewOf s (f .header .point)) (standing zero (viewOf s (f .section .scalar)))
+    (viewOf s (f .section .comment))
+
 -- what breaks the form: a zero stands before a scalar byte below 0x80, or none before one of 0x80 or more
 pub data Slip (s : List ℕ) (f : Fields) : Type 0 where
-  needless : (k : Curve) → f .header .algorithm ≡ Ecdsa k → afterZero s (f .section .scalar) ≡ true → getD (viewOf s (f .section .scalar)) 0 0 < 0x80 → Slip s f
-  missing : (k : Curve) → f .header .algorithm ≡ Ecdsa k → afterZero s (f .section .scalar) ≡ false → 0x80 ≤ getD (viewOf s (f .section .scalar)) 0 0 → Slip s f
+  needless : (k : Curve) → f .header .algorithm ≡ Ecdsa k → Stands s f true → getD (viewOf s (f .section .scalar)) 0 0 < 0x80 → Slip s f
+  missing : (k : Curve) → f .header .algorithm ≡ Ecdsa k → Stands s f false → 0x80 ≤ getD (viewOf s (f .section .scalar)) 0 0 → Slip s f
 
 agree-with-true : (w : Bool) → agree w true ≡ w
 agree-with-true true = refl
@@ -62,7 +69,7 @@ agree-with-false true = refl
 agree-with-false false = refl
 
 slip-by :
-    (s : List ℕ) (f : Fields) (a : Algorithm) → f .header .algorithm ≡ a → (zero : Bool) → afterZero s (f .section .scalar) ≡ zero
+    (s : List ℕ) (f : Fields) (a : Algorithm) → f .header .algorithm ≡ a → (zero : Bool) → Stands s f zero
     → mayStand a zero ≡ true → agree (needsLeadingZero a (viewOf s (f .section .scalar))) zero ≡ false → Slip s f
 slip-by s f Ed25519 q true z may w = clash cc
 slip-by s f Ed25519 q false z may w = clash cc
@@ -70,30 +77,37 @@ slip-by s f (Ecdsa k) q true z may w = needless k q z (leb-false _ _ (sym (agree
 slip-by s f (Ecdsa k) q false z may w = missing k q z (leb-true _ _ (not-false _ (sym (agree-with-false (leb 0x80 (getD (viewOf s (f .section .scalar)) 0 0))) ∙ w)))
 
 -- the rule by the first byte
-rule-by : (k : Curve) (a : Algorithm) (scalar : List ℕ) (b : Bool) → a ≡ Ecdsa k → leb 0x80 (getD scalar 0 0) ≡ b → needsLeadingZero a scalar ≡ b
+rule-by : (k : Curve) (a : Algorithm) (scalar : List ℕ) (b : Bool) → a ≡ Ecdsa k → leadingZero scalar ≡ b → needsLeadingZero a scalar ≡ b
 rule-by k a scalar b q w = rw q w
+
+-- a scalar stands in one way only
+stands-once : (s : List ℕ) (f : Fields) (p : PlainText s f) (zero : Bool) → Stands s f zero → p .zero ≡ zero
+stands-once s f p zero z =
+    let k = key-small (f .header .algorithm) in
+    standing-same (f .section .checkint) (f .header .algorithm) (viewOf s (f .header .point)) (viewOf s (f .section .scalar)) (viewOf s (f .section .comment)) (p .zero) zero
+    (omega (arith, p .key-fits .long, k)) (omega (arith, p .key-fits .private, k)) (sym (p .text) ∙ z)
 
 module _ (s : List ℕ) (all : AllBytes s) (f : Fields) (e : readAt s ≡ read.Record f) (plain : f .section .kind ≡ Plain) where
   -- an accepted plain image that isn't in the form has one of the two slips
   pub form-fails : formOf s f ≡ false → Slip s f
   form-fails broken =
       let p = plain-of s all f e plain in
-      slip-by s f (f .header .algorithm) refl (p .zero) (p .after) (p .key-fits .may) (sym (form-agrees s f p plain) ∙ broken)
+      slip-by s f (f .header .algorithm) refl (p .zero) (p .text) (p .key-fits .may) (sym (form-agrees s f p plain) ∙ broken)
 
   -- and either slip takes it out of the form
   pub slip-fails : Slip s f → formOf s f ≡ false
   slip-fails (needless k q z below) =
       let p = plain-of s all f e plain in
       form-agrees s f p plain
-      ∙ ap₂ agree (rule-by k (f .header .algorithm) (viewOf s (f .section .scalar)) false q (lt-leb _ _ below)) (sym (p .after) ∙ z)
+      ∙ ap₂ agree (rule-by k (f .header .algorithm) (viewOf s (f .section .scalar)) false q (lt-leb _ _ below)) (stands-once s f p true z)
   slip-fails (missing k q z above) =
       let p = plain-of s all f e plain in
       form-agrees s f p plain
-      ∙ ap₂ agree (rule-by k (f .header .algorithm) (viewOf s (f .section .scalar)) true q (le-leb _ _ above)) (sym (p .after) ∙ z)
+      ∙ ap₂ agree (rule-by k (f .header .algorithm) (viewOf s (f .section .scalar)) true q (le-leb _ _ above)) (stands-once s f p false z)
 
 -- ---- write after read
 
-pub sized-fits : (image : List ℕ) (room : ℕ) → length image ≤ 65535 → length image ≤ room → sized image room ≡ written.Length (length image)
+sized-fits : (image : List ℕ) (room : ℕ) → length image ≤ 65535 → length image ≤ room → sized image room ≡ written.Length (length image)
 unfolding sized
 sized-fits image room h k = rw (le-leb _ _ h, le-leb _ _ k)
 

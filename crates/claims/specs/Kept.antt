@@ -13,7 +13,7 @@ use Rattle.container.specs.declared.ImageRead.the-variants as read
 use Rattle.container.specs.Container.{readAt}
 use Rattle.reply.specs.declared.Written.the-variants as written
 use Rattle.plain.specs.Plain.{plainReply}
-use Rattle.comment.specs.Change.{afresh, recordReply, changeReply, changeLeft}
+use Rattle.comment.specs.Change.{afresh, acceptedReply, changeReply, changeLeft}
 use Rattle.comment.specs.Afresh.{all-take}
 use Rattle.claims.specs.Laid.{laid, laid-image, laid-length, relaid}
 use Rattle.claims.specs.Reading.{plain-accepted}
@@ -27,7 +27,7 @@ pub record State : Type 0 where
 
 change-of :
     (old : List ℕ) (n : ℕ) (f : Fields) → n ≤ 65535 → n ≤ length old → Base (take n old) f → (comment : List ℕ)
-    → changeReply old n comment ≡ recordReply (take n old) f comment (length old)
+    → changeReply old n comment ≡ acceptedReply (take n old) f comment (length old)
 unfolding changeReply
 change-of old n f small inside b comment = rw (le-leb _ _ small, le-leb _ _ inside, b .was-read)
 
@@ -88,7 +88,7 @@ module _ (s : State) (all : AllBytes (s .buf)) (comment : List ℕ) (far : ℕ) 
   reply-again c =
       let g = again .fields in
       change-of (u .buf) (u .n) g small-again inside-again base-again c
-      ∙ ap₂ (λ (t : List ℕ) (room : ℕ). recordReply t g c room) first-bytes same-room
+      ∙ ap₂ (λ (t : List ℕ) (room : ℕ). acceptedReply t g c room) first-bytes same-room
       ∙ same-change (take (s .n) (s .buf)) (k .fields) (imageOf comment) g (again .same-key) (all-take (s .n) (s .buf) all)
       (afresh-bytes (s .buf) (s .n) (k .inside) all (k .fields) (k .base) comment (k .bytes)) (k .base) (again .base) c (length (s .buf))
       ∙ sym (change-of (s .buf) (s .n) (k .fields) (k .small) (k .inside) (k .base) c)

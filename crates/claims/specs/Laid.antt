@@ -17,11 +17,11 @@ module _ (image : List ℕ) (z : ℕ) (base : List ℕ) where
   unfolding laid
   laid-image = take-at image _ _ refl
 
-  pub laid-zeros : take z (drop (length image) (laid image z base)) ≡ zeros z
+  laid-zeros : take z (drop (length image) (laid image z base)) ≡ zeros z
   unfolding laid
   laid-zeros = ap (take z) (drop-at image _ _ refl) ∙ take-at (zeros z) _ _ (zeros-length z)
 
-  pub laid-rest : drop (length image + z) (laid image z base) ≡ drop (length image + z) base
+  laid-rest : drop (length image + z) (laid image z base) ≡ drop (length image + z) base
   unfolding laid
   laid-rest = drop-append-add image _ z ∙ drop-at (zeros z) _ _ (zeros-length z)
 

@@ -5,6 +5,7 @@ pub mod Sealed
 pub mod Form
 pub mod Laid
 pub mod Change
+pub mod Front
 pub mod Bytes
 pub mod Again
 pub mod Kept
@@ -15,3 +16,4 @@ pub mod Ordered
 pub mod Sizes
 pub mod Marked
 pub mod ShutOut
+pub mod Printed

@@ -130,7 +130,7 @@ p256-not-in-form first zero rule n point scalar comment fit key begins text smal
 
 -- ---- the table
 
--- c is the comment's length in ASCII bytes. A refused image has its number, count and place; a written one its length and padding.
+-- c is the comment's length in ASCII bytes. A refused image has its number, count and place; a written one its length, and the padding with which it is read.
 pub record Marked : Type 0 where
   -- empty image: 1
   pub m1 : Refuses [] 1 0 0

@@ -36,7 +36,7 @@ use Rattle.reply.specs.declared.Written.the-variants as written
 use Rattle.reply.specs.Reply.{Told, told, refused, unless, sized}
 use Rattle.plain.specs.Plain.{plainReply}
 use Rattle.encrypted.specs.Encrypted.{optionsFit, encryptedReply}
-use Rattle.comment.specs.Change.{afresh, afreshReply, commentField, recordReply, changeReply}
+use Rattle.comment.specs.Change.{afresh, afreshReply, commentField, acceptedReply, changeReply}
 use Rattle.comment.specs.Afresh.{afresh-sized}
 use Rattle.claims.specs.Refusals.{by-kind}
 
@@ -246,9 +246,9 @@ comment-first s f comment room p =
 
 record-first :
     (s : List ℕ) (f : Fields) (comment : List ℕ) (room : ℕ) → (f .section .kind ≡ Plain → PlainText s f)
-    → told (recordReply s f comment room)
+    → told (acceptedReply s f comment room)
     ≡ first (recordConditions s f comment room) (length (afresh s f comment))
-unfolding recordReply
+unfolding acceptedReply
 record-first s f comment room text =
     by-kind (f .section .kind)
     (λ k.
@@ -274,7 +274,7 @@ pub change-first :
 unfolding changeReply
 change-first old n comment all =
     let s = take n old in
-    let w = onRead (readAt s) written.Refused (λ f. recordReply s f comment (length old)) in
+    let w = onRead (readAt s) written.Refused (λ f. acceptedReply s f comment (length old)) in
     let c = onRead (readAt s) (λ g. readCondition g ∷ []) (λ f. recordConditions s f comment (length old)) in
     then-first (ltb 65535 n) (leb n 65535) (above 65535 n) Size refl (unless (leb n (length old)) Length w) (says (ltb (length old) n) 1 ∷ c)
     (changedLength old n comment)

@@ -1,5 +1,4 @@
--- Demand 2: reading and writing. Read after write gives the record; write after read gives the image exactly where it is in the
--- form; what the definition of the format admits within the limits is not refused.
+-- Demand 2, plain images: read after write gives the record; what the definition of the format admits within the limits is not refused.
 use Prim.Native.Nat.{ℕ, _+_, _≤_, _<_, _^_}
 use native.Mathlib.Omega.{arith}
 use mathlib.Core.Path.{_≡_, refl, sym, ap}
@@ -12,7 +11,7 @@ use Rattle.fields.specs.Place.{clash}
 use Rattle.fields.specs.declared.Refusal.{Refusal}
 use Rattle.names.specs.declared.Algorithm.{Algorithm}
 use Rattle.names.specs.declared.Algorithm.the-variants.{Ed25519, Ecdsa}
-use Rattle.format.specs.Format.{standing, mayStand, needsLeadingZero, short, content, plainImage, writtenImage}
+use Rattle.format.specs.Format.{standing, mayStand, needsLeadingZero, paddingLength, content, plainImage, writtenImage}
 use Rattle.section.specs.Back.{KeyFits}
 use Rattle.container.specs.Back.{PlainImageBack, plain-image-back}
 use Rattle.buffer.specs.Puts.{take-splice}
@@ -38,7 +37,7 @@ sized-held image room k e =
     (leb-true _ _ (h₁ .0), leb-true _ _ (h₂ .0), sym o)
 
 -- a rule's zero may stand
-rule-may : (a : Algorithm) (scalar : List ℕ) → mayStand a (needsLeadingZero a scalar) ≡ true
+pub rule-may : (a : Algorithm) (scalar : List ℕ) → mayStand a (needsLeadingZero a scalar) ≡ true
 rule-may Ed25519 scalar = refl
 rule-may (Ecdsa k) scalar = refl
 
@@ -88,7 +87,7 @@ module _ (a : Algorithm) (point scalar : List ℕ) (n : ℕ) (comment : List ℕ
   pub read-after-write :
       (old : List ℕ) (k : ℕ) → n < 2 ^ 32 → plainReply a point scalar n comment (length old) ≡ written.Length k
       → PlainImageBack (take k (plainLeft a point scalar n comment old)) n a point scalar comment
-      (short (length (content n a point (standing (needsLeadingZero a scalar) scalar) comment)))
+      (paddingLength (length (content n a point (standing (needsLeadingZero a scalar) scalar) comment)))
   unfolding writtenImage
   read-after-write old k small e =
       let h = plain-accepted (length old) k e in
@@ -102,6 +101,6 @@ pub plain-admitted :
     (n : ℕ) (a : Algorithm) (zero : Bool) (point scalar comment : List ℕ) → n < 2 ^ 32 → KeyFits a zero point scalar comment
     → length (plainImage n a point (standing zero scalar) comment) ≤ 65535
     → PlainImageBack (plainImage n a point (standing zero scalar) comment) n a point scalar comment
-    (short (length (content n a point (standing zero scalar) comment)))
+    (paddingLength (length (content n a point (standing zero scalar) comment)))
 plain-admitted n a zero point scalar comment small fits limit =
     plain-image-back (plainImage n a point (standing zero scalar) comment) n a zero point scalar comment limit small fits refl

@@ -1,34 +1,35 @@
 -- What the contracts shut out: no program that meets its contract refuses everything, replies the same always, stores nothing, makes
 -- up the count of number 6, or changes the first comment and only says so for later ones. A program here is any function of what it
--- is given.
+-- is given, which is bytes, a checkint of 32 bits and a length of 64; of anything else nothing is asked.
 use Prim.Native.Nat.{ℕ, zero, suc, _-_, _<_, _^_}
 use native.Mathlib.Omega.{arith}
 use mathlib.Core.Path.{_≡_, refl, sym, _∙_, ap}
-use mathlib.Core.Bool.{true}
+use mathlib.Core.Bool.{Bool, true, _&&_}
 use mathlib.Core.List.{List, [], _∷_}
-use borrow.Author.Tests.{le-leb}
+use borrow.Author.Tests.{le-leb, ltb-true}
+use lib.Dec.{ltb}
 use lib.ListN.{length, take, getD, replicate}
 use lib.Seq.{take-length}
-use Rattle.fields.specs.Bytes.{uint32, string, same-self}
+use Rattle.fields.specs.Bytes.{uint32, string, AllBytes, both-true, same-self}
 use Rattle.fields.specs.Place.{clash}
 use Rattle.fields.specs.Refusals.{numberOf, countOf}
 use Rattle.fields.specs.declared.Fault.{Fault}
 use Rattle.names.specs.declared.Algorithm.{Algorithm}
 use Rattle.names.specs.declared.Algorithm.the-variants.{Ed25519}
-use Rattle.format.specs.Format.{magic, blob, header, standing, needsLeadingZero, short, content, section, plainImage, writtenImage}
+use Rattle.format.specs.Format.{magic, blob, header, standing, needsLeadingZero, paddingLength, content, section, plainImage, writtenImage}
 use Rattle.container.specs.declared.ImageRead.{ImageRead}
 use Rattle.container.specs.declared.ImageRead.the-variants as read
-use Rattle.container.specs.Container.{readAt}
+use Rattle.container.specs.Container.{answersRead}
 use Rattle.container.specs.Back.{PlainImageBack, plain-image-back}
 use Rattle.container.specs.Form.{rewritten, formOf}
 use Rattle.reply.specs.declared.Written.{Written}
 use Rattle.reply.specs.declared.Written.the-variants as written
 use Rattle.plain.specs.Plain.{plainReply, plainLeft, isPlain}
-use Rattle.comment.specs.Change.{afreshReply, afreshLeft, recordReply, changeReply, changeLeft}
+use Rattle.comment.specs.Change.{afreshReply, afreshLeft, acceptedReply, changeReply, changeLeft, isChange}
 use Rattle.claims.specs.Reading.{PlainAccepted, plain-accepted, plain-written}
 use Rattle.claims.specs.Laid.{laid, laid-length, changed-laid, laid-out}
 use Rattle.claims.specs.Sizes.{Key, Ascii, ed25519-takes}
-use Rattle.claims.specs.Marked.{other-scalars, marked}
+use Rattle.claims.specs.Marked.{p256Image, other-scalars, marked}
 
 -- ---- plain writers
 
@@ -37,10 +38,18 @@ pub record Writer : Type 0 where
   pub reply : Algorithm → List ℕ → List ℕ → ℕ → List ℕ → List ℕ → Written
   pub leaves : Algorithm → List ℕ → List ℕ → ℕ → List ℕ → List ℕ → List ℕ
 
+-- what it can be given
+pub record Given (point scalar : List ℕ) (n : ℕ) (comment old : List ℕ) : Type 0 where
+  pub point-bytes : AllBytes point
+  pub scalar-bytes : AllBytes scalar
+  pub checkint-fits : n < 2 ^ 32
+  pub comment-bytes : AllBytes comment
+  pub buffer-bytes : AllBytes old
+
 -- that it meets the contract of a plain write, whatever it is given
 abbrev pub MeetsPlain : Writer → Type 0
 MeetsPlain w =
-    (a : Algorithm) (point scalar : List ℕ) (n : ℕ) (comment old : List ℕ)
+    (a : Algorithm) (point scalar : List ℕ) (n : ℕ) (comment old : List ℕ) → Given point scalar n comment old
     → isPlain a point scalar n comment old (w .reply a point scalar n comment old) (w .leaves a point scalar n comment old)
 
 -- an Ed25519 key, as good as any
@@ -67,31 +76,69 @@ takes-242 = marked .m7 bytes32 bytes32 7 (replicate 6 97) key (letters 6) refl .
 abbrev buffer : List ℕ
 buffer = replicate 300 0
 
+-- bytes, by a test of each
+unfoldable below : List ℕ → Bool
+below [] = true
+below (x ∷ xs) = ltb x 256 && below xs
+
+all-below : (s : List ℕ) → below s ≡ true → AllBytes s
+unfolding below
+all-below [] e i = omega arith
+all-below (x ∷ xs) e zero = ltb-true x 256 (both-true (ltb x 256) (below xs) e .0)
+all-below (x ∷ xs) e (suc i) = all-below xs (both-true (ltb x 256) (below xs) e .1) i
+
+given-none : Given bytes32 bytes32 7 [] buffer
+unfolding below
+given-none =
+    record {
+      point-bytes = all-below bytes32 refl;
+      scalar-bytes = all-below bytes32 refl;
+      checkint-fits = omega arith;
+      comment-bytes = all-below [] refl;
+      buffer-bytes = all-below buffer refl;
+    }
+
+given-six : Given bytes32 bytes32 7 (replicate 6 97) buffer
+unfolding below
+given-six =
+    record {
+      point-bytes = all-below bytes32 refl;
+      scalar-bytes = all-below bytes32 refl;
+      checkint-fits = omega arith;
+      comment-bytes = all-below (replicate 6 97) refl;
+      buffer-bytes = all-below buffer refl;
+    }
+
 module _ (w : Writer) (meets : MeetsPlain w) where
   -- no writer that meets the contract refuses everything: an Ed25519 key is written
   pub refuses-all :
-      ((a : Algorithm) (point scalar : List ℕ) (n : ℕ) (comment old : List ℕ) → (g : Fault) × (w .reply a point scalar n comment old ≡ written.Refused g)) → ⊥
+      ((a : Algorithm) (point scalar : List ℕ) (n : ℕ) (comment old : List ℕ) → Given point scalar n comment old
+      → (g : Fault) × (w .reply a point scalar n comment old ≡ written.Refused g))
+      → ⊥
   refuses-all refuses =
-      let r = refuses Ed25519 bytes32 bytes32 7 [] buffer in
-      let e : written.Refused (r .0) ≡ written.Length 234 = sym (r .1) ∙ meets Ed25519 bytes32 bytes32 7 [] buffer .0 ∙ takes-234 in
+      let r = refuses Ed25519 bytes32 bytes32 7 [] buffer given-none in
+      let e : written.Refused (r .0) ≡ written.Length 234 = sym (r .1) ∙ meets Ed25519 bytes32 bytes32 7 [] buffer given-none .0 ∙ takes-234 in
       clash cc
 
   -- none replies the same always: M5 and M7 have different lengths
   pub replies-same :
-      (r : Written) → ((a : Algorithm) (point scalar : List ℕ) (n : ℕ) (comment old : List ℕ) → w .reply a point scalar n comment old ≡ r) → ⊥
+      (r : Written)
+      → ((a : Algorithm) (point scalar : List ℕ) (n : ℕ) (comment old : List ℕ) → Given point scalar n comment old → w .reply a point scalar n comment old ≡ r)
+      → ⊥
   replies-same r same =
-      let e₁ : r ≡ written.Length 234 = sym (same Ed25519 bytes32 bytes32 7 [] buffer) ∙ meets Ed25519 bytes32 bytes32 7 [] buffer .0 ∙ takes-234 in
+      let e₁ : r ≡ written.Length 234 = sym (same Ed25519 bytes32 bytes32 7 [] buffer given-none) ∙ meets Ed25519 bytes32 bytes32 7 [] buffer given-none .0 ∙ takes-234 in
       let e₂ : r ≡ written.Length 242 =
-      sym (same Ed25519 bytes32 bytes32 7 (replicate 6 97) buffer) ∙ meets Ed25519 bytes32 bytes32 7 (replicate 6 97) buffer .0 ∙ takes-242 in
+      sym (same Ed25519 bytes32 bytes32 7 (replicate 6 97) buffer given-six) ∙ meets Ed25519 bytes32 bytes32 7 (replicate 6 97) buffer given-six .0 ∙ takes-242 in
       let e : _≡_ {A = ℕ} 234 242 = cc in
       omega arith
 
   -- none stores nothing: where an image was written, the buffer begins with the magic
   pub stores-nothing :
-      ((a : Algorithm) (point scalar : List ℕ) (n : ℕ) (comment old : List ℕ) → w .leaves a point scalar n comment old ≡ old) → ⊥
+      ((a : Algorithm) (point scalar : List ℕ) (n : ℕ) (comment old : List ℕ) → Given point scalar n comment old → w .leaves a point scalar n comment old ≡ old)
+      → ⊥
   unfolding writtenImage plainImage header magic
   stores-nothing same =
-      let kept : plainLeft Ed25519 bytes32 bytes32 7 [] buffer ≡ buffer = sym (meets Ed25519 bytes32 bytes32 7 [] buffer .1) ∙ same Ed25519 bytes32 bytes32 7 [] buffer in
+      let kept : plainLeft Ed25519 bytes32 bytes32 7 [] buffer ≡ buffer = sym (meets Ed25519 bytes32 bytes32 7 [] buffer given-none .1) ∙ same Ed25519 bytes32 bytes32 7 [] buffer given-none in
       let image : take 234 buffer ≡ writtenImage 7 Ed25519 bytes32 bytes32 [] =
       ap (take 234) (sym kept) ∙ plain-written Ed25519 bytes32 bytes32 7 [] buffer 234 takes-234 in
       let e : _≡_ {A = ℕ} 0 111 = ap (λ (l : List ℕ). getD l 0 0) image in
@@ -102,13 +149,16 @@ module _ (w : Writer) (meets : MeetsPlain w) where
 -- no reader that meets the contract makes up the count, one for all refusals with number 6: a scalar field of 34 bytes has 2 too
 -- many (M13), one of 35 bytes 3
 pub made-up-count :
-    (reader : List ℕ → ImageRead) → ((s : List ℕ) → reader s ≡ readAt s)
-    → (count : ℕ) → ((s : List ℕ) (g : Fault) → reader s ≡ read.Refused g → numberOf (g .why) ≡ 6 → countOf (g .why) ≡ count) → ⊥
+    (reader : List ℕ → ImageRead) → ((s : List ℕ) → AllBytes s → answersRead s (reader s))
+    → (count : ℕ) → ((s : List ℕ) (g : Fault) → AllBytes s → reader s ≡ read.Refused g → numberOf (g .why) ≡ 6 → countOf (g .why) ≡ count) → ⊥
+unfolding below p256Image plainImage header section content blob string uint32 magic
 made-up-count reader meets count same =
     let two = other-scalars .1 in
     let three = other-scalars .3 in
-    let e₁ = same _ _ (meets _ ∙ two .read) (two .number-is) in
-    let e₂ = same _ _ (meets _ ∙ three .read) (three .number-is) in
+    let bytes-two = all-below (p256Image (replicate 34 9)) refl in
+    let bytes-three = all-below (p256Image (replicate 35 9)) refl in
+    let e₁ = same _ _ bytes-two (meets _ bytes-two .0 ∙ two .read) (two .number-is) in
+    let e₂ = same _ _ bytes-three (meets _ bytes-three .0 ∙ three .read) (three .number-is) in
     let c₁ = two .count-is in
     let c₂ = three .count-is in
     omega arith
@@ -122,7 +172,9 @@ pub record Changer : Type 0 where
 
 -- that it meets the contract of a change, whatever it is given
 abbrev pub MeetsChange : Changer → Type 0
-MeetsChange w = (old : List ℕ) (n : ℕ) (comment : List ℕ) → (w .reply old n comment ≡ changeReply old n comment) × (w .leaves old n comment ≡ changeLeft old n comment)
+MeetsChange w =
+    (old : List ℕ) (n : ℕ) (comment : List ℕ) → AllBytes old → n < 2 ^ 64 → AllBytes comment
+    → isChange old n comment (w .reply old n comment) (w .leaves old n comment)
 
 -- a written image in a buffer of its length, changed to a comment that takes the same length, becomes the image with that comment
 module _ (a : Algorithm) (point scalar : List ℕ) (n : ℕ) (fit : n < 2 ^ 32) (first second : List ℕ) (k : ℕ)
@@ -130,7 +182,7 @@ module _ (a : Algorithm) (point scalar : List ℕ) (n : ℕ) (fit : n < 2 ^ 32) 
   abbrev s : List ℕ
   s = writtenImage n a point scalar first
 
-  back : PlainImageBack s n a point scalar first (short (length (content n a point (standing (needsLeadingZero a scalar) scalar) first)))
+  back : PlainImageBack s n a point scalar first (paddingLength (length (content n a point (standing (needsLeadingZero a scalar) scalar) first)))
   unfolding writtenImage
   back = plain-image-back s n a (needsLeadingZero a scalar) point scalar first (was .small) fit (was .fits) refl
 
@@ -143,7 +195,7 @@ module _ (a : Algorithm) (point scalar : List ℕ) (n : ℕ) (fit : n < 2 ^ 32) 
       rw (back .plain, back .same-checkint, back .same-algorithm, back .same-point, back .same-scalar, back .same-comment) (same-self s)
 
   change-reply : changeReply s k second ≡ written.Length k
-  unfolding changeReply recordReply afreshReply
+  unfolding changeReply acceptedReply afreshReply
   change-reply =
       let will = plain-accepted a point scalar n second k k fits in
       rw (all, le-leb k 65535 (omega (arith, was .small, was .size)), le-leb k (length s) (omega (arith, was .size)), back .read, back .plain, in-form)
@@ -189,21 +241,34 @@ letter-at : (letter : ℕ) → getD (lettered letter) 229 0 ≡ letter
 unfolding writtenImage plainImage header magic blob section content string uint32
 letter-at letter = refl
 
+-- two of them, made of bytes
+lettered-bytes : AllBytes (lettered 97) × AllBytes (lettered 98)
+unfolding below writtenImage plainImage header magic blob section content string uint32
+lettered-bytes = (all-below (lettered 97) refl, all-below (lettered 98) refl)
+
+letter-bytes : AllBytes (98 ∷ []) × AllBytes (99 ∷ [])
+unfolding below
+letter-bytes = (all-below (98 ∷ []) refl, all-below (99 ∷ []) refl)
+
 -- no comment change that meets the contract changes the first comment and only says so for later ones, leaving the buffer as the
 -- first change left it wherever it accepts the next
 pub first-only :
     (w : Changer) → MeetsChange w
-    → ((old : List ℕ) (n : ℕ) (first second : List ℕ) (k m : ℕ) → w .reply old n first ≡ written.Length k
-    → w .reply (w .leaves old n first) k second ≡ written.Length m → w .leaves (w .leaves old n first) k second ≡ w .leaves old n first)
+    → ((old : List ℕ) (n : ℕ) (first second : List ℕ) (k m : ℕ) → AllBytes old → n < 2 ^ 64 → AllBytes first → AllBytes second
+    → w .reply old n first ≡ written.Length k → w .reply (w .leaves old n first) k second ≡ written.Length m
+    → w .leaves (w .leaves old n first) k second ≡ w .leaves old n first)
     → ⊥
 first-only w meets stays =
     let to-b = relettered 97 98 (omega arith) (omega arith) in
     let to-c = relettered 98 99 (omega arith) (omega arith) in
-    let b : w .leaves (lettered 97) 234 (98 ∷ []) ≡ lettered 98 = meets (lettered 97) 234 (98 ∷ []) .1 ∙ to-b .1 in
-    let c : w .leaves (lettered 98) 234 (99 ∷ []) ≡ lettered 99 = meets (lettered 98) 234 (99 ∷ []) .1 ∙ to-c .1 in
+    let small : 234 < 2 ^ 64 = omega arith in
+    let first = meets (lettered 97) 234 (98 ∷ []) (lettered-bytes .0) small (letter-bytes .0) in
+    let second = meets (lettered 98) 234 (99 ∷ []) (lettered-bytes .1) small (letter-bytes .1) in
+    let b : w .leaves (lettered 97) 234 (98 ∷ []) ≡ lettered 98 = first .1 ∙ to-b .1 in
+    let c : w .leaves (lettered 98) 234 (99 ∷ []) ≡ lettered 99 = second .1 ∙ to-c .1 in
     let same : w .leaves (lettered 98) 234 (99 ∷ []) ≡ lettered 98 =
     rw b at
-    (stays (lettered 97) 234 (98 ∷ []) (99 ∷ []) 234 234 (meets (lettered 97) 234 (98 ∷ []) .0 ∙ to-b .0)
-    (rw b (meets (lettered 98) 234 (99 ∷ []) .0 ∙ to-c .0))) in
+    (stays (lettered 97) 234 (98 ∷ []) (99 ∷ []) 234 234 (lettered-bytes .0) small (letter-bytes .0) (letter-bytes .1) (first .0 ∙ to-b .0)
+    (rw b (second .0 ∙ to-c .0))) in
     let e : _≡_ {A = ℕ} 99 98 = sym (letter-at 99) ∙ ap (λ (l : List ℕ). getD l 229 0) (sym c ∙ same) ∙ letter-at 98 in
     omega arith

@@ -1,7 +1,8 @@
 -- How long an image the plain writer makes of a key and an ASCII comment, and with how much padding: by the lengths alone, for every
 -- key, checkint and comment of that length.
-use Prim.Native.Nat.{ℕ, _+_, _≤_, _<_}
-use mathlib.Core.Path.{_≡_, _∙_, ap}
+use Prim.Native.Nat.{ℕ, _+_, _≤_, _<_, _^_}
+use native.Mathlib.Omega.{arith}
+use mathlib.Core.Path.{_≡_, refl, _∙_, ap}
 use mathlib.Core.Bool.{true}
 use mathlib.Core.List.{List, [], _∷_}
 use borrow.Author.Tests.{eq-eqb, le-leb, lt-leb}
@@ -11,11 +12,14 @@ use Rattle.names.specs.declared.Algorithm.{Algorithm}
 use Rattle.names.specs.declared.Algorithm.the-variants.{Ed25519, Ecdsa}
 use Rattle.names.specs.declared.Curve.the-variants.{Nistp256}
 use Rattle.utf8.specs.Laws.{ascii-utf8}
-use Rattle.format.specs.Format.{publicLength, privateLength, pointTag, standing, needsLeadingZero, short, content, writtenImage}
+use Rattle.format.specs.Format.{publicLength, privateLength, pointTag, needsLeadingZero, paddingLength, writtenImage}
 use Rattle.format.specs.Lengths.{blobLength, contentLength, written-content-length, written-length}
+use Rattle.section.specs.Back.{KeyFits}
+use Rattle.container.specs.Back.{PlainImageBack, plain-image-back}
 use Rattle.reply.specs.declared.Written.the-variants as written
 use Rattle.reply.specs.Reply.{refused, sized}
 use Rattle.plain.specs.Plain.{plainReply}
+use Rattle.claims.specs.Reading.{rule-may}
 
 -- public and private bytes that make a key: their lengths, and the tag of a point
 pub record Key (a : Algorithm) (point scalar : List ℕ) : Type 0 where
@@ -29,29 +33,37 @@ Ascii t = (k : ℕ) → k < length t → getD t k 0 < 0x80
 
 -- the length of the image of a key with a comment of c bytes
 abbrev pub imageLength : Algorithm → List ℕ → ℕ → ℕ
-imageLength a scalar c = 47 + blobLength a + (contentLength a scalar c + short (contentLength a scalar c))
+imageLength a scalar c = 47 + blobLength a + (contentLength a scalar c + paddingLength (contentLength a scalar c))
 
 module _ (a : Algorithm) (point scalar : List ℕ) (n : ℕ) (comment : List ℕ) where
-  -- the writer answers this length where there is room for it, and this is the padding
+  -- the writer answers this length where there is room for it, and the image is read with this padding
   pub record Takes (size padding : ℕ) : Type 0 where
     pub answer : (room : ℕ) → size ≤ room → plainReply a point scalar n comment room ≡ written.Length size
-    pub pads : short (length (content n a point (standing (needsLeadingZero a scalar) scalar) comment)) ≡ padding
+    pub pads : n < 2 ^ 32 → PlainImageBack (writtenImage n a point scalar comment) n a point scalar comment padding
 
   -- a key with an ASCII comment is refused for its size or for want of room only
   sized-alone : Key a point scalar → Ascii comment → (room : ℕ) → plainReply a point scalar n comment room ≡ sized (writtenImage n a point scalar comment) room
   unfolding plainReply
   sized-alone key text room = rw (eq-eqb _ _ (key .long), eq-eqb _ _ (key .private), key .tag, ascii-utf8 comment text)
 
+  -- a key with an ASCII comment fits the format
+  key-fits : Key a point scalar → Ascii comment → KeyFits a (needsLeadingZero a scalar) point scalar comment
+  key-fits key text = record { long = key .long; tag = key .tag; private = key .private; may = rule-may a scalar; text = ascii-utf8 comment text }
+
   -- by the lengths of the key and the comment
   takes :
       Key a point scalar → Ascii comment → (size padding : ℕ) → imageLength a scalar (length comment) ≡ size → size ≤ 65535
-      → short (contentLength a scalar (length comment)) ≡ padding → Takes size padding
-  unfolding sized
+      → paddingLength (contentLength a scalar (length comment)) ≡ padding → Takes size padding
+  unfolding sized writtenImage
   takes key text size padding long small pads =
       let is : length (writtenImage n a point scalar comment) ≡ size = written-length n a point scalar comment (key .long) (key .private) ∙ long in
       record {
         answer = λ room enough. sized-alone key text room ∙ rw (is, le-leb _ _ small, le-leb _ _ enough);
-        pads = ap short (written-content-length n a point scalar comment (key .long) (key .private)) ∙ pads;
+        pads =
+            λ fits.
+            rw (ap paddingLength (written-content-length n a point scalar comment (key .long) (key .private)) ∙ pads) at
+            (plain-image-back (writtenImage n a point scalar comment) n a (needsLeadingZero a scalar) point scalar comment (omega (arith, is, small)) fits
+            (key-fits key text) refl);
       }
 
   -- an image above the limit is refused with 11, whatever the room
@@ -68,7 +80,7 @@ Ed25519Takes c size padding =
     (point seed : List ℕ) (n : ℕ) (comment : List ℕ) → Key Ed25519 point seed → Ascii comment → length comment ≡ c → Takes Ed25519 point seed n comment size padding
 
 pub ed25519-takes :
-    (c size padding : ℕ) → imageLength Ed25519 [] c ≡ size → size ≤ 65535 → short (contentLength Ed25519 [] c) ≡ padding → Ed25519Takes c size padding
+    (c size padding : ℕ) → imageLength Ed25519 [] c ≡ size → size ≤ 65535 → paddingLength (contentLength Ed25519 [] c) ≡ padding → Ed25519Takes c size padding
 ed25519-takes c size padding long small pads point seed n comment key text e =
     takes Ed25519 point seed n comment key text size padding (rw e long) small (rw e pads)
 
@@ -89,6 +101,6 @@ P256Takes first c size padding =
 
 pub p256-takes :
     (first c size padding : ℕ) → imageLength (Ecdsa Nistp256) (first ∷ []) c ≡ size → size ≤ 65535
-    → short (contentLength (Ecdsa Nistp256) (first ∷ []) c) ≡ padding → P256Takes first c size padding
+    → paddingLength (contentLength (Ecdsa Nistp256) (first ∷ []) c) ≡ padding → P256Takes first c size padding
 p256-takes first c size padding long small pads point scalar n comment key begins text e =
     takes (Ecdsa Nistp256) point scalar n comment key text size padding (rw (begins, e) long) small (rw (begins, e) pads)

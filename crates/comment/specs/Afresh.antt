@@ -15,7 +15,7 @@ use Rattle.names.specs.declared.Algorithm.{Algorithm}
 use Rattle.names.specs.declared.Cipher.the-variants as cipher
 use Rattle.names.specs.declared.Kdf.the-variants as kdf
 use Rattle.utf8.specs.Utf8.{utf8}
-use Rattle.format.specs.Format.{standing, needsLeadingZero, blob, privateField, short, paddingBytes, content, section, header, plainImage, writtenImage}
+use Rattle.format.specs.Format.{standing, needsLeadingZero, blob, privateField, paddingLength, paddingBytes, content, section, header, plainImage, writtenImage}
 use Rattle.format.specs.Laws.{content-then, section-length}
 use Rattle.format.specs.Lengths.{content-length}
 use Rattle.section.specs.Read.{beforeComment}
@@ -29,7 +29,7 @@ use Rattle.reply.specs.declared.Written.{Written}
 use Rattle.reply.specs.declared.Written.the-variants as written
 use Rattle.plain.specs.Plain.{plainReply, plainLeft}
 use Rattle.reply.specs.Reply.{onWritten, left, sized}
-use Rattle.comment.specs.Change.{afresh, afreshReply, afreshLeft, commentField, recordReply, recordLeft}
+use Rattle.comment.specs.Change.{afresh, afreshReply, afreshLeft, commentField, acceptedReply, acceptedLeft}
 use Rattle.comment.specs.Shell.{bare, shellAt, shellFields, renewed, isRenewed}
 
 -- ---- an image regrouped: only the section's length, the comment and the padding depend on the comment
@@ -38,7 +38,7 @@ use Rattle.comment.specs.Shell.{bare, shellAt, shellFields, renewed, isR
 unfoldable pub middle : ℕ → Algorithm → List ℕ → List ℕ → List ℕ
 middle n a point stored = join (uint32 n ∷ uint32 n ∷ blob a point ∷ privateField a point stored ∷ [])
 
-pub middle-length : (n : ℕ) (a : Algorithm) (point stored : List ℕ) → length (middle n a point stored) ≡ beforeComment a point stored
+middle-length : (n : ℕ) (a : Algorithm) (point stored : List ℕ) → length (middle n a point stored) ≡ beforeComment a point stored
 unfolding middle
 middle-length n a point stored = simp (length-append, length-uint32) (omega arith)
 
@@ -56,28 +56,28 @@ bare-is n a point stored comment = content-length n a point stored comment ∙ o
 
 section-is :
     (n : ℕ) (a : Algorithm) (point stored comment : List ℕ)
-    → section n a point stored comment ≡ content n a point stored comment ++ take (short (length (content n a point stored comment))) paddingBytes
+    → section n a point stored comment ≡ content n a point stored comment ++ take (paddingLength (length (content n a point stored comment))) paddingBytes
 unfolding section
 section-is n a point stored comment = refl
 
 section-then :
     (n : ℕ) (a : Algorithm) (point stored comment : List ℕ)
     → string (section n a point stored comment)
-    ≡ uint32 (bareOf n a point stored comment + short (bareOf n a point stored comment))
-    ++ (middle n a point stored ++ (string comment ++ take (short (bareOf n a point stored comment)) paddingBytes))
+    ≡ uint32 (bareOf n a point stored comment + paddingLength (bareOf n a point stored comment))
+    ++ (middle n a point stored ++ (string comment ++ take (paddingLength (bareOf n a point stored comment)) paddingBytes))
 unfolding string
 section-then n a point stored comment =
     ap₂ (λ (k : ℕ) (l : List ℕ). uint32 k ++ l)
-    (section-length n a point stored comment ∙ ap (λ (k : ℕ). k + short k) (bare-is n a point stored comment))
+    (section-length n a point stored comment ∙ ap (λ (k : ℕ). k + paddingLength k) (bare-is n a point stored comment))
     (section-is n a point stored comment ∙ middle-then n a point stored comment _
-    ∙ ap (λ (k : ℕ). middle n a point stored ++ (string comment ++ take (short k) paddingBytes)) (bare-is n a point stored comment))
+    ∙ ap (λ (k : ℕ). middle n a point stored ++ (string comment ++ take (paddingLength k) paddingBytes)) (bare-is n a point stored comment))
 
 pub regrouped :
     (n : ℕ) (a : Algorithm) (point stored comment : List ℕ)
     → plainImage n a point stored comment
     ≡ header cipher.None kdf.None [] 0 (blob a point)
-    ++ (uint32 (bareOf n a point stored comment + short (bareOf n a point stored comment))
-    ++ (middle n a point stored ++ (string comment ++ take (short (bareOf n a point stored comment)) paddingBytes)))
+    ++ (uint32 (bareOf n a point stored comment + paddingLength (bareOf n a point stored comment))
+    ++ (middle n a point stored ++ (string comment ++ take (paddingLength (bareOf n a point stored comment)) paddingBytes)))
 unfolding plainImage
 regrouped n a point stored comment =
     ap (λ (l : List ℕ). header cipher.None kdf.None [] 0 (blob a point) ++ l)
@@ -86,7 +86,7 @@ regrouped n a point stored comment =
 -- ---- the places of the shell
 
 -- a part that stands between two others
-between : (x m t : List ℕ) (i j : ℕ) → length x ≡ i → length x + length m ≡ j → slice i j (x ++ (m ++ t)) ≡ m
+pub between : (x m t : List ℕ) (i j : ℕ) → length x ≡ i → length x + length m ≡ j → slice i j (x ++ (m ++ t)) ≡ m
 between x m t i j ei ej =
     ap (λ (l : List ℕ). drop i (take j l)) (sym (append-assoc x m t))
     ∙ ap (drop i) (take-at (x ++ m) t j (length-append x m ∙ ej)) ∙ drop-at x m i ei
@@ -114,8 +114,8 @@ module _ (old : List ℕ) (n : ℕ) (inside : n ≤ length old) (f : Fields) (p 
       let comment = viewOf s (f .section .comment) in
       let front = header cipher.None kdf.None [] 0 (blob a point) in
       let m = middle c a point stored in
-      let k = uint32 (bareOf c a point stored comment + short (bareOf c a point stored comment)) in
-      let t = string comment ++ take (short (bareOf c a point stored comment)) paddingBytes in
+      let k = uint32 (bareOf c a point stored comment + paddingLength (bareOf c a point stored comment)) in
+      let t = string comment ++ take (paddingLength (bareOf c a point stored comment)) paddingBytes in
       let text : s ≡ front ++ (k ++ (m ++ t)) = p .text ∙ regrouped c a point stored comment in
       let text₂ : s ≡ (front ++ k) ++ (m ++ t) = text ∙ sym (append-assoc front k (m ++ t)) in
       let long : n ≡ length front + (4 + (length m + length t)) =
@@ -133,8 +133,8 @@ module _ (old : List ℕ) (n : ℕ) (inside : n ≤ length old) (f : Fields) (p 
             ap (drop (f .header .section + 4)) (sym (take-take (commentField f) n old (omega (arith, field, at, long))))
             ∙ ap (slice (f .header .section + 4) (commentField f)) text₂
             ∙ between (front ++ k) m t (f .header .section + 4) (commentField f)
-            (length-append front k ∙ omega (arith, at, length-uint32 (bareOf c a point stored comment + short (bareOf c a point stored comment))))
-            (omega (arith, field, at, length-append front k, length-uint32 (bareOf c a point stored comment + short (bareOf c a point stored comment))));
+            (length-append front k ∙ omega (arith, at, length-uint32 (bareOf c a point stored comment + paddingLength (bareOf c a point stored comment))))
+            (omega (arith, field, at, length-append front k, length-uint32 (bareOf c a point stored comment + paddingLength (bareOf c a point stored comment))));
       }
 
   -- the image written afresh with any comment
@@ -181,13 +181,13 @@ afresh-sized s f p comment text room = rw (eq-eqb _ _ (p .key-fits .long), eq-eq
 
 record-plain :
     (s : List ℕ) (f : Fields) (comment : List ℕ) (room : ℕ) → f .section .kind ≡ Plain → formOf s f ≡ true → utf8 comment ≡ true
-    → recordReply s f comment room ≡ afreshReply s f comment room
-unfolding recordReply
+    → acceptedReply s f comment room ≡ afreshReply s f comment room
+unfolding acceptedReply
 record-plain s f comment room plain form text = rw (form, text, plain)
 
-pub record-sized :
+record-sized :
     (s : List ℕ) (f : Fields) → PlainText s f → (comment : List ℕ) (room : ℕ) → f .section .kind ≡ Plain → formOf s f ≡ true → utf8 comment ≡ true
-    → recordReply s f comment room ≡ sized (afresh s f comment) room
+    → acceptedReply s f comment room ≡ sized (afresh s f comment) room
 record-sized s f p comment room plain form text = record-plain s f comment room plain form text ∙ afresh-sized s f p comment text room
 
 -- what the plain writer leaves
@@ -197,10 +197,10 @@ afresh-leaves :
 unfolding afreshLeft afreshReply plainLeft afresh
 afresh-leaves s f p comment text old = ap (λ (w : Written). left w (afresh s f comment) old) (afresh-sized s f p comment text (length old))
 
-pub record-left :
+record-left :
     (s : List ℕ) (f : Fields) → PlainText s f → (comment : List ℕ) (n : ℕ) (old : List ℕ) → f .section .kind ≡ Plain → formOf s f ≡ true
-    → utf8 comment ≡ true → recordLeft s f comment n old ≡ renewed (sized (afresh s f comment) (length old)) (afresh s f comment) n old
-unfolding recordLeft
+    → utf8 comment ≡ true → acceptedLeft s f comment n old ≡ renewed (sized (afresh s f comment) (length old)) (afresh s f comment) n old
+unfolding acceptedLeft
 record-left s f p comment n old plain form text =
     rw (record-sized s f p comment (length old) plain form text, afresh-leaves s f p comment text old)
     (left-renewed (sized (afresh s f comment) (length old)) (afresh s f comment) n old)
@@ -210,7 +210,7 @@ pub record-renewed :
     (old : List ℕ) (n : ℕ) → n ≤ length old → (f : Fields) → PlainText (take n old) f → (comment : List ℕ) (r : Written) (out : List ℕ)
     → f .section .kind ≡ Plain → formOf (take n old) f ≡ true → utf8 comment ≡ true
     → isRenewed (shellAt old (f .header .section) (commentField f) comment) n old r out
-    → (r ≡ recordReply (take n old) f comment (length old)) × (out ≡ recordLeft (take n old) f comment n old)
+    → (r ≡ acceptedReply (take n old) f comment (length old)) × (out ≡ acceptedLeft (take n old) f comment n old)
 record-renewed old n inside f p comment r out plain form text w =
     let s = take n old in
     let shell = afresh-shell old n inside f p (form-rule s f p plain form) comment in

@@ -38,8 +38,8 @@ afreshLeft s f comment old =
 abbrev pub commentField : Fields → ℕ
 commentField f = f .section .comment .start - 4
 
-unfoldable pub recordReply : List ℕ → Fields → List ℕ → ℕ → Written
-recordReply s f comment room =
+unfoldable pub acceptedReply : List ℕ → Fields → List ℕ → ℕ → Written
+acceptedReply s f comment room =
     onKind (f .section .kind)
     (unless (formOf s f) Form
     (cond (utf8 comment)
@@ -54,7 +54,7 @@ changeReply old n comment =
     unless (leb n 65535) Size
     (unless (leb n (length old)) Length
     (onRead (readAt (take n old)) written.Refused (λ f.
-    recordReply (take n old) f comment (length old))))
+    acceptedReply (take n old) f comment (length old))))
 
 -- the image written afresh, and zeros from its end to the old one's
 unfoldable pub changeLeft : List ℕ → ℕ → List ℕ → List ℕ
@@ -68,6 +68,6 @@ abbrev pub isChange : List ℕ → ℕ → List ℕ → Written → List ℕ →
 isChange old n comment r out = answers (changeReply old n comment) (changeLeft old n comment) r out
 
 -- what the code's helper leaves, for an accepted image s
-unfoldable pub recordLeft : List ℕ → Fields → List ℕ → ℕ → List ℕ → List ℕ
-recordLeft s f comment n old =
-    onWritten (recordReply s f comment (length old)) (λ g. old) (λ k. splice (afreshLeft s f comment old) k (zeros (n - k)))
+unfoldable pub acceptedLeft : List ℕ → Fields → List ℕ → ℕ → List ℕ → List ℕ
+acceptedLeft s f comment n old =
+    onWritten (acceptedReply s f comment (length old)) (λ g. old) (λ k. splice (afreshLeft s f comment old) k (zeros (n - k)))

@@ -10,7 +10,7 @@ use lib.Seq.{slice, length-slice, length-take-le, drop-append-le}
 use Rattle.fields.specs.Bytes.{uint32, string, join}
 use Rattle.fields.specs.Rest.{length-uint32, length-string}
 use Rattle.fields.specs.declared.Fault.{Fault}
-use Rattle.format.specs.Format.{short, paddingBytes}
+use Rattle.format.specs.Format.{paddingLength, paddingBytes}
 use Rattle.format.specs.Laws.{padding-length}
 use Rattle.buffer.specs.Puts.{splice, zeros, isPut, zeros-length, next-fits, placed-fits, splice-length}
 use Rattle.buffer.specs.Runs.{Left, Here, start, step, skip, finish}
@@ -26,10 +26,10 @@ bare section field comment = field - (section + 4) + (4 + length comment)
 unfoldable pub shellFields : List ℕ → ℕ → ℕ → List ℕ → List (List ℕ)
 shellFields old section field comment =
     take section old
-    ∷ uint32 (bare section field comment + short (bare section field comment))
+    ∷ uint32 (bare section field comment + paddingLength (bare section field comment))
     ∷ slice (section + 4) field old
     ∷ string comment
-    ∷ take (short (bare section field comment)) paddingBytes
+    ∷ take (paddingLength (bare section field comment)) paddingBytes
     ∷ []
 
 unfoldable pub shellAt : List ℕ → ℕ → ℕ → List ℕ → List ℕ
@@ -46,7 +46,7 @@ isRenewed image n old r out = (r ≡ sized image (length old)) × (out ≡ renew
 
 module _ (old : List ℕ) (section field : ℕ) (comment : List ℕ) (h : section + 4 ≤ field) (k : field ≤ length old) where
   pub shell-length :
-      length (shellAt old section field comment) ≡ section + 4 + (bare section field comment + short (bare section field comment))
+      length (shellAt old section field comment) ≡ section + 4 + (bare section field comment + paddingLength (bare section field comment))
   unfolding shellAt shellFields
   shell-length =
       simp (
@@ -91,16 +91,16 @@ module _ (old : List ℕ) (section field : ℕ) (comment : List ℕ) (h : sectio
 
   -- the section's length, the comment and the padding are put; the rest of the image stands there already
   pub renewal-puts :
-      (whole padding r₁ r₂ r₃ : ℕ) (o₁ o₂ o₃ : List ℕ) → padding ≡ short (bare section field comment) → whole ≡ bare section field comment + padding
+      (whole padding r₁ r₂ r₃ : ℕ) (o₁ o₂ o₃ : List ℕ) → padding ≡ paddingLength (bare section field comment) → whole ≡ bare section field comment + padding
       → length (shellAt old section field comment) ≤ length old → isPut old section (uint32 whole) r₁ o₁ → isPut o₁ field (string comment) r₂ o₂
       → isPut o₂ r₂ (take padding paddingBytes) r₃ o₃ → isPut old 0 (shellAt old section field comment) r₃ o₃
   unfolding shellAt shellFields
   renewal-puts whole padding r₁ r₂ r₃ o₁ o₂ o₃ ep ew room p₁ p₂ p₃ =
-      let whole-is : whole ≡ bare section field comment + short (bare section field comment) = ew ∙ ap (λ (i : ℕ). bare section field comment + i) ep in
+      let whole-is : whole ≡ bare section field comment + paddingLength (bare section field comment) = ew ∙ ap (λ (i : ℕ). bare section field comment + i) ep in
       let after : r₁ ≡ section + 4 = p₁ .0 ∙ next-fits old section (uint32 whole) (omega (arith, length-uint32 whole)) ∙ omega (arith, length-uint32 whole) in
-      let whole-length = bare section field comment + short (bare section field comment) in
+      let whole-length = bare section field comment + paddingLength (bare section field comment) in
       let fields = shellFields old section field comment in
-      let last = string comment ∷ take (short (bare section field comment)) paddingBytes ∷ [] in
+      let last = string comment ∷ take (paddingLength (bare section field comment)) paddingBytes ∷ [] in
       let fit : 0 + length (join fields) ≤ length old = omega arith in
       let before : section ≡ 0 + length (take section old) = omega (arith, length-take-le section old (omega arith)) in
       let between : field ≡ r₁ + length (slice (section + 4) field old) = omega (arith, after, length-slice (section + 4) field old k) in

@@ -6,7 +6,7 @@ ghost use lib.ListN.{length, take};
 ghost use Rattle.container.specs.Container.{readAt};
 ghost use Rattle.container.specs.Form.{formOf};
 ghost use Rattle.container.specs.declared.ImageRead.the-variants as read;
-ghost use Rattle.comment.specs.Change.{recordReply, recordLeft, isChange};
+ghost use Rattle.comment.specs.Change.{acceptedReply, acceptedLeft, isChange};
 ghost use Rattle.comment.specs.Shell.{shellAt, isRenewed};
 use container::Fields;
 use container::FormRead;
@@ -54,7 +54,7 @@ fn renew(lent: &mut [u8], n: usize, section: usize, field: usize, comment: &[u8]
 fn change_record(lent: &mut [u8], n: usize, f: Fields, form: bool, comment: &[u8]) -> Written
     requires { ⌜ (n ≤ 65535) × (n ≤ length (now lent)) ⌝ }
     requires { ⌜ (readAt (take n (now lent)) ≡ read.Record f) × (form ≡ formOf (take n (now lent)) f) ⌝ }
-    ensures { λ r. ⌜ (r ≡ recordReply (take n (now (lent .entry))) f (now (comment .entry)) (length (now (lent .entry)))) × (now (lent .exit) ≡ recordLeft (take n (now (lent .entry))) f (now (comment .entry)) n (now (lent .entry))) ⌝ }
+    ensures { λ r. ⌜ (r ≡ acceptedReply (take n (now (lent .entry))) f (now (comment .entry)) (length (now (lent .entry)))) × (now (lent .exit) ≡ acceptedLeft (take n (now (lent .entry))) f (now (comment .entry)) n (now (lent .entry))) ⌝ }
 {
     let header = f.header;
     let section = f.section;

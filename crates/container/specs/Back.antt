@@ -13,7 +13,7 @@ use Rattle.names.specs.declared.Cipher.the-variants as cipher
 use Rattle.names.specs.declared.Kdf.{Kdf}
 use Rattle.names.specs.declared.Kdf.the-variants as kdf
 use Rattle.names.specs.Ciphers.{isNone, blockSize, tagLength}
-use Rattle.format.specs.Format.{OptionsFit, publicLength, pointTag, standing, short, blob, content, section, header, plainImage, encryptedImage}
+use Rattle.format.specs.Format.{OptionsFit, publicLength, pointTag, standing, paddingLength, blob, content, section, header, plainImage, encryptedImage}
 use Rattle.header.specs.Back.{HeaderBack, header-back}
 use Rattle.section.specs.declared.Kind.the-variants.{Plain, Encrypted}
 use Rattle.section.specs.Back.{KeyFits, PlainBack, plain-back, encrypted-back}
@@ -36,17 +36,18 @@ pub record PlainImageBack (s : List ℕ) (n : ℕ) (a : Algorithm) (point scalar
   pub same-checkint : fields .section .checkint ≡ n
   pub same-scalar : viewOf s (fields .section .scalar) ≡ scalar
   pub same-comment : viewOf s (fields .section .comment) ≡ comment
+  pub comment-size : fields .section .comment .length ≡ length comment
   pub same-padding : fields .section .padding ≡ padding
 
 -- the section after a header that was read back
 plain-after :
     (s : List ℕ) (n : ℕ) (a : Algorithm) (zero : Bool) (point scalar comment : List ℕ) → length s ≤ 65535 → n < 2 ^ 32 → KeyFits a zero point scalar comment
     → HeaderBack s cipher.None kdf.None [] 0 a point (string (section n a point (standing zero scalar) comment))
-    → PlainImageBack s n a point scalar comment (short (length (content n a point (standing zero scalar) comment)))
+    → PlainImageBack s n a point scalar comment (paddingLength (length (content n a point (standing zero scalar) comment)))
 unfolding readAt sectionAt
 plain-after s n a zero point scalar comment small fit fits h =
     let f = h .fields in
-    let k : PlainBack s _ n scalar comment (short (length (content n a point (standing zero scalar) comment))) =
+    let k : PlainBack s _ n scalar comment (paddingLength (length (content n a point (standing zero scalar) comment))) =
     rw (h .same-point) at
     (plain-back s (record { at = f .section; end = length s }) (omega (arith, h .good)) (omega arith) a (f .point) zero n scalar comment fit
     (rw (h .same-point) fits) (rw (h .same-point) (h .more))) in
@@ -64,13 +65,14 @@ plain-after s n a zero point scalar comment small fit fits h =
       same-checkint = k .same-checkint;
       same-scalar = k .same-scalar;
       same-comment = k .same-comment;
+      comment-size = k .comment-size;
       same-padding = k .same-padding;
     }
 
 pub plain-image-back :
     (s : List ℕ) (n : ℕ) (a : Algorithm) (zero : Bool) (point scalar comment : List ℕ) → length s ≤ 65535 → n < 2 ^ 32 → KeyFits a zero point scalar comment
     → s ≡ plainImage n a point (standing zero scalar) comment
-    → PlainImageBack s n a point scalar comment (short (length (content n a point (standing zero scalar) comment)))
+    → PlainImageBack s n a point scalar comment (paddingLength (length (content n a point (standing zero scalar) comment)))
 unfolding plainImage
 plain-image-back s n a zero point scalar comment small fit fits e =
     let body = section n a point (standing zero scalar) comment in
@@ -93,6 +95,8 @@ pub record EncryptedImageBack
   pub same-point : viewOf s (fields .header .point) ≡ point
   pub same-ciphertext : viewOf s (fields .section .ciphertext) ≡ ciphertext
   pub same-tag : viewOf s (fields .section .tag) ≡ tag
+  pub ciphertext-size : fields .section .ciphertext .length ≡ length ciphertext
+  pub tag-size : fields .section .tag .length ≡ length tag
 
 -- fields that fit an encrypted image
 pub record SealFits (cipher : Cipher) (k : Kdf) (salt : List ℕ) (rounds : ℕ) (a : Algorithm) (point ciphertext tag : List ℕ) : Type 0 where
@@ -128,4 +132,6 @@ encrypted-image-back s cipher k salt rounds a point ciphertext tag small fits e 
       same-point = h .same-point;
       same-ciphertext = x .same-ciphertext;
       same-tag = x .same-tag;
+      ciphertext-size = x .ciphertext-size;
+      tag-size = x .tag-size;
     }

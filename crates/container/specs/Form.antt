@@ -3,12 +3,10 @@ use Prim.Native.Nat.{ℕ}
 use mathlib.Core.Path.{_≡_}
 use mathlib.Core.Bool.{Bool, true, false, cond, not}
 use mathlib.Core.List.{List}
-use lib.ListN.{getD}
-use lib.Dec.{leb}
 use Rattle.fields.specs.Bytes.{sameBytes}
 use Rattle.fields.specs.Fields.{viewOf}
 use Rattle.fields.specs.declared.Fault.{Fault}
-use Rattle.format.specs.Format.{writtenImage, encryptedImage}
+use Rattle.format.specs.Format.{leadingZero, writtenImage, encryptedImage}
 use Rattle.keys.specs.Keys.{onAlgorithm}
 use Rattle.pairs.specs.Pairs.{afterZero}
 use Rattle.section.specs.declared.Kind.{Kind}
@@ -58,5 +56,5 @@ unfoldable pub scalarInForm : List ℕ → Fields → Bool
 scalarInForm s f =
     onKind (f .section .kind)
     (onAlgorithm (f .header .algorithm) true (λ k.
-    cond (leb 0x80 (getD (viewOf s (f .section .scalar)) 0 0)) (afterZero s (f .section .scalar)) (not (afterZero s (f .section .scalar)))))
+    cond (leadingZero (viewOf s (f .section .scalar))) (afterZero s (f .section .scalar)) (not (afterZero s (f .section .scalar)))))
     true

@@ -5,18 +5,17 @@ use native.Mathlib.Omega.{arith}
 use mathlib.Core.Path.{_≡_, refl, sym, _∙_, ap}
 use mathlib.Core.Bool.{Bool, true, false, cond, not}
 use mathlib.Core.List.{List}
-use lib.Dec.{leb}
-use lib.ListN.{getD}
 use Rattle.fields.specs.Bytes.{AllBytes, sameBytes, same-true, same-self}
 use Rattle.fields.specs.Fields.{viewOf}
 use Rattle.fields.specs.declared.Fault.{Fault}
 use Rattle.fields.specs.Place.{clash, by-bool}
 use Rattle.names.specs.declared.Algorithm.{Algorithm}
 use Rattle.names.specs.declared.Algorithm.the-variants.{Ed25519, Ecdsa}
-use Rattle.format.specs.Format.{standing, mayStand, needsLeadingZero, plainImage, writtenImage}
+use Rattle.format.specs.Format.{leadingZero, standing, mayStand, needsLeadingZero, plainImage, writtenImage}
 use Rattle.format.specs.Laws.{key-small, standing-same}
 use Rattle.keys.specs.Keys.{onAlgorithm}
 use Rattle.section.specs.declared.Kind.the-variants.{Plain, Encrypted}
+use Rattle.section.specs.Back.{KeyFits}
 use Rattle.container.specs.declared.Fields.{Fields}
 use Rattle.container.specs.declared.ImageRead.{ImageRead}
 use Rattle.container.specs.declared.ImageRead.the-variants as read
@@ -30,7 +29,7 @@ abbrev pub agree : Bool → Bool → Bool
 agree true z = z
 agree false z = not z
 
-pub agree-true : (w z : Bool) → agree w z ≡ true → w ≡ z
+agree-true : (w z : Bool) → agree w z ≡ true → w ≡ z
 agree-true true true e = refl
 agree-true true false e = sym e
 agree-true false true e = e
@@ -41,11 +40,14 @@ agree-self true = refl
 agree-self false = refl
 
 -- the writer's image is the image itself exactly where the zero that stands is the one that the rule asks for
-pub form-agrees :
-    (s : List ℕ) (f : Fields) (p : PlainText s f)
-    → f .section .kind ≡ Plain → formOf s f ≡ agree (needsLeadingZero (f .header .algorithm) (viewOf s (f .section .scalar))) (p .zero)
+pub form-stands :
+    (s : List ℕ) (f : Fields) (zero : Bool)
+    → s ≡ plainImage (f .section .checkint) (f .header .algorithm) (viewOf s (f .header .point)) (standing zero (viewOf s (f .section .scalar)))
+    (viewOf s (f .section .comment))
+    → KeyFits (f .header .algorithm) zero (viewOf s (f .header .point)) (viewOf s (f .section .scalar)) (viewOf s (f .section .comment))
+    → f .section .kind ≡ Plain → formOf s f ≡ agree (needsLeadingZero (f .header .algorithm) (viewOf s (f .section .scalar))) zero
 unfolding formOf rewritten writtenImage
-form-agrees s f p plain =
+form-stands s f zero text fits plain =
     let a = f .header .algorithm in
     let point = viewOf s (f .header .point) in
     let scalar = viewOf s (f .section .scalar) in
@@ -54,17 +56,21 @@ form-agrees s f p plain =
     let image : Bool → List ℕ = λ z. plainImage (f .section .checkint) a point (standing z scalar) comment in
     let small = key-small a in
     rw plain
-    (by-bool (agree rule (p .zero))
-    (λ w. rw w (ap (λ (z : Bool). sameBytes (image z) s) (agree-true rule (p .zero) w) ∙ ap (λ (t : List ℕ). sameBytes t s) (sym (p .text)) ∙ same-self s))
+    (by-bool (agree rule zero)
+    (λ w. rw w (ap (λ (z : Bool). sameBytes (image z) s) (agree-true rule zero w) ∙ ap (λ (t : List ℕ). sameBytes t s) (sym text) ∙ same-self s))
     (λ w.
     rw w
     (by-bool (sameBytes (image rule) s)
     (λ v.
-    let same : image rule ≡ image (p .zero) = same-true (image rule) s v ∙ p .text in
-    let z = standing-same (f .section .checkint) a point scalar comment rule (p .zero)
-    (omega (arith, p .key-fits .long)) (omega (arith, p .key-fits .private)) same in
-    clash (let q : agree rule (p .zero) ≡ true = rw z (agree-self (p .zero)) in cc))
+    let same : image rule ≡ image zero = same-true (image rule) s v ∙ text in
+    let z = standing-same (f .section .checkint) a point scalar comment rule zero (omega (arith, fits .long)) (omega (arith, fits .private)) same in
+    clash (let q : agree rule zero ≡ true = rw z (agree-self zero) in cc))
     (λ v. v))))
+
+pub form-agrees :
+    (s : List ℕ) (f : Fields) (p : PlainText s f)
+    → f .section .kind ≡ Plain → formOf s f ≡ agree (needsLeadingZero (f .header .algorithm) (viewOf s (f .section .scalar))) (p .zero)
+form-agrees s f p plain = form-stands s f (p .zero) (p .text) (p .key-fits) plain
 
 -- the same, by the byte before the scalar
 scalar-agrees :
@@ -85,9 +91,9 @@ scalar-agrees s f p plain = rw (plain, p .after) (go (f .header .algorithm) (p .
 
     go :
         (a : Algorithm) → mayStand a (p .zero) ≡ true
-        → onAlgorithm a true (λ k. cond (leb 0x80 (getD scalar 0 0)) (p .zero) (not (p .zero))) ≡ agree (needsLeadingZero a scalar) (p .zero)
+        → onAlgorithm a true (λ k. cond (leadingZero scalar) (p .zero) (not (p .zero))) ≡ agree (needsLeadingZero a scalar) (p .zero)
     go Ed25519 may = no-zero (p .zero) may
-    go (Ecdsa k) may = as-cond (leb 0x80 (getD scalar 0 0)) (p .zero)
+    go (Ecdsa k) may = as-cond (leadingZero scalar) (p .zero)
 
 -- every accepted encrypted image is in the form
 pub form-encrypted : (s : List ℕ) (f : Fields) → EncryptedText s f → f .section .kind ≡ Encrypted → formOf s f ≡ true

@@ -90,8 +90,6 @@ pub record PlainText (s : List ℕ) (f : Fields) : Type 0 where
   pub key-fits : KeyFits (f .header .algorithm) zero (viewOf s (f .header .point)) (viewOf s (f .section .scalar)) (viewOf s (f .section .comment))
   pub checkint-fits : f .section .checkint < 2 ^ 32
   pub after : afterZero s (f .section .scalar) ≡ zero
-  pub no-cipher : cipher.None ≡ f .header .cipher
-  pub no-kdf : kdf.None ≡ f .header .kdf
   pub content : viewOf s (f .header .blob) ≡ blob (f .header .algorithm) (viewOf s (f .header .point))
   pub section-place : f .header .section ≡ length (header cipher.None kdf.None [] 0 (blob (f .header .algorithm) (viewOf s (f .header .point))))
   pub comment-place :
@@ -150,8 +148,6 @@ module _ (s : List ℕ) (all : AllBytes s) (f : Fields) (e : readAt s ≡ read.R
         key-fits = x .fits;
         checkint-fits = x .checkint;
         after = x .after;
-        no-cipher = nc;
-        no-kdf = nk;
         content = h .content;
       }
 

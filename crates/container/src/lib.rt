@@ -74,9 +74,9 @@ fn after_zero(image: &[u8], part: Part) -> bool
 {
     let start = part.start;
     if start == 0 {
-        return keys::byte(image, 0) == 0;
+        return fields::byte(image, 0) == 0;
     }
-    keys::byte(image, start - 1) == 0
+    fields::byte(image, start - 1) == 0
 }
 
 // Does the scalar of an accepted image stand as the writer would write it?

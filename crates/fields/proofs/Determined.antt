@@ -1,4 +1,5 @@
 -- Any two replies that meet a public function's own contract are equal.
+-- Rests on the contracts being equations.
 use Rattle.fields.specs.Determined.{Determined, DeterminedView}
 use Rattle.fields.proofs.Refusal.number.Reads as number
 use Rattle.fields.proofs.Refusal.number.Kinds as number-kinds
@@ -22,6 +23,8 @@ use Rattle.fields.proofs.view.Reads as view
 use Rattle.fields.proofs.view.Kinds as view-kinds
 use Rattle.fields.proofs.same.Reads as same
 use Rattle.fields.proofs.same.Kinds as same-kinds
+use Rattle.fields.proofs.byte.Reads as byte
+use Rattle.fields.proofs.byte.Kinds as byte-kinds
 
 pub number-determined : Determined 0 number-kinds.ps number-kinds.r number.Post
 number-determined κs a r₁ r₂ s₁ s₂ p q = cc
@@ -55,3 +58,6 @@ view-determined κs a r₁ r₂ s₁ s₂ p q = (cc, cc, cc)
 
 pub same-determined : Determined 2 same-kinds.ps same-kinds.r same.Post
 same-determined κs a r₁ r₂ s₁ s₂ p q = cc
+
+pub byte-determined : Determined 1 byte-kinds.ps byte-kinds.r byte.Post
+byte-determined κs a r₁ r₂ s₁ s₂ p q = cc

@@ -47,7 +47,7 @@ module _ (s : List ℕ) (c : Cursor) (k : ℕ) (room : Room s c k) where
       ∙ ap (λ (x : List ℕ). drop (c .at) x ++ drop (c .at + k) t) (take-take (c .at + k) (c .end) s (room .0))
       ∙ ap (λ (x : List ℕ). x ++ rest s (moved c k)) (sym (view-in s (part (c .at) k) (omega arith)))
 
-  pub length-part : length (viewOf s (part (c .at) k)) ≡ k
+  length-part : length (viewOf s (part (c .at) k)) ≡ k
   length-part = ap length (view-in s (part (c .at) k) (omega arith)) ∙ length-slice (c .at) (c .at + k) s (omega arith) ∙ omega arith
 
 -- one byte of what is left

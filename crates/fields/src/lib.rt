@@ -4,6 +4,7 @@
 // byte of the image at which the failing field began.
 ghost use mathlib.Core.Path.{_≡_};
 ghost use Prim.Native.Nat.{_-_};
+ghost use lib.ListN.{getD};
 ghost use Rattle.fields.specs.Bytes.{sameBytes};
 ghost use Rattle.fields.specs.Fields.{hasRoom, number4, uint32At, bytesAt, stringAt, fixedAt, endAt, isView};
 ghost use Rattle.fields.specs.Refusals.{numberOf, countOf};
@@ -252,6 +253,16 @@ pub fn view(image: &[u8], part: Part) -> &[u8]
         return &image[..0];
     }
     &image[start..start + length]
+}
+
+// The byte at an index, or 0 past the end.
+pub fn byte(image: &[u8], i: usize) -> u8
+    ensures { λ r. ⌜ r ≡ getD (now (image .entry)) i 0 ⌝ }
+{
+    if i < image.len() {
+        return image[i];
+    }
+    0
 }
 
 // Are the bytes the same? All are looked at: a loop with one way out is made into vector code.

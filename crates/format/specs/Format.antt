@@ -68,18 +68,22 @@ abbrev pub mayStand : Algorithm → Bool → Bool
 mayStand Ed25519 zero = not zero
 mayStand (Ecdsa curve) zero = true
 
--- the writer's rule: a zero exactly if the scalar's first byte is 0x80 or more; a seed has none
+-- the writer's rule: a zero before a scalar exactly if its first byte is 0x80 or more
+abbrev pub leadingZero : List ℕ → Bool
+leadingZero scalar = leb 0x80 (getD scalar 0 0)
+
+-- a seed has none
 abbrev pub needsLeadingZero : Algorithm → List ℕ → Bool
 needsLeadingZero Ed25519 seed = false
-needsLeadingZero (Ecdsa curve) scalar = leb 0x80 (getD scalar 0 0)
+needsLeadingZero (Ecdsa curve) scalar = leadingZero scalar
 
 -- PADDING_BYTES: 1, 2, 3 and so on; a padding has fewer than 8 bytes
 abbrev pub paddingBytes : List ℕ
 paddingBytes = 1 ∷ 2 ∷ 3 ∷ 4 ∷ 5 ∷ 6 ∷ 7 ∷ []
 
 -- the fewest bytes that take n to a multiple of 8
-abbrev pub short : ℕ → ℕ
-short n = (8 - n % 8) % 8
+abbrev pub paddingLength : ℕ → ℕ
+paddingLength n = (8 - n % 8) % 8
 
 -- a plain section: the checkint twice, the keypair, the comment, the padding
 unfoldable pub content : ℕ → Algorithm → List ℕ → List ℕ → List ℕ → List ℕ
@@ -89,7 +93,7 @@ content checkint a point stored comment =
 
 unfoldable pub section : ℕ → Algorithm → List ℕ → List ℕ → List ℕ → List ℕ
 section checkint a point stored comment =
-    content checkint a point stored comment ++ take (short (length (content checkint a point stored comment))) paddingBytes
+    content checkint a point stored comment ++ take (paddingLength (length (content checkint a point stored comment))) paddingBytes
 
 -- the header, up to and with the public blob, `key`; one key
 unfoldable pub header : Cipher → Kdf → List ℕ → ℕ → List ℕ → List ℕ

@@ -17,7 +17,7 @@ use Rattle.names.specs.declared.Algorithm.the-variants.{Ed25519, Ecdsa}
 use Rattle.names.specs.declared.Curve.the-variants.{Nistp256, Nistp384, Nistp521}
 use Rattle.names.specs.Algorithms.{algorithmName}
 use Rattle.names.specs.Ciphers.{cipherName, kdfName}
-use Rattle.format.specs.Format.{magic, options, header, curveField, blob, privateField, standing, content, section, plainImage, short, paddingBytes, publicLength, privateLength}
+use Rattle.format.specs.Format.{magic, options, header, curveField, blob, privateField, standing, content, section, plainImage, paddingLength, paddingBytes, publicLength, privateLength}
 
 -- a public key and what comes after it, field by field
 pub blob-then : (a : Algorithm) (point t : List ℕ) → blob a point ++ t ≡ string (algorithmName a) ++ (curveField a ++ (string point ++ t))
@@ -40,15 +40,15 @@ unfolding content blob
 content-then n a point stored comment t = simp append-assoc
 
 -- a padding's length, and that of what it fills up
-pub padding-length : (n : ℕ) → length (take (short n) paddingBytes) ≡ short n
-padding-length n = length-take-le (short n) paddingBytes (omega arith)
+pub padding-length : (n : ℕ) → length (take (paddingLength n) paddingBytes) ≡ paddingLength n
+padding-length n = length-take-le (paddingLength n) paddingBytes (omega arith)
 
 pub section-length :
     (n : ℕ) (a : Algorithm) (point stored comment : List ℕ)
-    → length (section n a point stored comment) ≡ length (content n a point stored comment) + short (length (content n a point stored comment))
+    → length (section n a point stored comment) ≡ length (content n a point stored comment) + paddingLength (length (content n a point stored comment))
 unfolding section
 section-length n a point stored comment =
-    length-append (content n a point stored comment) (take (short (length (content n a point stored comment))) paddingBytes)
+    length-append (content n a point stored comment) (take (paddingLength (length (content n a point stored comment))) paddingBytes)
     ∙ ap (λ (k : ℕ). length (content n a point stored comment) + k) (padding-length (length (content n a point stored comment)))
 
 -- the lengths of a key's parts are small, and its private bytes are some
@@ -92,7 +92,7 @@ section-same :
     → section n a point (standing z x) comment ≡ section n a point (standing w x) comment → z ≡ w
 unfolding section
 section-same n a point x comment z w hp hx e =
-    let pad : Bool → List ℕ = λ v. take (short (length (content n a point (standing v x) comment))) paddingBytes in
+    let pad : Bool → List ℕ = λ v. take (paddingLength (length (content n a point (standing v x) comment))) paddingBytes in
     let tail : Bool → List ℕ = λ v. string comment ++ pad v in
     let key : Bool → List ℕ = λ v. privateField a point (standing v x) ++ tail v in
     let e₀ = sym (content-then n a point (standing z x) comment (pad z)) ∙ e ∙ content-then n a point (standing w x) comment (pad w) in

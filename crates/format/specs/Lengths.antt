@@ -1,11 +1,10 @@
 -- How long what the format writes is, by the lengths of its parts.
-use Prim.Native.Nat.{ℕ, _+_, _*_, _≤_}
+use Prim.Native.Nat.{ℕ, _+_, _*_}
 use native.Mathlib.Omega.{arith}
-use mathlib.Core.Path.{_≡_, refl, sym, _∙_, ap}
+use mathlib.Core.Path.{_≡_, _∙_}
 use mathlib.Core.Bool.{Bool, true, false}
 use mathlib.Core.List.{List, []}
 use lib.ListN.{length, length-append}
-use Rattle.fields.specs.Bytes.{uint32, string, join}
 use Rattle.fields.specs.Rest.{length-uint32, length-string}
 use Rattle.names.specs.declared.Algorithm.{Algorithm}
 use Rattle.names.specs.declared.Algorithm.the-variants.{Ed25519, Ecdsa}
@@ -14,9 +13,9 @@ use Rattle.names.specs.declared.Cipher.the-variants as cipher
 use Rattle.names.specs.declared.Curve.the-variants.{Nistp256, Nistp384, Nistp521}
 use Rattle.names.specs.declared.Kdf.{Kdf}
 use Rattle.names.specs.declared.Kdf.the-variants as kdf
-use Rattle.names.specs.Algorithms.{algorithmName, curveName, sizeOf}
+use Rattle.names.specs.Algorithms.{sizeOf}
 use Rattle.names.specs.Ciphers.{cipherName, kdfName}
-use Rattle.format.specs.Format.{magic, options, header, curveField, blob, publicLength, privateLength, privateField, standing, needsLeadingZero, short, content, section, plainImage, writtenImage, encryptedImage}
+use Rattle.format.specs.Format.{magic, options, header, blob, publicLength, privateLength, privateField, standing, needsLeadingZero, paddingLength, content, section, plainImage, writtenImage, encryptedImage}
 use Rattle.format.specs.Laws.{section-length}
 
 -- the length of a blob whose point has its algorithm's length
@@ -32,20 +31,20 @@ blob-length (Ecdsa Nistp384) point h = simp (length-append, length-string) (omeg
 blob-length (Ecdsa Nistp521) point h = simp (length-append, length-string) (omega arith)
 
 -- a zero takes one byte
-abbrev pub one : Bool → ℕ
-one true = 1
-one false = 0
+abbrev pub zeroLength : Bool → ℕ
+zeroLength true = 1
+zeroLength false = 0
 
-pub standing-length : (zero : Bool) (scalar : List ℕ) → length (standing zero scalar) ≡ one zero + length scalar
+pub standing-length : (zero : Bool) (scalar : List ℕ) → length (standing zero scalar) ≡ zeroLength zero + length scalar
 standing-length true scalar = omega arith
 standing-length false scalar = omega arith
 
 -- the length of the private field, of private bytes that have their algorithm's length
 abbrev pub privateFieldLength : Algorithm → List ℕ → ℕ
 privateFieldLength Ed25519 seed = 68
-privateFieldLength (Ecdsa curve) scalar = 4 + sizeOf curve + one (needsLeadingZero (Ecdsa curve) scalar)
+privateFieldLength (Ecdsa curve) scalar = 4 + sizeOf curve + zeroLength (needsLeadingZero (Ecdsa curve) scalar)
 
-pub private-field-length :
+private-field-length :
     (a : Algorithm) (point scalar : List ℕ) → length point ≡ publicLength a → length scalar ≡ privateLength a
     → length (privateField a point (standing (needsLeadingZero a scalar) scalar)) ≡ privateFieldLength a scalar
 private-field-length Ed25519 point scalar h k = simp (length-string, length-append) (omega arith)
@@ -71,7 +70,7 @@ written-content-length n a point scalar comment h k =
     ∙ rw (blob-length a point h, private-field-length a point scalar h k)
 
 -- the header of a plain image
-pub plain-header-length : (key : List ℕ) → length (header cipher.None kdf.None [] 0 key) ≡ 43 + length key
+plain-header-length : (key : List ℕ) → length (header cipher.None kdf.None [] 0 key) ≡ 43 + length key
 unfolding header magic
 plain-header-length key = simp (length-append, length-string, length-uint32) (omega arith)
 
@@ -86,7 +85,7 @@ plain-length n a point stored comment = simp (length-append, length-string, plai
 pub written-length :
     (n : ℕ) (a : Algorithm) (point scalar comment : List ℕ) → length point ≡ publicLength a → length scalar ≡ privateLength a
     → length (writtenImage n a point scalar comment)
-    ≡ 47 + blobLength a + (contentLength a scalar (length comment) + short (contentLength a scalar (length comment)))
+    ≡ 47 + blobLength a + (contentLength a scalar (length comment) + paddingLength (contentLength a scalar (length comment)))
 unfolding writtenImage
 written-length n a point scalar comment h k =
     let stored = standing (needsLeadingZero a scalar) scalar in

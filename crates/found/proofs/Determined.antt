@@ -1,4 +1,5 @@
 -- Any two replies that meet a public function's own contract are equal.
+-- Rests on the contracts being equations.
 use Rattle.fields.specs.Determined.{Determined, DeterminedView}
 use Rattle.found.proofs.find.Reads as find
 use Rattle.found.proofs.find.Kinds as find-kinds

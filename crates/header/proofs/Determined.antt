@@ -1,4 +1,5 @@
 -- Any two replies that meet a public function's own contract are equal.
+-- Rests on the contracts being equations.
 use Rattle.fields.specs.Determined.{Determined}
 use Rattle.header.proofs.read_header.Reads as read-header
 use Rattle.header.proofs.read_header.Kinds as read-header-kinds

@@ -35,7 +35,7 @@ use Rattle.header.specs.Place.{cipher-place, kdf-place, count-place}
 use Rattle.header.specs.Header.{onKdf, magicAt, cipherAt, noneAt, bcryptAt, kdfAt, countAt, blobFieldAt, headerAt}
 
 -- the magic begins the image
-pub length-magic : length magic ≡ 15
+length-magic : length magic ≡ 15
 unfolding magic
 length-magic = refl
 

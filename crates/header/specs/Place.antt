@@ -113,8 +113,6 @@ pub record KdfPlace (s : List ℕ) (c : Cursor) (k : Kdf) (salt : Part) (rounds 
   pub after : Cursor
   pub name-read : stringAt s c ≡ field.Part name after
   pub name-is : viewOf s name ≡ kdfName k
-  pub whole-options : Part
-  pub options-read : stringAt s after ≡ field.Part whole-options d
   pub options-are : onKdf k (noneAt s after) (bcryptAt s after) ≡ kdf-field.Options k salt rounds d
   pub end : d .end ≡ c .end
 
@@ -206,8 +204,6 @@ kdf-place s c k salt rounds d e =
       after = x;
       name-read = w;
       name-is = kdf-read (viewOf s n) k (v ∙ ap kdf-name.Known (r .2));
-      whole-options = r .0;
-      options-read = r .1;
       options-are = rw (r .2) at h;
       end = string-place s x (r .0) d (r .1) .placed .end ∙ string-place s c n x w .placed .end;
     }))

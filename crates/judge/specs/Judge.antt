@@ -68,7 +68,7 @@ kind-same Plain Encrypted e = clash (let z : _≡_ {A = ℕ} 1 2 = e in omega ar
 kind-same Encrypted Plain e = clash (let z : _≡_ {A = ℕ} 2 1 = e in omega arith)
 kind-same Encrypted Encrypted e = refl
 
-pub header-same : (a b : Header) → sameHeader a b ≡ true → a ≡ b
+header-same : (a b : Header) → sameHeader a b ≡ true → a ≡ b
 unfolding sameHeader sameAlgorithm
 header-same a b e =
     let e₇ = both-true _ (eqb (a .section) (b .section)) e in

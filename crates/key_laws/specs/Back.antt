@@ -87,7 +87,7 @@ pub record PointBack (s : List ℕ) (w : EcdsaPublic) (k : Curve) (point t : Lis
   pub good : Good s next
   pub more : rest s next ≡ t
 
-pub ecdsa-public-back :
+ecdsa-public-back :
     (s : List ℕ) (c : Cursor) → Good s c → (k : Curve) (x t : List ℕ) → length x ≡ 1 + 2 * sizeOf k → getD x 0 0 ≡ 4
     → rest s c ≡ string (curveName k) ++ (string x ++ t) → PointBack s (ecdsaPublicAt s c) k x t
 unfolding ecdsaPublicAt
@@ -110,7 +110,7 @@ name-back :
 name-back s c good a x t e = string-back s c good (algorithmName a) (curveField a ++ (string x ++ t)) (algorithm-back a .1) (e ∙ blob-then a x t)
 
 -- a public key as the format writes it
-pub public-key-back :
+public-key-back :
     (s : List ℕ) (c : Cursor) → Good s c → (a : Algorithm) (x t : List ℕ) → length x ≡ publicLength a → pointTag a x ≡ true
     → rest s c ≡ blob a x ++ t → KeyBack s (publicKeyAt s c) a x t
 unfolding publicKeyAt ecdsaKeyAt

@@ -137,7 +137,7 @@ module _ (s : List ℕ) (all : AllBytes s) where
       → rest s c ≡ string (algorithmName a) ++ rest s b
   named-text c n b a w v = rw (algorithm-read (viewOf s n) a v) at (string-read s all c n b w .text)
 
-  pub public-key-read : (c : Cursor) (a : Algorithm) (p : Part) (d : Cursor) → publicKeyAt s c ≡ public.Key a p d → KeyRead c a p d
+  public-key-read : (c : Cursor) (a : Algorithm) (p : Part) (d : Cursor) → publicKeyAt s c ≡ public.Key a p d → KeyRead c a p d
   unfolding publicKeyAt
   public-key-read c a p d e =
       by-field (stringAt s c)

@@ -11,8 +11,6 @@ use Rattle.keys.proofs.read_public_key.Reads as read-public-key
 use Rattle.keys.proofs.read_public_key.Kinds as read-public-key-kinds
 use Rattle.keys.proofs.read_blob.Reads as read-blob
 use Rattle.keys.proofs.read_blob.Kinds as read-blob-kinds
-use Rattle.keys.proofs.byte.Reads as byte
-use Rattle.keys.proofs.byte.Kinds as byte-kinds
 use Rattle.keys.proofs.needs_leading_zero.Reads as needs-leading-zero
 use Rattle.keys.proofs.needs_leading_zero.Kinds as needs-leading-zero-kinds
 use Rattle.keys.proofs.public_length.Reads as public-length
@@ -34,9 +32,6 @@ read-public-key-determined κs a r₁ r₂ s₁ s₂ p q = cc
 
 pub read-blob-determined : Determined 1 read-blob-kinds.ps read-blob-kinds.r read-blob.Post
 read-blob-determined κs a r₁ r₂ s₁ s₂ p q = cc
-
-pub byte-determined : Determined 1 byte-kinds.ps byte-kinds.r byte.Post
-byte-determined κs a r₁ r₂ s₁ s₂ p q = cc
 
 pub needs-leading-zero-determined : Determined 1 needs-leading-zero-kinds.ps needs-leading-zero-kinds.r needs-leading-zero.Post
 needs-leading-zero-determined κs a r₁ r₂ s₁ s₂ p q = cc

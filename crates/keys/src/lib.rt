@@ -1,8 +1,6 @@
 // Public keys, Ed25519 and ECDSA over three curves, and the lengths of their parts.
 ghost use mathlib.Core.Path.{_≡_};
-ghost use lib.Dec.{leb};
-ghost use lib.ListN.{getD};
-ghost use Rattle.format.specs.Format.{publicLength, privateLength};
+ghost use Rattle.format.specs.Format.{publicLength, privateLength, leadingZero};
 ghost use Rattle.keys.specs.Keys.{pointAt, ecdsaPublicAt, ecdsaKeyAt, publicKeyAt, blobAt};
 use fields::Cursor;
 use fields::Ending;
@@ -125,21 +123,11 @@ pub fn read_blob(c: Cursor, image: &[u8]) -> Blob
     }
 }
 
-// The byte at an index, or 0 past the end.
-pub fn byte(image: &[u8], i: usize) -> u8
-    ensures { λ r. ⌜ r ≡ getD (now (image .entry)) i 0 ⌝ }
-{
-    if i < image.len() {
-        return image[i];
-    }
-    0
-}
-
 // The Rust's `needs_leading_zero`, of a scalar of any size.
 pub fn needs_leading_zero(scalar: &[u8]) -> bool
-    ensures { λ r. ⌜ r ≡ leb 0x80 (getD (now (scalar .entry)) 0 0) ⌝ }
+    ensures { λ r. ⌜ r ≡ leadingZero (now (scalar .entry)) ⌝ }
 {
-    0x80 <= byte(scalar, 0)
+    0x80 <= fields::byte(scalar, 0)
 }
 
 // The length of a public string or point.

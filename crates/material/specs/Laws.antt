@@ -1,12 +1,10 @@
 -- Laws of key material: bytes that fit are held, others are not; the marked example M16.
-use Prim.Native.Nat.{ℕ, suc, _+_, _≤_, _<_, _^_}
+use Prim.Native.Nat.{ℕ, _+_, _≤_, _<_}
 use native.Mathlib.Omega.{arith}
 use mathlib.Core.Path.{_≡_, refl, sym, _∙_, ap}
 use mathlib.Core.List.{List, [], _∷_, _++_}
-use lib.Bits.{xor-lt}
 use lib.ListN.{length, replicate}
-use Rattle.fields.specs.Bytes.{AllBytes}
-use Rattle.fields.specs.Fields.{part, number4, viewOf}
+use Rattle.fields.specs.Fields.{part, viewOf}
 use Rattle.fields.specs.Room.{view-in, view-out}
 use Rattle.buffer.specs.Puts.{splice, placed, zeros, zeros-length, placed-fits, no-put, splice-length, take-splice}
 use Rattle.names.specs.declared.Algorithm.{Algorithm}

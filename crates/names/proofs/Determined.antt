@@ -1,4 +1,5 @@
 -- Any two replies that meet a public function's own contract are equal.
+-- Rests on the contracts being equations.
 use Rattle.fields.specs.Determined.{Determined}
 use Rattle.names.proofs.cipher_named.Reads as cipher-named
 use Rattle.names.proofs.cipher_named.Kinds as cipher-named-kinds

@@ -8,7 +8,7 @@ use Rattle.names.specs.declared.Algorithm.{Algorithm}
 use Rattle.names.specs.declared.Cipher.the-variants as cipher
 use Rattle.names.specs.declared.Kdf.the-variants as kdf
 use Rattle.names.specs.Ciphers.{cipherName, kdfName}
-use Rattle.format.specs.Format.{magic, header, blob, publicLength, privateLength, privateField, short, paddingBytes, content, section, plainImage, writtenImage}
+use Rattle.format.specs.Format.{magic, header, blob, publicLength, privateLength, privateField, paddingLength, paddingBytes, content, section, plainImage, writtenImage}
 use Rattle.format.specs.Laws.{content-then}
 use Rattle.format.specs.Lengths.{blobLength, privateFieldLength, written-length}
 
@@ -20,7 +20,7 @@ sectionFields n a point stored comment =
     ∷ blob a point
     ∷ privateField a point stored
     ∷ string comment
-    ∷ take (short (length (content n a point stored comment))) paddingBytes
+    ∷ take (paddingLength (length (content n a point stored comment))) paddingBytes
     ∷ []
 
 -- cipher and KDF `none`, no options, one key
@@ -43,7 +43,7 @@ pub section-joined :
     (n : ℕ) (a : Algorithm) (point stored comment : List ℕ) → join (sectionFields n a point stored comment) ≡ section n a point stored comment
 unfolding sectionFields section
 section-joined n a point stored comment =
-    let pad = take (short (length (content n a point stored comment))) paddingBytes in
+    let pad = take (paddingLength (length (content n a point stored comment))) paddingBytes in
     sym (content-then n a point stored comment (pad ++ [])) ∙ ap (λ (l : List ℕ). content n a point stored comment ++ l) (append-nil pad)
 
 string-then : (b t : List ℕ) → uint32 (length b) ++ (b ++ t) ≡ string b ++ t
@@ -68,6 +68,6 @@ plain-joined n a point stored comment =
 -- a plain image's, by those of its key, its private field and its padding
 pub plain-size :
     (n : ℕ) (a : Algorithm) (point scalar comment : List ℕ) (key private padding : ℕ) → length point ≡ publicLength a → length scalar ≡ privateLength a
-    → key ≡ blobLength a → private ≡ privateFieldLength a scalar → padding ≡ short (8 + (key + private) + (4 + length comment))
+    → key ≡ blobLength a → private ≡ privateFieldLength a scalar → padding ≡ paddingLength (8 + (key + private) + (4 + length comment))
     → length (writtenImage n a point scalar comment) ≡ 47 + key + (8 + (key + private) + (4 + length comment) + padding)
 plain-size n a point scalar comment key private padding h k ek ep e = rw (e, ek, ep) (written-length n a point scalar comment h k)

@@ -3,11 +3,10 @@
 ghost use mathlib.Core.Path.{_≡_};
 ghost use mathlib.Core.List.{_++_};
 ghost use Prim.Native.Nat.{_+_, _<_};
-ghost use lib.ListN.{length, getD};
-ghost use lib.Dec.{leb};
+ghost use lib.ListN.{length};
 ghost use Rattle.fields.specs.Bytes.{string};
 ghost use Rattle.names.specs.declared.Algorithm.the-variants.{Ecdsa};
-ghost use Rattle.format.specs.Format.{curveField, publicLength, privateLength, pointTag, blob, privateField, standing, needsLeadingZero, short, section, writtenImage};
+ghost use Rattle.format.specs.Format.{curveField, publicLength, privateLength, pointTag, blob, privateField, standing, leadingZero, needsLeadingZero, paddingLength, section, writtenImage};
 ghost use Rattle.format.specs.Lengths.{blobLength, privateFieldLength, contentLength};
 ghost use Rattle.buffer.specs.Puts.{isPut};
 ghost use Rattle.buffer.specs.Runs.{isRun};
@@ -53,7 +52,7 @@ fn put_two(out: &mut [u8], at: usize, first: &[u8], second: &[u8]) -> usize
 // A scalar of any size, after a zero where its first byte asks for one.
 fn put_scalar(out: &mut [u8], at: usize, scalar: &[u8]) -> usize
     requires { ⌜ length (now scalar) < 255 ⌝ }
-    ensures { λ r. ⌜ isRun (now (out .entry)) at (string (standing (leb 0x80 (getD (now (scalar .entry)) 0 0)) (now (scalar .entry)))) r (now (out .exit)) ⌝ }
+    ensures { λ r. ⌜ isRun (now (out .entry)) at (string (standing (leadingZero (now (scalar .entry))) (now (scalar .entry)))) r (now (out .exit)) ⌝ }
 {
     if keys::needs_leading_zero(scalar) {
         return put_two(out, at, b"\0", scalar);
@@ -124,7 +123,7 @@ fn put_section(
     padding: usize,
 ) -> usize
     requires { ⌜ (length (now point) ≡ publicLength algorithm) × (length (now scalar) ≡ privateLength algorithm) ⌝ }
-    requires { ⌜ padding ≡ short (contentLength algorithm (now scalar) (length (now comment))) ⌝ }
+    requires { ⌜ padding ≡ paddingLength (contentLength algorithm (now scalar) (length (now comment))) ⌝ }
     ensures { λ r. ⌜ isRun (now (out .entry)) at (section checkint algorithm (now (point .entry)) (standing (needsLeadingZero algorithm (now (scalar .entry))) (now (scalar .entry))) (now (comment .entry))) r (now (out .exit)) ⌝ }
 {
     let a = buffer::put_uint32(out, at, checkint as usize);
@@ -192,7 +191,7 @@ fn tagged(algorithm: Algorithm, point: &[u8]) -> bool
 {
     match algorithm {
         Algorithm::Ed25519 => true,
-        Algorithm::Ecdsa(_) => keys::byte(point, 0) == 4,
+        Algorithm::Ecdsa(_) => fields::byte(point, 0) == 4,
     }
 }
 

@@ -114,7 +114,7 @@ fn say_later_views(image: &[u8], f: Fields) {
 // The i-th byte of a buffer before it is lent: never 0, and no run of one byte.
 fn stale(i: usize) -> u8 {
     let seven = b"\xa1\xb2\xc3\xd4\xe5\xf6\x97";
-    keys::byte(seven, i % 7)
+    fields::byte(seven, i % 7)
 }
 
 fn fill(lent: &mut [u8]) {

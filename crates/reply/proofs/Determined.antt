@@ -1,4 +1,5 @@
 -- Any two replies that meet a public function's own contract are equal.
+-- Rests on the contracts being equations.
 use Rattle.fields.specs.Determined.{Determined}
 use Rattle.reply.proofs.refused.Reads as refused
 use Rattle.reply.proofs.refused.Kinds as refused-kinds

@@ -1,7 +1,6 @@
 -- Document 01, 'Views and the inspection program': the program reads standard input and prints no private byte. What it prints of an
 -- image is its summary in lines; what the summary holds is its kind, its names, its lengths and its form, or the refusal.
 use Prim.Native.Nat.{ℕ, _≤_}
-use mathlib.Core.Path.{_≡_, ap}
 use mathlib.Core.Bool.{Bool, true, false}
 use mathlib.Core.List.{List, [], _∷_, _++_}
 use lib.ListN.{length}
@@ -94,11 +93,6 @@ reportReply s old = unless (fits old 0 (reportOf s)) Room (written.Length (lengt
 -- the promise of a report: that reply, and the lines at the start of the buffer where they fit; 256 bytes are always enough
 abbrev pub isReport : List ℕ → List ℕ → Written → List ℕ → Type 0
 isReport s old r out = answers (reportReply s old) (placed old 0 (reportOf s)) r out × (length (reportOf s) ≤ 256)
-
--- the claim: images that are alike in kind, names, lengths and form, or in the refusal, have the same report
-pub report-public : (s t : List ℕ) → summaryOf s ≡ summaryOf t → reportOf s ≡ reportOf t
-unfolding reportOf
-report-public s t e = ap lines e
 
 -- ---- what the code's helpers go by
 

@@ -1,4 +1,5 @@
 -- Any two replies that meet a public function's own contract are equal.
+-- Rests on the contracts being equations.
 use Rattle.fields.specs.Determined.{Determined}
 use Rattle.section.proofs.read_plain.Reads as read-plain
 use Rattle.section.proofs.read_plain.Kinds as read-plain-kinds

@@ -22,7 +22,7 @@ use Rattle.names.specs.declared.Cipher.{Cipher}
 use Rattle.names.specs.Algorithms.{algorithm-self}
 use Rattle.names.specs.Ciphers.{blockSize, tagLength}
 use Rattle.utf8.specs.Utf8.{utf8}
-use Rattle.format.specs.Format.{publicLength, privateLength, pointTag, privateField, standing, mayStand, blob, content, section, short, paddingBytes}
+use Rattle.format.specs.Format.{publicLength, privateLength, pointTag, privateField, standing, mayStand, blob, content, section, paddingLength, paddingBytes}
 use Rattle.format.specs.Laws.{content-then, section-length, padding-length}
 use Rattle.key_laws.specs.Back.{keypair-back}
 use Rattle.section.specs.declared.Entry.{Entry}
@@ -52,12 +52,12 @@ rest-padding s c good =
     view-in s (part (c .at) (c .end - c .at)) (omega arith) ∙ ap (λ (e : ℕ). slice (c .at) e s) ends
 
 padding-back :
-    (s : List ℕ) (c : Cursor) → Good s c → (n : ℕ) → rest s c ≡ take (short n) paddingBytes → (paddingAt s c ≡ ending.Clean) × (c .end - c .at ≡ short n)
+    (s : List ℕ) (c : Cursor) → Good s c → (n : ℕ) → rest s c ≡ take (paddingLength n) paddingBytes → (paddingAt s c ≡ ending.Clean) × (c .end - c .at ≡ paddingLength n)
 unfolding paddingAt
 padding-back s c good n e =
-    let left : c .end - c .at ≡ short n = sym (length-slice (c .at) (c .end) s (good .1)) ∙ ap length e ∙ padding-length n in
-    let seen : viewOf s (part (c .at) (c .end - c .at)) ≡ take (short n) paddingBytes = rest-padding s c good ∙ e in
-    (rw (seen, left, lt-ltb (short n) 8 (omega arith), same-self (take (short n) paddingBytes)), left)
+    let left : c .end - c .at ≡ paddingLength n = sym (length-slice (c .at) (c .end) s (good .1)) ∙ ap length e ∙ padding-length n in
+    let seen : viewOf s (part (c .at) (c .end - c .at)) ≡ take (paddingLength n) paddingBytes = rest-padding s c good ∙ e in
+    (rw (seen, left, lt-ltb (paddingLength n) 8 (omega arith), same-self (take (paddingLength n) paddingBytes)), left)
 
 -- a key that fits the format, with the scalar in a form that it may have
 pub record KeyFits (a : Algorithm) (zero : Bool) (point scalar comment : List ℕ) : Type 0 where
@@ -74,6 +74,7 @@ record EntryBack (s : List ℕ) (w : Entry) (scalar comment t : List ℕ) : Type
   pub read : w ≡ entry.Key private place next
   pub kept : viewOf s private ≡ scalar
   pub seen : viewOf s place ≡ comment
+  pub size : place .length ≡ length comment
   pub good : Good s next
   pub more : rest s next ≡ t
 
@@ -93,6 +94,7 @@ entry-back s c good small a q zero scalar comment t fits e =
       read = rw (p .read, algorithm-self, p .seen, same-self (viewOf s q), m .read, m .seen, fits .text);
       kept = p .kept;
       seen = m .seen;
+      size = m .size;
       good = m .good;
       more = m .more;
     }
@@ -105,19 +107,20 @@ pub record PlainBack (s : List ℕ) (w : SectionRead) (n : ℕ) (scalar comment 
   pub same-checkint : fields .checkint ≡ n
   pub same-scalar : viewOf s (fields .scalar) ≡ scalar
   pub same-comment : viewOf s (fields .comment) ≡ comment
+  pub comment-size : fields .comment .length ≡ length comment
   pub same-padding : fields .padding ≡ padding
 
 content-back :
     (s : List ℕ) (c : Cursor) → Good s c → length s < 2 ^ 32 → (a : Algorithm) (q : Part) (zero : Bool) (n : ℕ) (scalar comment : List ℕ) → n < 2 ^ 32
     → KeyFits a zero (viewOf s q) scalar comment
     → rest s c ≡ section n a (viewOf s q) (standing zero scalar) comment
-    → PlainBack s (contentAt s c a q) n scalar comment (short (length (content n a (viewOf s q) (standing zero scalar) comment)))
+    → PlainBack s (contentAt s c a q) n scalar comment (paddingLength (length (content n a (viewOf s q) (standing zero scalar) comment)))
 unfolding contentAt section
 content-back s c good small a q zero n scalar comment fit fits e =
     let stored = standing zero scalar in
     let size = length (content n a (viewOf s q) stored comment) in
-    let padding = take (short size) paddingBytes in
-    let long : c .end - c .at ≡ size + short size =
+    let padding = take (paddingLength size) paddingBytes in
+    let long : c .end - c .at ≡ size + paddingLength size =
     sym (length-slice (c .at) (c .end) s (good .1)) ∙ ap length e ∙ section-length n a (viewOf s q) stored comment in
     let k = checkints-back s c good n (blob a (viewOf s q) ++ (privateField a (viewOf s q) stored ++ (string comment ++ padding))) fit
     (e ∙ content-then n a (viewOf s q) stored comment padding) in
@@ -140,6 +143,7 @@ content-back s c good small a q zero n scalar comment fit fits e =
       same-checkint = refl;
       same-scalar = m .kept;
       same-comment = m .seen;
+      comment-size = m .size;
       same-padding = p .1;
     }
 
@@ -147,7 +151,7 @@ pub plain-back :
     (s : List ℕ) (c : Cursor) → Good s c → length s < 2 ^ 32 → (a : Algorithm) (q : Part) (zero : Bool) (n : ℕ) (scalar comment : List ℕ) → n < 2 ^ 32
     → KeyFits a zero (viewOf s q) scalar comment
     → rest s c ≡ string (section n a (viewOf s q) (standing zero scalar) comment)
-    → PlainBack s (plainAt s c a q) n scalar comment (short (length (content n a (viewOf s q) (standing zero scalar) comment)))
+    → PlainBack s (plainAt s c a q) n scalar comment (paddingLength (length (content n a (viewOf s q) (standing zero scalar) comment)))
 unfolding plainAt
 plain-back s c good small a q zero n scalar comment fit fits e =
     let b = section n a (viewOf s q) (standing zero scalar) comment in
@@ -161,6 +165,7 @@ plain-back s c good small a q zero n scalar comment fit fits e =
       same-checkint = k .same-checkint;
       same-scalar = k .same-scalar;
       same-comment = k .same-comment;
+      comment-size = k .comment-size;
       same-padding = k .same-padding;
     }
 
@@ -172,6 +177,13 @@ present-seen s p b e l =
     (λ v. rw v (view-absent s ∙ sym (length-zero b (sym l ∙ eqb-true (p .length) 0 v))))
     (λ v. rw v e)
 
+present-size : (p : Part) (n : ℕ) → p .length ≡ n → presentOf p .length ≡ n
+unfolding presentOf
+present-size p n l =
+    by-bool (eqb (p .length) 0)
+    (λ v. rw v (sym (eqb-true (p .length) 0 v) ∙ l))
+    (λ v. rw v l)
+
 -- what an encrypted section gives back
 pub record EncryptedBack (s : List ℕ) (w : SectionRead) (ciphertext tag : List ℕ) : Type 0 where
   pub fields : Section
@@ -179,6 +191,8 @@ pub record EncryptedBack (s : List ℕ) (w : SectionRead) (ciphertext tag : List
   pub encrypted : fields .kind ≡ Encrypted
   pub same-ciphertext : viewOf s (fields .ciphertext) ≡ ciphertext
   pub same-tag : viewOf s (fields .tag) ≡ tag
+  pub ciphertext-size : fields .ciphertext .length ≡ length ciphertext
+  pub tag-size : fields .tag .length ≡ length tag
 
 pub encrypted-back :
     (s : List ℕ) (c : Cursor) → Good s c → length s < 2 ^ 32 → (cipher : Cipher) (ciphertext tag : List ℕ) → length ciphertext % blockSize cipher ≡ 0
@@ -194,4 +208,6 @@ encrypted-back s c good small cipher ciphertext tag blocks long e =
       encrypted = refl;
       same-ciphertext = p .seen;
       same-tag = present-seen s (t .place) tag (t .seen) (t .size);
+      ciphertext-size = p .size;
+      tag-size = present-size (t .place) (length tag) (t .size);
     }

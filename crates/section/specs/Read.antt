@@ -21,7 +21,7 @@ use Rattle.fields.specs.declared.Ending.the-variants as ending
 use Rattle.names.specs.declared.Algorithm.{Algorithm}
 use Rattle.names.specs.Algorithms.{sameAlgorithm, algorithm-same}
 use Rattle.utf8.specs.Utf8.{utf8}
-use Rattle.format.specs.Format.{privateField, standing, blob, content, section, short, paddingBytes}
+use Rattle.format.specs.Format.{privateField, standing, blob, content, section, paddingLength, paddingBytes}
 use Rattle.format.specs.Laws.{content-then}
 use Rattle.pairs.specs.declared.Keypair.{Keypair}
 use Rattle.pairs.specs.declared.Keypair.the-variants as keypair
@@ -176,7 +176,7 @@ module _ (s : List ℕ) (all : AllBytes s) where
     pub place : x .comment .start ≡ c .at + 4 + beforeComment a (viewOf s q) (standing zero (viewOf s (x .scalar))) + 4
 
   -- how long the padding is follows from the multiple of 8
-  padding-short : (n p : ℕ) → (n + p) % 8 ≡ 0 → p < 8 → p ≡ short n
+  padding-short : (n p : ℕ) → (n + p) % 8 ≡ 0 → p < 8 → p ≡ paddingLength n
   padding-short n p e h = omega arith
 
   -- the fields one after the other, and the padding that they leave
@@ -198,7 +198,7 @@ module _ (s : List ℕ) (all : AllBytes s) where
       let long : c .end - c .at ≡ length body + left =
       sym (length-slice (c .at) (c .end) s inside) ∙ ap length text ∙ length-append body (take left paddingBytes)
       ∙ ap (λ (i : ℕ). length body + i) (length-take-le left paddingBytes (omega (arith, p .1))) in
-      let fills : left ≡ short (length body) = padding-short (length body) left (rw long at whole) (p .1) in
+      let fills : left ≡ paddingLength (length body) = padding-short (length body) left (rw long at whole) (p .1) in
       text ∙ ap (λ (i : ℕ). body ++ take i paddingBytes) fills
 
   -- what reading the content found

@@ -14,7 +14,6 @@ use Rattle.fields.specs.Read.{bytes-read, string-read, end-read}
 use Rattle.fields.specs.declared.Cursor.{Cursor}
 use Rattle.names.specs.declared.Cipher.{Cipher}
 use Rattle.names.specs.Ciphers.{blockSize, tagLength}
-use Rattle.format.specs.Format.{section}
 use Rattle.section.specs.declared.Kind.the-variants.{Encrypted}
 use Rattle.section.specs.declared.Section.{Section}
 use Rattle.section.specs.declared.SectionRead.the-variants as section-read

@@ -1,5 +1,5 @@
 -- Any two replies that meet a public function's own contract are equal. What a function that answers nothing puts to standard
--- output is in no contract.
+-- output is in no contract. Rests on the contracts being equations.
 use Rattle.fields.specs.Determined.{Determined}
 use Rattle.telling.proofs.number_at.Reads as number-at
 use Rattle.telling.proofs.number_at.Kinds as number-at-kinds

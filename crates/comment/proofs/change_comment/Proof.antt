@@ -4,7 +4,7 @@ use mathlib.Core.Path.{refl, sym, _∙_}
 use borrow.Author.Tests.{le-leb, lt-leb}
 use lib.Seq.{length-take-le}
 use Rattle.container.specs.FormLaws.{form-refused, form-record}
-use Rattle.comment.specs.Change.{changeReply, changeLeft, recordLeft}
+use Rattle.comment.specs.Change.{changeReply, changeLeft, acceptedLeft}
 use borrow.Author.Needs.{needs}
 use Rattle.reply.specs.Reply.{answered}
 use Rattle.comment.proofs.change_comment.Statement.{statement}
@@ -53,7 +53,7 @@ same-length-2 : tie.Need-same-length-2
 same-length-2 c = search needs
 
 returns-4 : tie.Need-returns-4
-unfolding changeReply changeLeft recordLeft
+unfolding changeReply changeLeft acceptedLeft
 returns-4 c = rw (le-leb _ _ (c .before .before .before .before .before .before .before .before .before .before .if1 .left), le-leb _ _ (c .before .before .before .before .before .before .before .before .before .if2 .left), form-record _ _ _ (sym (c .before .before .before .before .before .before .before .read-with-form .ensures .0) ∙ c .before .before .before .before .before .f2 .given .1) .0) (answered _ _ _ _ (c .before .before .change-record .ensures))
 
 pub change-comment-spec : {M : Type 1} → statement M

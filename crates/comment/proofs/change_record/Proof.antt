@@ -6,7 +6,7 @@ use borrow.Author.Tests.{not-true, not-false}
 use lib.ListN.{take}
 use Rattle.container.specs.Read.{PlainText}
 use Rattle.container.specs.FormLaws.{plain-of}
-use Rattle.comment.specs.Change.{recordReply, recordLeft}
+use Rattle.comment.specs.Change.{acceptedReply, acceptedLeft}
 use Rattle.comment.specs.Afresh.{all-take, stands, record-renewed}
 use borrow.Author.Needs.{needs}
 use Rattle.comment.proofs.change_record.Statement.{statement}
@@ -30,7 +30,7 @@ refused-requires-2 : tie.Need-refused-requires-2
 refused-requires-2 c κs = search needs
 
 returns : tie.Need-returns
-unfolding recordReply recordLeft
+unfolding acceptedReply acceptedLeft
 returns c = rw (c .refused2 .ensures, ← c .before .before .before .before .before .before .before .before .before .pre .1 .1, not-true (c .before .before .before .before .before .before .before .before .before .args .form) (c .before .if1 .taken), c .before .before .enum-told2 .given .1) (refl, refl)
 
 sub-field : tie.Need-sub-field
@@ -40,7 +40,7 @@ is-utf8-requires : tie.Need-is-utf8-requires
 is-utf8-requires c κs = search needs
 
 returns-2 : tie.Need-returns-2
-unfolding recordReply recordLeft
+unfolding acceptedReply acceptedLeft
 returns-2 c = rw
     (← c .before .before .before .before .before .before .before .before .before .before .before .pre .1 .1, not-false (c .before .before .before .before .before .before .before .before .before .before .before .args .form) (c .before .before .before .if1 .left), ← c .before .is-utf8 .ensures, not-true (c .before .is-utf8 .result) (c .if2 .taken), c .before .before .before .before .enum-told2 .given .1)
     (refl, refl)
@@ -52,7 +52,7 @@ renew-requires c κs =
     (place .section-field, place .comment-field, c .before .before .before .before .before .before .before .before .before .before .before .before .pre .0 .0, c .before .before .before .before .before .before .before .before .before .before .before .before .pre .0 .1)
 
 returns-3 : tie.Need-returns-3
-unfolding recordReply recordLeft
+unfolding acceptedReply acceptedLeft
 returns-3 c = rw (c .refused .ensures, c .before .enum-told .given .1) (refl, refl)
 
 same-length : tie.Need-same-length

@@ -1,6 +1,6 @@
 -- `fields::same` meets its contract: what was found so far, and whether the bytes from i on are the same, is `sameBytes` of all.
 -- Rests on the two laws of `sameBytes` below.
-use Prim.Native.Nat.{ℕ, zero, suc, _+_, _-_, _≤_, _<_}
+use Prim.Native.Nat.{ℕ, zero, suc, _-_, _≤_, _<_}
 use native.Mathlib.Omega.{arith}
 use native.Mathlib.Numerals.{add-one}
 use mathlib.Core.Path.{_≡_, refl, sym, _∙_, ap}

@@ -3,7 +3,7 @@
 use mathlib.Core.Path.{_≡_, sym, _∙_, ap}
 use native.Mathlib.Omega.{arith}
 use lib.ListN.{length}
-use Rattle.format.specs.Format.{standing, needsLeadingZero, short, content}
+use Rattle.format.specs.Format.{standing, needsLeadingZero, paddingLength, content}
 use Rattle.format.specs.Laws.{key-small}
 use Rattle.format.specs.Lengths.{written-content-length}
 use Rattle.buffer.specs.Runs.{start-as, step, run, finish-as}
@@ -42,7 +42,7 @@ returns c room =
     let stored = standing (needsLeadingZero (a .algorithm) (a .scalar .now)) (a .scalar .now) in
     let joined = section-joined (a .checkint) (a .algorithm) (a .point .now) stored (a .comment .now) in
     let long = written-content-length (a .checkint) (a .algorithm) (a .point .now) (a .scalar .now) (a .comment .now) (c .before .before .before .before .before .before .before .before .before .before .before .before .before .before .before .before .before .before .before .before .before .before .before .before .before .before .before .before .pre .0 .0) (c .before .before .before .before .before .before .before .before .before .before .before .before .before .before .before .before .before .before .before .before .before .before .before .before .before .before .before .before .pre .0 .1) in
-    let fewest : a .padding ≡ short (length (content (a .checkint) (a .algorithm) (a .point .now) stored (a .comment .now))) = c .before .before .before .before .before .before .before .before .before .before .before .before .before .before .before .before .before .before .before .before .before .before .before .before .before .before .before .before .pre .1 ∙ ap short (sym long) in
+    let fewest : a .padding ≡ paddingLength (length (content (a .checkint) (a .algorithm) (a .point .now) stored (a .comment .now))) = c .before .before .before .before .before .before .before .before .before .before .before .before .before .before .before .before .before .before .before .before .before .before .before .before .before .before .before .before .pre .1 ∙ ap paddingLength (sym long) in
     let key = run (step (step (start-as _ joined room) (c .before .before .before .before .before .before .before .before .before .before .before .before .before .before .before .before .before .before .before .before .before .before .put-uint32 .ensures)) (c .before .before .before .before .before .before .before .before .before .before .before .before .before .before .before .before .before .before .put-uint322 .ensures)) (c .before .before .before .before .before .before .before .before .before .before .before .before .before .before .put-key .ensures) in
     let comment = step (run key (c .before .before .before .before .before .before .before .before .before .before .put-private .ensures)) (c .before .before .before .before .before .before .put-string .ensures) in
     finish-as _ joined (step comment (rw fewest at (c .before .before .put-padding .ensures)))

@@ -5,10 +5,6 @@ use Rattle.report.specs.Report.{line}
 use borrow.Author.Needs.{needs}
 use Rattle.report.proofs.put_name.Statement.{statement}
 use Rattle.report.proofs.put_name.Tie as tie
-use Rattle.report.proofs.put_name.Reads as reads
-use Rattle.report.proofs.put_name.Lts as lts
-use Rattle.buffer.proofs.put.Reads as put-reads
-use Rattle.spelling.proofs.put_name.Reads as put-name-reads
 
 put-requires : tie.Need-put-requires
 put-requires c κs = search needs

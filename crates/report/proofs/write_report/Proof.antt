@@ -10,7 +10,7 @@ use lib.ListN.{length, take, replicate}
 use Rattle.fields.specs.declared.Refusal.the-variants.{Room}
 use Rattle.buffer.specs.Puts.{fits, placed, next, begins, no-put, next-fits}
 use Rattle.reply.specs.declared.Written.the-variants as written
-use Rattle.reply.specs.Reply.{refused, answers, answered}
+use Rattle.reply.specs.Reply.{refused, answered}
 use Rattle.report.specs.Report.{lines, summaryOf, reportOf, reportReply, isText}
 use Rattle.report.proofs.write_report.Statement.{statement}
 use Rattle.report.proofs.write_report.Tie as tie

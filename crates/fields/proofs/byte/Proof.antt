@@ -1,10 +1,10 @@
--- `keys::byte` meets its contract: past the end `getD` is 0. Assumes nothing.
+-- `fields::byte` meets its contract: past the end `getD` is 0. Assumes nothing.
 use mathlib.Core.Path.{sym}
 use denote.Ref.{now}
 use lib.ListN.{List·getD-eq-default}
 use borrow.Author.Needs.{needs}
-use Rattle.keys.proofs.byte.Statement.{statement}
-use Rattle.keys.proofs.byte.Tie as tie
+use Rattle.fields.proofs.byte.Statement.{statement}
+use Rattle.fields.proofs.byte.Tie as tie
 
 shared-slice-read-result : tie.Need-shared-slice-read-result
 shared-slice-read-result c = search needs

@@ -1,0 +1,131 @@
+-- Document 01, 'Views and the inspection program': the program prints no private byte. What it prints of every accepted image, by its kind,
+-- its names, its lengths and its form: images that are alike in these have the same report, whatever their private bytes. (`image-text`
+-- says that an accepted image is one of those here.)
+use Prim.Native.Nat.{ℕ, _+_, _≤_, _<_, _^_}
+use native.Mathlib.Omega.{arith}
+use mathlib.Core.Path.{_≡_, refl, sym, _∙_, ap}
+use mathlib.Core.Bool.{Bool, true, false}
+use mathlib.Core.List.{List, [], _∷_}
+use lib.ListN.{length, length-append}
+use Rattle.fields.specs.Bytes.{ascii}
+use Rattle.fields.specs.Fields.{viewOf}
+use Rattle.fields.specs.Place.{clash}
+use Rattle.fields.specs.Rest.{length-string}
+use Rattle.names.specs.declared.Algorithm.{Algorithm}
+use Rattle.names.specs.declared.Algorithm.the-variants.{Ed25519, Ecdsa}
+use Rattle.names.specs.declared.Cipher.{Cipher}
+use Rattle.names.specs.declared.Cipher.the-variants as cipher
+use Rattle.names.specs.declared.Kdf.{Kdf}
+use Rattle.names.specs.declared.Kdf.the-variants as kdf
+use Rattle.names.specs.Algorithms.{sizeOf}
+use Rattle.utf8.specs.Utf8.{UTF8-char, utf8, utf8From}
+use Rattle.format.specs.Format.{blob, privateField, standing, needsLeadingZero, paddingLength, content, plainImage, writtenImage, encryptedImage}
+use Rattle.format.specs.Laws.{section-length}
+use Rattle.format.specs.Lengths.{blobLength, blob-length, zeroLength, standing-length, content-length, plain-length}
+use Rattle.section.specs.Back.{KeyFits}
+use Rattle.container.specs.Back.{PlainImageBack, plain-image-back, SealFits, encrypted-image-back}
+use Rattle.container.specs.Form.{formOf}
+use Rattle.container.specs.FormLaws.{agree, form-stands}
+use Rattle.report.specs.Report.{Plain, Encrypted, accepted, summaryOf, lines, reportOf}
+use Rattle.report.specs.Examples.{printed, oven7}
+
+-- ---- plain images
+
+-- the private field's length, by the kind and whether a zero stands before the scalar
+abbrev pub storedLength : Algorithm → Bool → ℕ
+storedLength Ed25519 zero = 68
+storedLength (Ecdsa k) zero = 4 + sizeOf k + zeroLength zero
+
+-- the section's but for its padding, with a comment of c bytes
+abbrev pub sectionSize : Algorithm → Bool → ℕ → ℕ
+sectionSize a zero c = 8 + (blobLength a + storedLength a zero) + (4 + c)
+
+stored-length :
+    (a : Algorithm) (zero : Bool) (point scalar comment : List ℕ) → KeyFits a zero point scalar comment
+    → length (privateField a point (standing zero scalar)) ≡ storedLength a zero
+stored-length Ed25519 true point scalar comment fits = let never = fits .may in clash cc
+stored-length Ed25519 false point scalar comment fits =
+    let h = fits .long in
+    let k = fits .private in
+    simp (length-string, length-append) (omega arith)
+stored-length (Ecdsa curve) zero point scalar comment fits =
+    let k = fits .private in
+    simp (length-string, standing-length) (omega arith)
+
+module _ (n : ℕ) (a : Algorithm) (zero : Bool) (point scalar comment : List ℕ) (small : n < 2 ^ 32) (fits : KeyFits a zero point scalar comment) where
+  abbrev image : List ℕ
+  image = plainImage n a point (standing zero scalar) comment
+
+  -- the lengths that are printed
+  size-is : length (content n a point (standing zero scalar) comment) ≡ sectionSize a zero (length comment)
+  size-is =
+      content-length n a point (standing zero scalar) comment
+      ∙ rw (blob-length a point (fits .long), stored-length a zero point scalar comment fits)
+
+  length-is :
+      length image ≡ 47 + blobLength a + (sectionSize a zero (length comment) + paddingLength (sectionSize a zero (length comment)))
+  length-is =
+      plain-length n a point (standing zero scalar) comment
+      ∙ rw (section-length n a point (standing zero scalar) comment, size-is, blob-length a point (fits .long))
+
+  -- the form that is printed
+  form-is : (pad : ℕ) (b : PlainImageBack image n a point scalar comment pad) → formOf image (b .fields) ≡ agree (needsLeadingZero a scalar) zero
+  form-is pad b =
+      let e = form-stands image (b .fields) zero
+      (rw (b .same-checkint, b .same-algorithm, b .same-point, b .same-scalar, b .same-comment))
+      (rw (b .same-algorithm, b .same-point, b .same-scalar, b .same-comment) fits) (b .plain) in
+      let rule : needsLeadingZero (b .fields .header .algorithm) (viewOf image (b .fields .section .scalar)) ≡ needsLeadingZero a scalar =
+      rw (b .same-algorithm, b .same-scalar) in
+      e ∙ ap (λ (w : Bool). agree w zero) rule
+
+  -- what is printed of a plain image
+  pub report-plain :
+      length image ≤ 65535
+      → reportOf image
+      ≡ lines
+      (Plain a cipher.None kdf.None (length comment) (paddingLength (sectionSize a zero (length comment)))
+      (47 + blobLength a + (sectionSize a zero (length comment) + paddingLength (sectionSize a zero (length comment))))
+      (agree (needsLeadingZero a scalar) zero))
+  unfolding reportOf summaryOf accepted
+  report-plain limit =
+      let b = plain-image-back image n a zero point scalar comment limit small fits refl in
+      rw (b .read, b .plain, form-is _ b, b .same-algorithm, b .no-cipher, b .no-kdf, b .comment-size, b .same-padding, size-is, length-is)
+
+-- no private byte: two keys of a kind, whose scalars stand alike, with comments of one length, have the same report, whatever their private
+-- bytes, points, checkints and comments
+pub no-private-byte :
+    (a : Algorithm) (zero : Bool) (n m : ℕ) (point q scalar x comment d : List ℕ) → n < 2 ^ 32 → m < 2 ^ 32 → KeyFits a zero point scalar comment
+    → KeyFits a zero q x d → length comment ≡ length d → needsLeadingZero a scalar ≡ needsLeadingZero a x
+    → length (plainImage n a point (standing zero scalar) comment) ≤ 65535 → length (plainImage m a q (standing zero x) d) ≤ 65535
+    → reportOf (plainImage n a point (standing zero scalar) comment) ≡ reportOf (plainImage m a q (standing zero x) d)
+no-private-byte a zero n m point q scalar x comment d hn hm fits also-fits long alike limit also-limit =
+    report-plain n a zero point scalar comment hn fits limit
+    ∙ rw (long, alike) (sym (report-plain m a zero q x d hm also-fits also-limit))
+
+oven7-text : utf8 (ascii "oven7") ≡ true
+unfolding utf8 utf8From UTF8-char
+oven7-text = refl
+
+-- the paper's example: an Ed25519 image with comment `oven7`, whatever the key and the checkint
+pub oven7-report :
+    (n : ℕ) (point seed : List ℕ) → n < 2 ^ 32 → length point ≡ 32 → length seed ≡ 32
+    → reportOf (writtenImage n Ed25519 point seed (ascii "oven7"))
+    ≡ printed
+    ("kind plain" ∷ "algorithm ssh-ed25519" ∷ "cipher none" ∷ "kdf none" ∷ "comment 5" ∷ "padding 0" ∷ "image 234" ∷ "form yes" ∷ [])
+unfolding writtenImage
+oven7-report n point seed small long private =
+    let fits : KeyFits Ed25519 false point seed (ascii "oven7") = record { long = long; tag = refl; private = private; may = refl; text = oven7-text } in
+    let limit : length (plainImage n Ed25519 point seed (ascii "oven7")) ≤ 65535 = omega (arith, length-is n Ed25519 false point seed (ascii "oven7") small fits) in
+    report-plain n Ed25519 false point seed (ascii "oven7") small fits limit ∙ oven7
+
+-- ---- encrypted images
+
+pub report-encrypted :
+    (c : Cipher) (k : Kdf) (salt : List ℕ) (rounds : ℕ) (a : Algorithm) (point ciphertext tag : List ℕ) → SealFits c k salt rounds a point ciphertext tag
+    → length (encryptedImage c k salt rounds (blob a point) ciphertext tag) ≤ 65535
+    → reportOf (encryptedImage c k salt rounds (blob a point) ciphertext tag)
+    ≡ lines (Encrypted a c k (length ciphertext) (length tag) (length (encryptedImage c k salt rounds (blob a point) ciphertext tag)))
+unfolding reportOf summaryOf accepted
+report-encrypted c k salt rounds a point ciphertext tag fits limit =
+    let b = encrypted-image-back (encryptedImage c k salt rounds (blob a point) ciphertext tag) c k salt rounds a point ciphertext tag limit fits refl in
+    rw (b .read, b .encrypted, b .same-algorithm, b .same-cipher, b .same-kdf, b .ciphertext-size, b .tag-size)
