@@ -93,7 +93,7 @@ module _ (s : List ℕ) (f : Fields) (t : List ℕ) (g : Fields) (k : SameKey s 
 -- ---- an image that a change left
 
 -- a written image that is read back is in the form
-back-form :
+pub back-form :
     (t : List ℕ) (n : ℕ) (a : Algorithm) (point scalar comment : List ℕ) (padding : ℕ) → t ≡ writtenImage n a point scalar comment
     → (b : PlainImageBack t n a point scalar comment padding) → formOf t (b .fields) ≡ true
 unfolding formOf rewritten

@@ -41,7 +41,7 @@ module _ (old : List ℕ) (section field : ℕ) (comment t : List ℕ) (h : sect
       let middle-long : length middle ≡ field - (section + 4) = length-slice (section + 4) field old k in (
         ap (take section) shell-parts ∙ take-at front (size ++ (middle ++ (after ++ t))) section front-long,
         ap (slice (section + 4) field) (shell-parts ∙ sym (append-assoc front size (middle ++ (after ++ t))))
-        ∙ between (front ++ size) middle (after ++ t) (section + 4) field (length-append front size ∙ omega arith) (simp length-append (omega arith)),
+            ∙ between (front ++ size) middle (after ++ t) (section + 4) field (length-append front size ∙ omega arith) (simp length-append (omega arith)),
       )
 
 -- the claim

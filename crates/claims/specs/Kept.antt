@@ -55,22 +55,22 @@ one-record s f g e w = let o : read.Record f ≡ read.Record g = sym e ∙ w in 
 
 module _ (s : State) (all : AllBytes (s .buf)) (comment : List ℕ) (far : ℕ) (u : State) (k : Kept s comment far u) where
   -- the image with another comment
-  unfoldable pub imageOf : List ℕ → List ℕ
-  imageOf c = afresh (take (s .n) (s .buf)) (k .fields) c
+  unfoldable pub imageWith : List ℕ → List ℕ
+  imageWith c = afresh (take (s .n) (s .buf)) (k .fields) c
 
   again : ReadAgain (take (s .n) (s .buf)) (k .fields) comment
   again = read-again (s .buf) (s .n) (k .inside) all (k .fields) (k .base) comment (u .n) (k .writes)
 
-  first-bytes : take (u .n) (u .buf) ≡ imageOf comment
-  unfolding imageOf
-  first-bytes = ap₂ (λ (i : ℕ) (l : List ℕ). take i l) (k .size) (k .stands) ∙ laid-image (imageOf comment) (far - u .n) (s .buf)
+  first-bytes : take (u .n) (u .buf) ≡ imageWith comment
+  unfolding imageWith
+  first-bytes = ap₂ (λ (i : ℕ) (l : List ℕ). take i l) (k .size) (k .stands) ∙ laid-image (imageWith comment) (far - u .n) (s .buf)
 
   same-room : length (u .buf) ≡ length (s .buf)
-  unfolding imageOf
-  same-room = ap length (k .stands) ∙ laid-length (imageOf comment) (far - u .n) (s .buf) (omega (arith, k .size, k .reached, k .room))
+  unfolding imageWith
+  same-room = ap length (k .stands) ∙ laid-length (imageWith comment) (far - u .n) (s .buf) (omega (arith, k .size, k .reached, k .room))
 
   small-again : u .n ≤ 65535
-  unfolding imageOf afresh
+  unfolding imageWith afresh
   small-again =
       let h = plain-accepted _ _ _ _ comment (length (s .buf)) (u .n) (k .writes) in
       omega (arith, h .small, h .size)
@@ -79,37 +79,37 @@ module _ (s : State) (all : AllBytes (s .buf)) (comment : List ℕ) (far : ℕ) 
   inside-again = omega (arith, same-room, k .reached, k .room)
 
   base-again : Base (take (u .n) (u .buf)) (again .fields)
-  unfolding imageOf
+  unfolding imageWith
   base-again = rw first-bytes (again .base)
 
   -- a further change answers as it would have on the first image
   pub reply-again : (c : List ℕ) → changeReply (u .buf) (u .n) c ≡ changeReply (s .buf) (s .n) c
-  unfolding imageOf
+  unfolding imageWith
   reply-again c =
       let g = again .fields in
       change-of (u .buf) (u .n) g small-again inside-again base-again c
       ∙ ap₂ (λ (t : List ℕ) (room : ℕ). acceptedReply t g c room) first-bytes same-room
-      ∙ same-change (take (s .n) (s .buf)) (k .fields) (imageOf comment) g (again .same-key) (all-take (s .n) (s .buf) all)
+      ∙ same-change (take (s .n) (s .buf)) (k .fields) (imageWith comment) g (again .same-key) (all-take (s .n) (s .buf) all)
       (afresh-bytes (s .buf) (s .n) (k .inside) all (k .fields) (k .base) comment (k .bytes)) (k .base) (again .base) c (length (s .buf))
       ∙ sym (change-of (s .buf) (s .n) (k .fields) (k .small) (k .inside) (k .base) c)
 
   -- and leaves what it would have left, with zeros up to the furthest end
   pub left-again :
       (c : List ℕ) (m : ℕ) → changeReply (u .buf) (u .n) c ≡ written.Length m
-      → (m ≡ length (imageOf c)) × (changeLeft (u .buf) (u .n) c ≡ laid (imageOf c) (far - m) (s .buf)) × (m ≤ length (s .buf))
-  unfolding imageOf
+      → (m ≡ length (imageWith c)) × (changeLeft (u .buf) (u .n) c ≡ laid (imageWith c) (far - m) (s .buf)) × (m ≤ length (s .buf))
+  unfolding imageWith
   left-again c m e =
       let h = change-accepted (u .buf) (u .n) c m e in
       let l = change-laid (u .buf) (u .n) c m h e in
-      let same : afresh (take (u .n) (u .buf)) (h .fields) c ≡ imageOf c =
+      let same : afresh (take (u .n) (u .buf)) (h .fields) c ≡ imageWith c =
       ap₂ (λ (t : List ℕ) (g : Fields). afresh t g c) first-bytes (one-record (take (u .n) (u .buf)) (h .fields) (again .fields) (h .was-read) (base-again .was-read))
-      ∙ same-afresh (take (s .n) (s .buf)) (k .fields) (imageOf comment) (again .fields) (again .same-key) c in
-      let size : m ≡ length (imageOf c) = l .0 ∙ ap length same in
-      let far-is : length (imageOf comment) + (far - u .n) - length (imageOf c) ≡ far - m = omega (arith, k .size, size, k .reached) in (
+      ∙ same-afresh (take (s .n) (s .buf)) (k .fields) (imageWith comment) (again .fields) (again .same-key) c in
+      let size : m ≡ length (imageWith c) = l .0 ∙ ap length same in
+      let far-is : length (imageWith comment) + (far - u .n) - length (imageWith c) ≡ far - m = omega (arith, k .size, size, k .reached) in (
         size,
         l .2 ∙ ap (λ (x : List ℕ). laid x (u .n - length x) (u .buf)) same
-            ∙ ap₂ (λ (i : ℕ) (b : List ℕ). laid (imageOf c) (i - length (imageOf c)) b) (k .size) (k .stands)
-            ∙ relaid (imageOf comment) (imageOf c) (far - u .n) (s .buf)
-            ∙ ap (λ (z : ℕ). laid (imageOf c) z (s .buf)) far-is,
+            ∙ ap₂ (λ (i : ℕ) (b : List ℕ). laid (imageWith c) (i - length (imageWith c)) b) (k .size) (k .stands)
+            ∙ relaid (imageWith comment) (imageWith c) (far - u .n) (s .buf)
+            ∙ ap (λ (z : ℕ). laid (imageWith c) z (s .buf)) far-is,
         omega (arith, l .0, l .1, same-room),
       )

@@ -2,14 +2,13 @@
 -- form, holds for every key, checkint, comment and buffer of the row's kind; what is refused is computed, each on one image.
 use Prim.Native.Nat.{ℕ, _≤_, _<_, _^_}
 use native.Mathlib.Omega.{arith}
-use mathlib.Core.Path.{_≡_, refl}
+use mathlib.Core.Path.{_≡_, refl, _∙_, ap}
 use mathlib.Core.Bool.{Bool, true, false, not}
 use mathlib.Core.List.{List, [], _∷_, _++_}
 use lib.Dec.{leb}
 use lib.ListN.{length, getD, replicate}
-use Rattle.fields.specs.Bytes.{ascii, uint32, string, sameBytes, same-true}
+use Rattle.fields.specs.Bytes.{ascii, uint32, string}
 use Rattle.fields.specs.Fields.{fault, hasRoom, uint32At, bytesAt, stringAt, fixedAt, endAt, viewOf}
-use Rattle.fields.specs.Place.{clash, by-bool}
 use Rattle.fields.specs.Refusals.{numberOf, countOf}
 use Rattle.fields.specs.declared.Refusal.{Refusal}
 use Rattle.fields.specs.declared.Refusal.the-variants.{Length, FormatEncoding, TrailingData}
@@ -19,8 +18,7 @@ use Rattle.names.specs.declared.Curve.the-variants.{Nistp256}
 use Rattle.names.specs.Algorithms.{algorithmNamed, curveNamed, sameAlgorithm}
 use Rattle.names.specs.Ciphers.{cipherNamed, kdfNamed}
 use Rattle.utf8.specs.Utf8.{utf8}
-use Rattle.format.specs.Format.{magic, blob, standing, needsLeadingZero, content, section, header, plainImage, writtenImage}
-use Rattle.format.specs.Laws.{key-small, standing-same}
+use Rattle.format.specs.Format.{magic, blob, standing, needsLeadingZero, content, section, header, plainImage}
 use Rattle.keys.specs.Keys.{pointAt, ecdsaPublicAt, ecdsaKeyAt, publicKeyAt, blobAt}
 use Rattle.pairs.specs.Pairs.{scalarAt, ecdsaPairAt, keypairAt}
 use Rattle.material.specs.Material.{derivedCheckint}
@@ -31,8 +29,9 @@ use Rattle.section.specs.Section.{checkintsAt, entryAt, contentAt, plainAt}
 use Rattle.container.specs.declared.Fields.{Fields}
 use Rattle.container.specs.declared.ImageRead.the-variants as read
 use Rattle.container.specs.Container.{sectionAt, readAt}
-use Rattle.container.specs.Form.{rewritten, formOf}
+use Rattle.container.specs.Form.{formOf}
 use Rattle.container.specs.Back.{plain-image-back}
+use Rattle.container.specs.FormLaws.{agree, form-back}
 use Rattle.claims.specs.Sizes.{Key, Ed25519Takes, ed25519-takes, Ed25519TooLong, ed25519-too-long, P256Takes, p256-takes}
 
 -- ---- images that are refused
@@ -94,27 +93,18 @@ against-rule :
     (n : ℕ) (a : Algorithm) (zero : Bool) (point scalar comment : List ℕ) → n < 2 ^ 32 → KeyFits a zero point scalar comment
     → length (plainImage n a point (standing zero scalar) comment) ≤ 65535 → needsLeadingZero a scalar ≡ not zero
     → NotInForm (plainImage n a point (standing zero scalar) comment)
-unfolding formOf rewritten writtenImage
 against-rule n a zero point scalar comment fit fits small rule =
     let s = plainImage n a point (standing zero scalar) comment in
     let b = plain-image-back s n a zero point scalar comment small fit fits refl in
-    let lengths = key-small a in
     record {
       fields = b .fields;
       read = b .read;
-      form =
-          rw (b .plain, b .same-checkint, b .same-algorithm, b .same-point, b .same-scalar, b .same-comment, rule)
-          (by-bool (sameBytes (plainImage n a point (standing (not zero) scalar) comment) s)
-          (λ v.
-          let z : not zero ≡ zero = standing-same n a point scalar comment (not zero) zero (omega (arith, fits .long)) (omega (arith, fits .private))
-          (same-true (plainImage n a point (standing (not zero) scalar) comment) s v) in
-          clash (never zero z))
-          (λ v. v));
+      form = form-back s n a zero point scalar comment _ fits refl b ∙ ap (λ (w : Bool). agree w zero) rule ∙ never zero;
     }
   where
-    never : (z : Bool) → not z ≡ z → _≡_ {A = ℕ} 0 1
-    never true e = cc
-    never false e = cc
+    never : (z : Bool) → agree (not z) z ≡ false
+    never true = refl
+    never false = refl
 
 -- every P-256 image whose scalar begins with this byte and stands so, after a zero or not, with any checkint and comment
 abbrev pub P256NotInForm : ℕ → Bool → Type 0

@@ -3,12 +3,11 @@
 -- says that an accepted image is one of those here.)
 use Prim.Native.Nat.{ℕ, _+_, _≤_, _<_, _^_}
 use native.Mathlib.Omega.{arith}
-use mathlib.Core.Path.{_≡_, refl, sym, _∙_, ap}
+use mathlib.Core.Path.{_≡_, refl, sym, _∙_}
 use mathlib.Core.Bool.{Bool, true, false}
 use mathlib.Core.List.{List, [], _∷_}
 use lib.ListN.{length, length-append}
 use Rattle.fields.specs.Bytes.{ascii}
-use Rattle.fields.specs.Fields.{viewOf}
 use Rattle.fields.specs.Place.{clash}
 use Rattle.fields.specs.Rest.{length-string}
 use Rattle.names.specs.declared.Algorithm.{Algorithm}
@@ -23,9 +22,8 @@ use Rattle.format.specs.Format.{blob, privateField, standing, needsLeadingZero,
 use Rattle.format.specs.Laws.{section-length}
 use Rattle.format.specs.Lengths.{blobLength, blob-length, zeroLength, standing-length, content-length, plain-length}
 use Rattle.section.specs.Back.{KeyFits}
-use Rattle.container.specs.Back.{PlainImageBack, plain-image-back, SealFits, encrypted-image-back}
-use Rattle.container.specs.Form.{formOf}
-use Rattle.container.specs.FormLaws.{agree, form-stands}
+use Rattle.container.specs.Back.{plain-image-back, SealFits, encrypted-image-back}
+use Rattle.container.specs.FormLaws.{agree, form-back}
 use Rattle.report.specs.Report.{Plain, Encrypted, accepted, summaryOf, lines, reportOf}
 use Rattle.report.specs.Examples.{printed, oven7}
 
@@ -68,16 +66,6 @@ module _ (n : ℕ) (a : Algorithm) (zero : Bool) (point scalar comment : List �
       plain-length n a point (standing zero scalar) comment
       ∙ rw (section-length n a point (standing zero scalar) comment, size-is, blob-length a point (fits .long))
 
-  -- the form that is printed
-  form-is : (pad : ℕ) (b : PlainImageBack image n a point scalar comment pad) → formOf image (b .fields) ≡ agree (needsLeadingZero a scalar) zero
-  form-is pad b =
-      let e = form-stands image (b .fields) zero
-      (rw (b .same-checkint, b .same-algorithm, b .same-point, b .same-scalar, b .same-comment))
-      (rw (b .same-algorithm, b .same-point, b .same-scalar, b .same-comment) fits) (b .plain) in
-      let rule : needsLeadingZero (b .fields .header .algorithm) (viewOf image (b .fields .section .scalar)) ≡ needsLeadingZero a scalar =
-      rw (b .same-algorithm, b .same-scalar) in
-      e ∙ ap (λ (w : Bool). agree w zero) rule
-
   -- what is printed of a plain image
   pub report-plain :
       length image ≤ 65535
@@ -89,7 +77,7 @@ module _ (n : ℕ) (a : Algorithm) (zero : Bool) (point scalar comment : List �
   unfolding reportOf summaryOf accepted
   report-plain limit =
       let b = plain-image-back image n a zero point scalar comment limit small fits refl in
-      rw (b .read, b .plain, form-is _ b, b .same-algorithm, b .no-cipher, b .no-kdf, b .comment-size, b .same-padding, size-is, length-is)
+      rw (b .read, b .plain, form-back image n a zero point scalar comment _ fits refl b, b .same-algorithm, b .no-cipher, b .no-kdf, b .comment-size, b .same-padding, size-is, length-is)
 
 -- no private byte: two keys of a kind, whose scalars stand alike, with comments of one length, have the same report, whatever their private
 -- bytes, points, checkints and comments

@@ -18,7 +18,7 @@ use Rattle.plain.specs.Plain.{plainLeft}
 use Rattle.comment.specs.Change.{afresh, changeReply, changeLeft}
 use Rattle.claims.specs.Laid.{laid, laid-out}
 use Rattle.claims.specs.Change.{ChangeAccepted, change-accepted, change-laid, change-changes, refused-stays}
-use Rattle.claims.specs.Kept.{State, Kept, one-record, imageOf, reply-again, left-again}
+use Rattle.claims.specs.Kept.{State, Kept, one-record, imageWith, reply-again, left-again}
 
 -- ---- a sequence of changes
 
@@ -105,7 +105,7 @@ module _ (s : State) (all : AllBytes (s .buf)) (c : List ℕ) (bytes : AllBytes 
   kept-next :
       (comment : List ℕ) (far : ℕ) (u : State) (k : Kept s comment far u) (m : ℕ) → changeReply (u .buf) (u .n) c ≡ written.Length m
       → Kept s c (far + (m - far)) (record { buf = changeLeft (u .buf) (u .n) c; n = m })
-  unfolding imageOf
+  unfolding imageWith
   kept-next comment far u k m e =
       let l = left-again s all comment far u k c m e in
       let first = sym (reply-again s all comment far u k c) ∙ e in

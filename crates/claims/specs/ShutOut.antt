@@ -10,7 +10,7 @@ use borrow.Author.Tests.{le-leb, ltb-true}
 use lib.Dec.{ltb}
 use lib.ListN.{length, take, getD, replicate}
 use lib.Seq.{take-length}
-use Rattle.fields.specs.Bytes.{uint32, string, AllBytes, both-true, same-self}
+use Rattle.fields.specs.Bytes.{uint32, string, AllBytes, both-true}
 use Rattle.fields.specs.Place.{clash}
 use Rattle.fields.specs.Refusals.{numberOf, countOf}
 use Rattle.fields.specs.declared.Fault.{Fault}
@@ -21,13 +21,14 @@ use Rattle.container.specs.declared.ImageRead.{ImageRead}
 use Rattle.container.specs.declared.ImageRead.the-variants as read
 use Rattle.container.specs.Container.{answersRead}
 use Rattle.container.specs.Back.{PlainImageBack, plain-image-back}
-use Rattle.container.specs.Form.{rewritten, formOf}
+use Rattle.container.specs.Form.{formOf}
 use Rattle.reply.specs.declared.Written.{Written}
 use Rattle.reply.specs.declared.Written.the-variants as written
 use Rattle.plain.specs.Plain.{plainReply, plainLeft, isPlain}
 use Rattle.comment.specs.Change.{afreshReply, afreshLeft, acceptedReply, changeReply, changeLeft, isChange}
 use Rattle.claims.specs.Reading.{PlainAccepted, plain-accepted, plain-written}
 use Rattle.claims.specs.Laid.{laid, laid-length, changed-laid, laid-out}
+use Rattle.claims.specs.Again.{back-form}
 use Rattle.claims.specs.Sizes.{Key, Ascii, ed25519-takes}
 use Rattle.claims.specs.Marked.{p256Image, other-scalars, marked}
 
@@ -87,27 +88,24 @@ all-below [] e i = omega arith
 all-below (x ∷ xs) e zero = ltb-true x 256 (both-true (ltb x 256) (below xs) e .0)
 all-below (x ∷ xs) e (suc i) = all-below xs (both-true (ltb x 256) (below xs) e .1) i
 
-given-none : Given bytes32 bytes32 7 [] buffer
+given : (comment : List ℕ) → below comment ≡ true → Given bytes32 bytes32 7 comment buffer
 unfolding below
-given-none =
+given comment bytes =
     record {
       point-bytes = all-below bytes32 refl;
       scalar-bytes = all-below bytes32 refl;
       checkint-fits = omega arith;
-      comment-bytes = all-below [] refl;
+      comment-bytes = all-below comment bytes;
       buffer-bytes = all-below buffer refl;
     }
 
+given-none : Given bytes32 bytes32 7 [] buffer
+unfolding below
+given-none = given [] refl
+
 given-six : Given bytes32 bytes32 7 (replicate 6 97) buffer
 unfolding below
-given-six =
-    record {
-      point-bytes = all-below bytes32 refl;
-      scalar-bytes = all-below bytes32 refl;
-      checkint-fits = omega arith;
-      comment-bytes = all-below (replicate 6 97) refl;
-      buffer-bytes = all-below buffer refl;
-    }
+given-six = given (replicate 6 97) refl
 
 module _ (w : Writer) (meets : MeetsPlain w) where
   -- no writer that meets the contract refuses everything: an Ed25519 key is written
@@ -190,9 +188,7 @@ module _ (a : Algorithm) (point scalar : List ℕ) (n : ℕ) (fit : n < 2 ^ 32) 
   all = ap (λ (i : ℕ). take i s) (was .size) ∙ take-length s
 
   in-form : formOf s (back .fields) ≡ true
-  unfolding formOf rewritten
-  in-form =
-      rw (back .plain, back .same-checkint, back .same-algorithm, back .same-point, back .same-scalar, back .same-comment) (same-self s)
+  in-form = back-form s n a point scalar first _ refl back
 
   change-reply : changeReply s k second ≡ written.Length k
   unfolding changeReply acceptedReply afreshReply

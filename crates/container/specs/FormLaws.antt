@@ -20,6 +20,7 @@ use Rattle.container.specs.declared.Fields.{Fields}
 use Rattle.container.specs.declared.ImageRead.{ImageRead}
 use Rattle.container.specs.declared.ImageRead.the-variants as read
 use Rattle.container.specs.declared.FormRead.the-variants as form-read
+use Rattle.container.specs.Back.{PlainImageBack}
 use Rattle.container.specs.Container.{readAt}
 use Rattle.container.specs.Form.{rewritten, formOf, formReadAt, scalarInForm}
 use Rattle.container.specs.Read.{PlainText, EncryptedText, ImageText, plain-text, encrypted-text, image-text}
@@ -71,6 +72,19 @@ pub form-agrees :
     (s : List ℕ) (f : Fields) (p : PlainText s f)
     → f .section .kind ≡ Plain → formOf s f ≡ agree (needsLeadingZero (f .header .algorithm) (viewOf s (f .section .scalar))) (p .zero)
 form-agrees s f p plain = form-stands s f (p .zero) (p .text) (p .key-fits) plain
+
+-- of an image that the format writes and that is read back
+pub form-back :
+    (s : List ℕ) (n : ℕ) (a : Algorithm) (zero : Bool) (point scalar comment : List ℕ) (padding : ℕ) → KeyFits a zero point scalar comment
+    → s ≡ plainImage n a point (standing zero scalar) comment → (b : PlainImageBack s n a point scalar comment padding)
+    → formOf s (b .fields) ≡ agree (needsLeadingZero a scalar) zero
+form-back s n a zero point scalar comment padding fits text b =
+    let form = form-stands s (b .fields) zero
+    (rw (b .same-checkint, b .same-algorithm, b .same-point, b .same-scalar, b .same-comment) text)
+    (rw (b .same-algorithm, b .same-point, b .same-scalar, b .same-comment) fits) (b .plain) in
+    let rule : needsLeadingZero (b .fields .header .algorithm) (viewOf s (b .fields .section .scalar)) ≡ needsLeadingZero a scalar =
+    rw (b .same-algorithm, b .same-scalar) in
+    form ∙ ap (λ (w : Bool). agree w zero) rule
 
 -- the same, by the byte before the scalar
 scalar-agrees :

@@ -60,11 +60,11 @@ key-small (Ecdsa Nistp521) = omega arith
 
 -- ---- an image says in which form its scalar stands
 
-standing-length : (z w : Bool) (x : List ℕ) (k : ℕ) → length (standing z x) + k ≡ length (standing w x) + k → z ≡ w
-standing-length false false x k e = refl
-standing-length false true x k e = absurd (omega arith)
-standing-length true false x k e = absurd (omega arith)
-standing-length true true x k e = refl
+standing-told : (z w : Bool) (x : List ℕ) (k : ℕ) → length (standing z x) + k ≡ length (standing w x) + k → z ≡ w
+standing-told false false x k e = refl
+standing-told false true x k e = absurd (omega arith)
+standing-told true false x k e = absurd (omega arith)
+standing-told true true x k e = refl
 
 -- how long a scalar stands
 standing-short : (z : Bool) (x : List ℕ) → length (standing z x) ≤ length x + 1
@@ -80,12 +80,12 @@ private-same Ed25519 point x t u z w hp hx e =
     let sz = standing-short z x in
     let sw = standing-short w x in
     let l = string-same (standing z x ++ point) (standing w x ++ point) t u (omega arith) (omega arith) e in
-    standing-length z w x (length point) (sym lz ∙ l ∙ lw)
+    standing-told z w x (length point) (sym lz ∙ l ∙ lw)
 private-same (Ecdsa k) point x t u z w hp hx e =
     let sz = standing-short z x in
     let sw = standing-short w x in
     let l = string-same (standing z x) (standing w x) t u (omega arith) (omega arith) e in
-    standing-length z w x 0 (ap (λ (n : ℕ). n + 0) l)
+    standing-told z w x 0 (ap (λ (n : ℕ). n + 0) l)
 
 section-same :
     (n : ℕ) (a : Algorithm) (point x comment : List ℕ) (z w : Bool) → length point < 2 ^ 31 → length x < 2 ^ 31
