@@ -1,5 +1,5 @@
--- Demand 1: Refusals, Ordered. Demand 2: Reading, Sealed, Form. Demand 3: Change, Sequence. Records handed in: Handed. The marked examples: Marked. The paper's wrong programs: ShutOut.
--- The others hold what these rest on.
+-- Demand 1: Refusals, Ordered. Demand 2: Reading, Sealed, Form. Demand 3: Change, Front, Sequence. Records handed in: Handed. What is printed: Printed.
+-- The marked examples: Marked. The paper's wrong programs: ShutOut. The others hold what these rest on.
 pub mod Reading
 pub mod Sealed
 pub mod Form
