@@ -60,9 +60,9 @@ by-read s (read.Refused f) P k w e = clash cc
 by-read s (read.Record f) P k w e = read-held f w e
 
 module _ (old : List ℕ) (n : ℕ) (comment : List ℕ) (k : ℕ) where
-  record-held : n ≤ 65535 → n ≤ length old → ReadHeld (take n old) (λ f. acceptedReply (take n old) f comment (length old)) k → ChangeAccepted old n comment k
+  accepted-held : n ≤ 65535 → n ≤ length old → ReadHeld (take n old) (λ f. acceptedReply (take n old) f comment (length old)) k → ChangeAccepted old n comment k
   unfolding acceptedReply afreshReply
-  record-held small inside (read-held f r e) =
+  accepted-held small inside (read-held f r e) =
       let h₁ = by-kind (f .section .kind) _ k e in
       let h₂ = held (formOf (take n old) f) Form _ k (h₁ .1) in
       let h₃ = by-text (utf8 comment) _ (fault CharacterEncoding (commentField f)) k (h₂ .1) in
@@ -82,7 +82,7 @@ module _ (old : List ℕ) (n : ℕ) (comment : List ℕ) (k : ℕ) where
   change-accepted e =
       let h₁ = held (leb n 65535) _ _ k e in
       let h₂ = held (leb n (length old)) _ _ k (h₁ .1) in
-      record-held (leb-true _ _ (h₁ .0)) (leb-true _ _ (h₂ .0)) (by-read (take n old) (readAt (take n old)) _ k refl (h₂ .1))
+      accepted-held (leb-true _ _ (h₁ .0)) (leb-true _ _ (h₂ .0)) (by-read (take n old) (readAt (take n old)) _ k refl (h₂ .1))
 
   -- what an accepted change leaves
   pub change-leaves :

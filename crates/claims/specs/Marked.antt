@@ -1,5 +1,5 @@
 -- The paper's marked examples, M1 to M16, as one table under one claim: `marked`. What is written, and what is read and isn't in the
--- form, holds for every key, checkint, comment and buffer of the row's kind; what is refused is computed, each on one image.
+-- form, holds for every key, checkint, comment and buffer of the row's kind; what the reader refuses is computed, each on one image.
 use Prim.Native.Nat.{ℕ, _≤_, _<_, _^_}
 use native.Mathlib.Omega.{arith}
 use mathlib.Core.Path.{_≡_, refl, _∙_, ap}

@@ -96,8 +96,8 @@ abbrev pub readCondition : Fault → Condition
 readCondition g = record { holds = true; number = numberOf (g .why); count = countOf (g .why); at = g .at }
 
 -- of an accepted image: encrypted: 8; not the writer's form: 10; comment 7, at the old comment's field; size 11; room 9
-abbrev pub recordConditions : List ℕ → Fields → List ℕ → ℕ → List Condition
-recordConditions s f comment room =
+abbrev pub acceptedConditions : List ℕ → Fields → List ℕ → ℕ → List Condition
+acceptedConditions s f comment room =
     says (onKind (f .section .kind) false true) 8
     ∷ says (not (formOf s f)) 10
     ∷ record { holds = not (utf8 comment); number = 7; count = 0; at = commentField f }
@@ -108,7 +108,7 @@ abbrev pub changeConditions : List ℕ → ℕ → List ℕ → List Condition
 changeConditions old n comment =
     says (ltb 65535 n) 11
     ∷ says (ltb (length old) n) 1
-    ∷ onRead (readAt (take n old)) (λ g. readCondition g ∷ []) (λ f. recordConditions (take n old) f comment (length old))
+    ∷ onRead (readAt (take n old)) (λ g. readCondition g ∷ []) (λ f. acceptedConditions (take n old) f comment (length old))
 
 abbrev pub changedLength : List ℕ → ℕ → List ℕ → ℕ
 changedLength old n comment = onRead (readAt (take n old)) (λ g. 0) (λ f. length (afresh (take n old) f comment))
@@ -244,12 +244,12 @@ comment-first s f comment room p =
     ∙ passed-first 7 0 (commentField f) (sizes (afresh s f comment) room) (length (afresh s f comment))))
     (λ u. rw u (fault-first (fault CharacterEncoding (commentField f)) (sizes (afresh s f comment) room) (length (afresh s f comment))))
 
-record-first :
+accepted-first :
     (s : List ℕ) (f : Fields) (comment : List ℕ) (room : ℕ) → (f .section .kind ≡ Plain → PlainText s f)
     → told (acceptedReply s f comment room)
-    ≡ first (recordConditions s f comment room) (length (afresh s f comment))
+    ≡ first (acceptedConditions s f comment room) (length (afresh s f comment))
 unfolding acceptedReply
-record-first s f comment room text =
+accepted-first s f comment room text =
     by-kind (f .section .kind)
     (λ k.
     let w = cond (utf8 comment) (afreshReply s f comment room) (written.Refused (fault CharacterEncoding (commentField f))) in
@@ -275,10 +275,10 @@ unfolding changeReply
 change-first old n comment all =
     let s = take n old in
     let w = onRead (readAt s) written.Refused (λ f. acceptedReply s f comment (length old)) in
-    let c = onRead (readAt s) (λ g. readCondition g ∷ []) (λ f. recordConditions s f comment (length old)) in
+    let c = onRead (readAt s) (λ g. readCondition g ∷ []) (λ f. acceptedConditions s f comment (length old)) in
     then-first (ltb 65535 n) (leb n 65535) (above 65535 n) Size refl (unless (leb n (length old)) Length w) (says (ltb (length old) n) 1 ∷ c)
     (changedLength old n comment)
     (then-first (ltb (length old) n) (leb n (length old)) (above (length old) n) Length refl w c (changedLength old n comment)
     (by-read (readAt s)
     (λ g e. rw e (fault-first g [] 0))
-    (λ f e. rw e (record-first s f comment (length old) (plain-of s all f e)))))
+    (λ f e. rw e (accepted-first s f comment (length old) (plain-of s all f e)))))

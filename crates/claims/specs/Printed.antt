@@ -1,15 +1,18 @@
--- Document 01, 'Views and the inspection program': the program prints no private byte. What it prints of every accepted image, by its kind,
--- its names, its lengths and its form: images that are alike in these have the same report, whatever their private bytes. (`image-text`
--- says that an accepted image is one of those here.)
+-- Document 01, 'Views and the inspection program': the program prints no private byte. What it prints of every image: of an accepted one its
+-- kind, its names, its lengths and its form, of a refused one number and count. Images that are alike in these have the same report,
+-- whatever their private bytes. (Length and form of an ECDSA image together tell whether its scalar's first byte is 0x80 or more.)
 use Prim.Native.Nat.{ℕ, _+_, _≤_, _<_, _^_}
 use native.Mathlib.Omega.{arith}
-use mathlib.Core.Path.{_≡_, refl, sym, _∙_}
+use mathlib.Core.Path.{_≡_, refl, sym, _∙_, ap}
 use mathlib.Core.Bool.{Bool, true, false}
 use mathlib.Core.List.{List, [], _∷_}
 use lib.ListN.{length, length-append}
-use Rattle.fields.specs.Bytes.{ascii}
+use Rattle.fields.specs.Bytes.{ascii, AllBytes}
+use Rattle.fields.specs.Fields.{viewOf}
 use Rattle.fields.specs.Place.{clash}
+use Rattle.fields.specs.Refusals.{numberOf, countOf}
 use Rattle.fields.specs.Rest.{length-string}
+use Rattle.fields.specs.declared.Fault.{Fault}
 use Rattle.names.specs.declared.Algorithm.{Algorithm}
 use Rattle.names.specs.declared.Algorithm.the-variants.{Ed25519, Ecdsa}
 use Rattle.names.specs.declared.Cipher.{Cipher}
@@ -22,9 +25,14 @@ use Rattle.format.specs.Format.{blob, privateField, standing, needsLeadingZero,
 use Rattle.format.specs.Laws.{section-length}
 use Rattle.format.specs.Lengths.{blobLength, blob-length, zeroLength, standing-length, content-length, plain-length}
 use Rattle.section.specs.Back.{KeyFits}
+use Rattle.section.specs.declared.Kind.the-variants as kind
+use Rattle.container.specs.declared.Fields.{Fields}
+use Rattle.container.specs.declared.ImageRead.the-variants as read
+use Rattle.container.specs.Container.{readAt}
 use Rattle.container.specs.Back.{plain-image-back, SealFits, encrypted-image-back}
-use Rattle.container.specs.FormLaws.{agree, form-back}
-use Rattle.report.specs.Report.{Plain, Encrypted, accepted, summaryOf, lines, reportOf}
+use Rattle.container.specs.Read.{ImageText, plain-text, encrypted-text, image-text}
+use Rattle.container.specs.FormLaws.{agree, form-back, plain-of}
+use Rattle.report.specs.Report.{Plain, Encrypted, Refused, accepted, summaryOf, lines, reportOf}
 use Rattle.report.specs.Examples.{printed, oven7}
 
 -- ---- plain images
@@ -79,8 +87,8 @@ module _ (n : ℕ) (a : Algorithm) (zero : Bool) (point scalar comment : List �
       let b = plain-image-back image n a zero point scalar comment limit small fits refl in
       rw (b .read, b .plain, form-back image n a zero point scalar comment _ fits refl b, b .same-algorithm, b .no-cipher, b .no-kdf, b .comment-size, b .same-padding, size-is, length-is)
 
--- no private byte: two keys of a kind, whose scalars stand alike, with comments of one length, have the same report, whatever their private
--- bytes, points, checkints and comments
+-- no private byte: two keys of a kind, with comments of one length, whose scalars both stand after a zero or both don't, and begin on the
+-- same side of 0x80, have the same report, whatever else their private bytes are, and whatever their points, checkints and comments
 pub no-private-byte :
     (a : Algorithm) (zero : Bool) (n m : ℕ) (point q scalar x comment d : List ℕ) → n < 2 ^ 32 → m < 2 ^ 32 → KeyFits a zero point scalar comment
     → KeyFits a zero q x d → length comment ≡ length d → needsLeadingZero a scalar ≡ needsLeadingZero a x
@@ -117,3 +125,63 @@ unfolding reportOf summaryOf accepted
 report-encrypted c k salt rounds a point ciphertext tag fits limit =
     let b = encrypted-image-back (encryptedImage c k salt rounds (blob a point) ciphertext tag) c k salt rounds a point ciphertext tag limit fits refl in
     rw (b .read, b .encrypted, b .same-algorithm, b .same-cipher, b .same-kdf, b .ciphertext-size, b .tag-size)
+
+-- ---- every image
+
+-- accepted, plain: the lengths of the fields, and whether a zero stands before the scalar, decide
+pub report-accepted :
+    (s : List ℕ) (all : AllBytes s) (f : Fields) → readAt s ≡ read.Record f → f .section .kind ≡ kind.Plain
+    → (zero : Bool)
+    × (reportOf s
+    ≡ lines
+    (Plain (f .header .algorithm) cipher.None kdf.None (length (viewOf s (f .section .comment)))
+    (paddingLength (sectionSize (f .header .algorithm) zero (length (viewOf s (f .section .comment)))))
+    (47 + blobLength (f .header .algorithm)
+    + (sectionSize (f .header .algorithm) zero (length (viewOf s (f .section .comment)))
+    + paddingLength (sectionSize (f .header .algorithm) zero (length (viewOf s (f .section .comment))))))
+    (agree (needsLeadingZero (f .header .algorithm) (viewOf s (f .section .scalar))) zero)))
+report-accepted s all f e plain =
+    let p = plain-of s all f e plain in
+    let image = plainImage (f .section .checkint) (f .header .algorithm) (viewOf s (f .header .point)) (standing (p .zero) (viewOf s (f .section .scalar)))
+    (viewOf s (f .section .comment)) in
+    let limit : length image ≤ 65535 = omega (arith, ap length (p .text), p .fits) in (
+      p .zero,
+      ap reportOf (p .text)
+          ∙ report-plain (f .section .checkint) (f .header .algorithm) (p .zero) (viewOf s (f .header .point)) (viewOf s (f .section .scalar))
+          (viewOf s (f .section .comment)) (p .checkint-fits) (p .key-fits) limit,
+    )
+
+-- accepted, encrypted
+pub report-accepted-encrypted :
+    (s : List ℕ) (all : AllBytes s) (f : Fields) → readAt s ≡ read.Record f → f .section .kind ≡ kind.Encrypted
+    → reportOf s
+    ≡ lines
+    (Encrypted (f .header .algorithm) (f .header .cipher) (f .header .kdf) (length (viewOf s (f .section .ciphertext)))
+    (length (viewOf s (f .section .tag))) (length s))
+report-accepted-encrypted s all f e sealed = go (image-text s all f e)
+  where
+    image-of : List ℕ → List ℕ
+    image-of key =
+        encryptedImage (f .header .cipher) (f .header .kdf) (viewOf s (f .header .salt)) (f .header .rounds) key (viewOf s (f .section .ciphertext))
+        (viewOf s (f .section .tag))
+
+    shown : ℕ → List ℕ
+    shown n =
+        lines
+        (Encrypted (f .header .algorithm) (f .header .cipher) (f .header .kdf) (length (viewOf s (f .section .ciphertext)))
+        (length (viewOf s (f .section .tag))) n)
+
+    go : ImageText s all f e → reportOf s ≡ shown (length s)
+    go (plain-text plain p) = clash (let o : kind.Plain ≡ kind.Encrypted = sym plain ∙ sealed in cc)
+    go (encrypted-text encrypted p) =
+        let joined : s ≡ image-of (blob (f .header .algorithm) (viewOf s (f .header .point))) = p .text ∙ ap image-of (p .content) in
+        let limit : length (image-of (blob (f .header .algorithm) (viewOf s (f .header .point)))) ≤ 65535 = omega (arith, ap length joined, p .fits) in
+        ap reportOf joined
+        ∙ report-encrypted (f .header .cipher) (f .header .kdf) (viewOf s (f .header .salt)) (f .header .rounds) (f .header .algorithm) (viewOf s (f .header .point))
+        (viewOf s (f .section .ciphertext)) (viewOf s (f .section .tag)) (p .seal-fits) limit
+        ∙ ap shown (sym (ap length joined))
+
+-- refused
+pub report-refused : (s : List ℕ) (g : Fault) → readAt s ≡ read.Refused g → reportOf s ≡ lines (Refused (numberOf (g .why)) (countOf (g .why)))
+unfolding reportOf summaryOf
+report-refused s g e = rw e

@@ -1,6 +1,6 @@
--- What the contracts shut out: no program that meets its contract refuses everything, replies the same always, stores nothing, makes
--- up the count of number 6, or changes the first comment and only says so for later ones. A program here is any function of what it
--- is given, which is bytes, a checkint of 32 bits and a length of 64; of anything else nothing is asked.
+-- What the contracts shut out: no program that meets its contract refuses everything, replies the same always, stores nothing, gives
+-- one count for every refusal with number 6, or changes the first comment and only says so for later ones. A program here is any function of
+-- what it is given, which is bytes, however many, a checkint of 32 bits and a length of 64; of anything else nothing is asked.
 use Prim.Native.Nat.{ℕ, zero, suc, _-_, _<_, _^_}
 use native.Mathlib.Omega.{arith}
 use mathlib.Core.Path.{_≡_, refl, sym, _∙_, ap}

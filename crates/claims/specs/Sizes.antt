@@ -1,4 +1,4 @@
--- How long an image the plain writer makes of a key and an ASCII comment, and with how much padding: by the lengths alone, for every
+-- How long an image the plain writer makes of a key and an ASCII comment, and with how much padding: by the lengths and a scalar's first byte, for every
 -- key, checkint and comment of that length.
 use Prim.Native.Nat.{ℕ, _+_, _≤_, _<_, _^_}
 use native.Mathlib.Omega.{arith}

@@ -1,4 +1,4 @@
--- Fields regrouped, and the lengths of what the format writes.
+-- Fields regrouped, the lengths of what the format writes, and that an image says in which form its scalar stands (`standing-same`).
 use Prim.Native.Nat.{ℕ, _+_, _≤_, _<_, _^_}
 use native.Mathlib.Omega.{arith}
 use mathlib.Core.Path.{_≡_, refl, sym, _∙_, ap}

@@ -123,7 +123,7 @@ pub fn read_blob(c: Cursor, image: &[u8]) -> Blob
     }
 }
 
-// The Rust's `needs_leading_zero`, of a scalar of any size.
+// ssh-key's `needs_leading_zero`, of a scalar of any size.
 pub fn needs_leading_zero(scalar: &[u8]) -> bool
     ensures { λ r. ⌜ r ≡ leadingZero (now (scalar .entry)) ⌝ }
 {

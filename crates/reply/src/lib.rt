@@ -1,4 +1,5 @@
-// What a writer answers: the length of what it wrote, or the refusal, which is at 0.
+// What a writer, a comment change or the report answers: a length, or the refusal. `refused` makes a
+// writer's own, which is at 0.
 ghost use mathlib.Core.Path.{_≡_};
 ghost use Rattle.reply.specs.Reply.{refused};
 use fields::Fault;

@@ -176,8 +176,8 @@ module _ (s : List ℕ) (all : AllBytes s) where
     pub place : x .comment .start ≡ c .at + 4 + beforeComment a (viewOf s q) (standing zero (viewOf s (x .scalar))) + 4
 
   -- how long the padding is follows from the multiple of 8
-  padding-short : (n p : ℕ) → (n + p) % 8 ≡ 0 → p < 8 → p ≡ paddingLength n
-  padding-short n p e h = omega arith
+  padding-is : (n p : ℕ) → (n + p) % 8 ≡ 0 → p < 8 → p ≡ paddingLength n
+  padding-is n p e h = omega arith
 
   -- the fields one after the other, and the padding that they leave
   content-joined :
@@ -198,7 +198,7 @@ module _ (s : List ℕ) (all : AllBytes s) where
       let long : c .end - c .at ≡ length body + left =
       sym (length-slice (c .at) (c .end) s inside) ∙ ap length text ∙ length-append body (take left paddingBytes)
       ∙ ap (λ (i : ℕ). length body + i) (length-take-le left paddingBytes (omega (arith, p .1))) in
-      let fills : left ≡ paddingLength (length body) = padding-short (length body) left (rw long at whole) (p .1) in
+      let fills : left ≡ paddingLength (length body) = padding-is (length body) left (rw long at whole) (p .1) in
       text ∙ ap (λ (i : ℕ). body ++ take i paddingBytes) fills
 
   -- what reading the content found

@@ -23,27 +23,27 @@ unfoldable pub numberIn : List ℕ → ℕ → ℕ
 numberIn s at = onUint32 (uint32At s (record { at = at; end = length s })) (λ f. 0) (λ n d. n)
 
 -- what is named, or the first of its kind
-abbrev pub algorithmNamed : AlgorithmName → Algorithm
-algorithmNamed (algorithm-name.Known a) = a
-algorithmNamed algorithm-name.Unknown = Ed25519
+abbrev pub knownAlgorithm : AlgorithmName → Algorithm
+knownAlgorithm (algorithm-name.Known a) = a
+knownAlgorithm algorithm-name.Unknown = Ed25519
 
-abbrev pub cipherNamed : CipherName → Cipher
-cipherNamed (cipher-name.Known c) = c
-cipherNamed cipher-name.Unknown = cipher.None
+abbrev pub knownCipher : CipherName → Cipher
+knownCipher (cipher-name.Known c) = c
+knownCipher cipher-name.Unknown = cipher.None
 
-abbrev pub kdfNamed : KdfName → Kdf
-kdfNamed (kdf-name.Known k) = k
-kdfNamed kdf-name.Unknown = kdf.None
+abbrev pub knownKdf : KdfName → Kdf
+knownKdf (kdf-name.Known k) = k
+knownKdf kdf-name.Unknown = kdf.None
 
 -- what a number's lowest byte is the code of
 unfoldable pub algorithmOf : ℕ → Algorithm
-algorithmOf n = algorithmNamed (algorithmCoded (n % 256))
+algorithmOf n = knownAlgorithm (algorithmCoded (n % 256))
 
 unfoldable pub cipherOf : ℕ → Cipher
-cipherOf n = cipherNamed (cipherCoded (n % 256))
+cipherOf n = knownCipher (cipherCoded (n % 256))
 
 unfoldable pub kdfOf : ℕ → Kdf
-kdfOf n = kdfNamed (kdfCoded (n % 256))
+kdfOf n = knownKdf (kdfCoded (n % 256))
 
 -- one byte more of a big-endian number, modulo the prime
 abbrev pub nextRest : ℕ → ℕ → ℕ
