@@ -97,8 +97,16 @@ def contracts_document():
                 yield f"{crate}::{name} isn't in docs/CONTRACTS.md"
 
 
+def named_functions():
+    """Each `crate::name` that a document names is a function or a type there."""
+    for path in ["README.md", *glob.glob("docs/**/*.md", recursive=True)]:
+        for crate, name in re.findall(r"`(\w+)::(?:\w+::)?(\w+)", open(path, encoding="utf-8").read()):
+            if os.path.isdir(f"crates/{crate}") and not re.search(r"\b%s\b" % name, all_text(f"crates/{crate}/src/*.rt")):
+                yield f"{path} names {crate}::{name}, which isn't there"
+
+
 def main():
-    wrong = list(contracts()) + list(texts()) + list(contracts_document())
+    wrong = list(contracts()) + list(texts()) + list(contracts_document()) + list(named_functions())
     for line in wrong:
         print(line)
     print("texts: %s" % ("%d faults" % len(wrong) if wrong else "ok"))

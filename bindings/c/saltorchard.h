@@ -5,11 +5,12 @@
  *
  * Every function takes any bytes and any lengths; none keeps a pointer, allocates or prints. A part is lent as a pointer and
  * a length; an empty part may be NULL with length 0. What the caller has to keep: the pointer is good for that many bytes, the
- * parts lent to one call don't overlap, and no other thread writes to them during the call.
+ * buffer that a call may write to overlaps no other part of that call (parts that are only read may overlap), and no other
+ * thread writes to any of them during the call.
  *
  * A refused call leaves every lent byte as it was. An accepted writer fills the first `length` bytes and leaves the rest.
  *
- * Private bytes are compared in no constant time and wiped nowhere. */
+ * No comparison is promised to be constant-time, and nothing is wiped. */
 #ifndef SALTORCHARD_H
 #define SALTORCHARD_H
 
@@ -69,7 +70,8 @@ typedef struct {
     saltorchard_part blob, point, scalar, comment, salt, ciphertext, tag;   /* 0 0 where absent */
 } saltorchard_image;
 
-/* What the others answer. `length` is what was written, 0 where refused. */
+/* What the others answer. `length` is what was written, 0 where refused. `at` is 0 for what was handed to a writer; where an image
+ * was read and refused, as in a read; for a new comment that isn't UTF-8, the old comment's field. */
 typedef struct { uint64_t number, count, at, length; } saltorchard_reply;
 
 /* Reads an image. For Ed25519 `point` is the public string and `scalar` the seed. An ECDSA scalar has no extra zero. */

@@ -122,7 +122,7 @@ impl fmt::Display for Error {
             _ => write!(f, "{}", self.reason())?,
         }
         match (self.number, self.at) {
-            (_, 0) => write!(f, "; the place is byte 0, the image as a whole."),
+            (_, 0) => write!(f, "; it concerns the whole image, or what was handed in."),
             (6, at) => write!(f, "; the first is byte {}.", at),
             (_, at) => write!(f, "; the field begins at byte {}.", at),
         }

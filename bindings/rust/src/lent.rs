@@ -10,7 +10,7 @@ use crate::{Error, Image};
 /// The image is then the one written afresh with the new comment. Old bytes past its end become zero, and bytes past both
 /// ends stay. Where the change is refused no byte changes: the reasons are, in this order, `len` above 65,535 (11) or above
 /// the buffer's length (1), the reader's refusals, an encrypted image (8), an image that isn't in the writer's form (10), a
-/// comment that isn't UTF-8 (7), and a new image above 65,535 bytes (11) or longer than the buffer (9).
+/// comment that isn't UTF-8 (7, at the old comment's field), and a new image above 65,535 bytes (11) or longer than the buffer (9).
 pub fn set_comment(buffer: &mut [u8], len: usize, comment: impl AsRef<[u8]>) -> Result<usize, Error> {
     Error::written(c::change_comment(buffer, len, comment.as_ref()))
 }

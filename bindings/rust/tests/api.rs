@@ -55,16 +55,16 @@ fn refusals() -> Vec<Error> {
 fn refusals_in_words() {
     let sentences = [
         "Refusal 1 (Length): a field runs past its end, or a length or the key count is wrong; the field begins at byte 35.",
-        "Refusal 2 (FormatEncoding): the magic, a padding byte, a point's tag or a scalar's leading byte is wrong; the place is byte 0, the image as a whole.",
+        "Refusal 2 (FormatEncoding): the magic, a padding byte, a point's tag or a scalar's leading byte is wrong; it concerns the whole image, or what was handed in.",
         "Refusal 3 (Crypto): the two checkints, the KDF's use, the ciphertext's length or the halves of the Ed25519 key don't fit; the field begins at byte 155.",
         "Refusal 4 (AlgorithmUnknown): a name is unknown, or a curve isn't its algorithm's; the field begins at byte 15.",
         "Refusal 5 (PublicKey): the section's public key isn't the header's; the field begins at byte 159.",
         "Refusal 6 (TrailingData): 2 bytes are left over; the first is byte 311.",
         "Refusal 7 (CharacterEncoding): the comment isn't UTF-8; the field begins at byte 300.",
-        "Refusal 8 (Encrypted): the section is encrypted, and a plain one is needed; the place is byte 0, the image as a whole.",
-        "Refusal 9 (BufferTooShort): the lent buffer is too short; the place is byte 0, the image as a whole.",
-        "Refusal 10 (NotInForm): the image isn't the one that the writer makes of its record; the place is byte 0, the image as a whole.",
-        "Refusal 11 (TooLarge): the image is, or would be, above 65,535 bytes; the place is byte 0, the image as a whole.",
+        "Refusal 8 (Encrypted): the section is encrypted, and a plain one is needed; it concerns the whole image, or what was handed in.",
+        "Refusal 9 (BufferTooShort): the lent buffer is too short; it concerns the whole image, or what was handed in.",
+        "Refusal 10 (NotInForm): the image isn't the one that the writer makes of its record; it concerns the whole image, or what was handed in.",
+        "Refusal 11 (TooLarge): the image is, or would be, above 65,535 bytes; it concerns the whole image, or what was handed in.",
     ];
     for (refusal, sentence) in refusals().iter().zip(sentences) {
         assert_eq!(refusal.to_string(), sentence);
