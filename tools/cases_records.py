@@ -9,8 +9,9 @@ from cases_plain import size_of
 from cases_rewrite import damaged
 from fields import ED25519, LIMIT, content
 from images import bcrypt_options, corpus, encrypted, join, plain, scalar_of, stream
-from records import CODES, NAMES, PARTS, WIDTHS, Handed, numbers_of, record_of
+from records import CODES, NAMES, PARTS, WIDTHS, Handed, half_of, numbers_of, record_of
 
+READ, UNLIKE = (0, 0, 0), (1, 0, 0)  # the section read's replies to a right half of an accepted image and to another
 EMPTY = model.Answer(kind=model.PLAIN)  # the record of a refusal; its kind is the first, since an enum always has one
 REAL = ["keygen-ed25519-utf8", "keygen-p521-aes128-gcm"]
 CLOSELY = ["plain 1", "bcrypt aes256-gcm", "plain 0", "a missing zero", "none aes128-cbc"]  # more of their places are tried
@@ -25,10 +26,12 @@ class Base:
         self.size = len(self.image) if size is None else size
         self.room = max(self.size + 9, 257)  # enough, so that a wrong record is refused for itself
 
-    def handed(self, record, title):
-        """Another record than its own with this image, which is refused."""
+    def handed(self, record, title, room=None):
+        """Another record than its own with this image, which is refused; the section read looks at its header half alone."""
         assert record != self.record, (self.title, title)
-        return Handed(f"{self.title}: {title}", self.image, record, self.room, refuses(1))
+        section = READ if half_of(record) == half_of(self.record) else UNLIKE
+        room = self.room if room is None else room
+        return Handed(f"{self.title}: {title}", self.image, record, room, refuses(1), section)
 
 
 def plain_bases():
@@ -67,9 +70,9 @@ def room_of(image):
 def right_cases(base):
     """The right record, with room that is just enough, more, and too little."""
     for room in (base.size, base.size + 1, base.room):
-        yield Handed(base.title, base.image, base.record, room, writes(base.size))
+        yield Handed(base.title, base.image, base.record, room, writes(base.size), READ)
     for room in (0, base.size // 2, base.size - 1):
-        yield Handed(base.title, base.image, base.record, room, refuses(9))
+        yield Handed(base.title, base.image, base.record, room, refuses(9), READ)
 
 
 def same_record_cases():
@@ -82,7 +85,7 @@ def same_record_cases():
     for one, other in pairs:
         image = join(other)
         assert image != join(one)
-        yield Handed("the same record", image, model.read_image(join(one)), len(image), writes(len(image)))
+        yield Handed("the same record", image, model.read_image(join(one)), len(image), writes(len(image)), READ)
 
 
 # ---- one number wrong
@@ -126,7 +129,7 @@ def little_room_cases(base):
         i = NAMES.index(name)
         wrong = put(base.record, i, numbers_of(base.record)[i] + 1)
         for room in (0, base.size):
-            yield Handed(f"{base.title}: {name}", base.image, wrong, room, refuses(1))
+            yield base.handed(wrong, name, room)
 
 
 # ---- a place wrong
@@ -175,8 +178,8 @@ def damaged_cases(base):
     """Its own record, but the image is refused or no longer what it was."""
     image = base.image
     for other in (b"", image[:15], image[:-1], image[1:], image + b"\0", b"O" + image[1:], image + image):
-        for record in (base.record, EMPTY):
-            yield Handed(f"{base.title}: damaged", other, record, room_of(other), refuses(1))
+        for record, section in ((base.record, None), (EMPTY, UNLIKE)):
+            yield Handed(f"{base.title}: damaged", other, record, room_of(other), refuses(1), section)
 
 
 def refused_cases():
@@ -184,8 +187,8 @@ def refused_cases():
     images = [case.image for case in (*marked_examples(), *damaged(40))]
     for turn, image in enumerate(image for image in images if model.read(image).number != 0):
         good = bases()[turn % len(bases())]
-        for record in (EMPTY, good.record):
-            yield Handed("a refused image", image, record, room_of(image), refuses(1))
+        for record, section in ((EMPTY, UNLIKE), (good.record, None)):
+            yield Handed("a refused image", image, record, room_of(image), refuses(1), section)
 
 
 # ---- as large as the limit, and above it
@@ -208,14 +211,14 @@ def large_cases():
     whole, sealed, over = (join(f) for f in (plain(1, b"c" * 65232), encrypted_of_size(LIMIT), encrypted_of_size(LIMIT + 1)))
     missing = join(plain(1, b"c" * 65232, scalar=scalar_of(1, 0x80)))
     for image in (whole, sealed):
-        yield Handed("the largest", image, model.read_image(image), LARGE, writes(LIMIT))
-    yield Handed("the largest, a byte too short", sealed, model.read_image(sealed), LIMIT - 1, refuses(9))
+        yield Handed("the largest", image, model.read_image(image), LARGE, writes(LIMIT), READ)
+    yield Handed("the largest, a byte too short", sealed, model.read_image(sealed), LIMIT - 1, refuses(9), READ)
     for room in (LARGE, 40):
-        yield Handed("above the limit once written", missing, model.read_image(missing), room, refuses(11))
+        yield Handed("above the limit once written", missing, model.read_image(missing), room, refuses(11), READ)
     wrong = put(model.read_image(missing), NAMES.index("checkint"), 0)
-    yield Handed("the same, its checkint wrong", missing, wrong, 40, refuses(1))
+    yield Handed("the same, its checkint wrong", missing, wrong, 40, refuses(1), READ)
     for record in (above(over, model.read_image(sealed)), EMPTY):
-        yield Handed("above the limit", over, record, LARGE, refuses(1))
+        yield Handed("above the limit", over, record, LARGE, refuses(1), UNLIKE)
 
 
 def record_cases():

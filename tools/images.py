@@ -23,12 +23,14 @@ class Field:
 
 
 class Case(NamedTuple):
-    """An image, and what it was made to get where that is said: the reply (number, count, at), and the form."""
+    """An image, and what it was made to get where that is said: the full read's reply (number, count, at), the form, and
+    the header read's reply."""
 
     title: str
     image: bytes
     reply: tuple = None
     form: bool = None
+    header: tuple = None
 
 
 class Spot(NamedTuple):

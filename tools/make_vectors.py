@@ -13,9 +13,12 @@ In the file of images each is its length, 4 bytes big-endian, and its bytes. For
     its length, or the ciphertext's, begins), then start and length of blob, point, scalar, comment, salt, ciphertext
     and tag; 0 for what is absent, and all 0 after `at` where the image is refused,
   - `views` and 7 numbers: the sum of the bytes of each of these parts,
+  - `header` and 14 numbers, what the header read alone says: number, count, at, algorithm, cipher, KDF, rounds, section,
+    then start and length of blob, point and salt; all 0 after `at` where the header is refused,
   - the inspection program's lines.
 """
 import collections
+import itertools
 import pathlib
 import sys
 
@@ -24,6 +27,8 @@ import model
 import records
 from cases_change import change_rows
 from cases_encrypted import encrypted_rows
+from cases_half_records import half_record_cases
+from cases_halves import half_cases
 from cases_header import header_cases
 from cases_marked import marked_cases
 from cases_plain import plain_rows
@@ -40,11 +45,13 @@ WRITING = CRATES / "replay_writing"
 RECORDS = CRATES / "replay_records"
 MUST_OCCUR = {
     "read": [0, 1, 2, 3, 4, 5, 6, 7, 11],
+    "header": [0, 1, 2, 3, 4, 6, 11],
     "plain": [0, 1, 2, 7, 9, 11],
     "encrypted": [0, 1, 2, 3, 4, 6, 9, 11],
     "rewrite": [0, 1, 2, 3, 4, 5, 6, 7, 9, 11],
     "change": [0, 1, 2, 3, 4, 5, 6, 7, 8, 9, 10, 11],
     "record": [0, 1, 9, 11],
+    "section": [0, 1, 2, 3, 4, 5, 6, 7],
 }
 
 
@@ -57,14 +64,20 @@ def all_cases():
     yield from header_cases()
     yield from section_cases()
     yield from damages()
+    yield from half_cases()
+
+
+def hold_reply(title, meant, answer):
+    """Where a reply was meant for a read, it must be the model's."""
+    reply = (answer.number, answer.count, answer.at)
+    if meant not in (None, reply):
+        sys.exit(f"{title}: meant {meant}, but the model says {reply}")
 
 
 def hold(case):
-    """The model's answer must be what the maker of the image meant."""
-    answer = model.read(case.image)
-    reply = (answer.number, answer.count, answer.at)
-    if case.reply is not None and case.reply != reply:
-        sys.exit(f"{case.title}: meant {case.reply}, but the model says {reply}")
+    """The model's answers must be what the maker of the image meant."""
+    hold_reply(case.title, case.reply, model.read(case.image))
+    hold_reply(f"{case.title}, its header", case.header, model.read_header(case.image))
     if case.form is not None and case.form != model.form(case.image):
         sys.exit(f"{case.title}: the form was meant to be {case.form}")
 
@@ -87,7 +100,13 @@ def expected(image):
     answer = model.read(image)
     numbers = [answer.number, answer.count, answer.at, *records.numbers_of(answer)]
     sums = [sum(content(image, getattr(answer, part))) for part in records.PARTS]
-    return numbers_line("read", numbers) + numbers_line("views", sums) + model.report(image)
+    lines = numbers_line("read", numbers) + numbers_line("views", sums)
+    return lines + header_line(model.read_header(image)) + model.report(image)
+
+
+def header_line(half):
+    numbers = records.chosen(half, records.HEADER_NAMES, records.HEADER_PARTS)
+    return numbers_line("header", [half.number, half.count, half.at, *numbers])
 
 
 # ---- calls
@@ -130,14 +149,25 @@ def rows():
 def handed():
     """Every record with its image once, in the order in which they were made."""
     once = {}
-    for case in record_cases():
+    for case in itertools.chain(record_cases(), half_record_cases()):
         reply, after = records.answer(case)
         hold_call(case.title, case.reply, reply, calls.filled(case.room), after)
+        hold_reply(f"{case.title}, its section", case.section, records.section_answer(case))
         once.setdefault(records.stored(case), case)
     return once
 
 
 # ---- all three
+
+
+def counted(vectors, answers, by_hand):
+    """How often each entry gives each reply number."""
+    count = collections.Counter(("read", model.read(image).number) for image in vectors)
+    count.update(("header", model.read_header(image).number) for image in vectors)
+    count.update((call.entry, reply.number) for call, reply, _ in answers)
+    count.update(("record", records.answer(case)[0].number) for case in by_hand)
+    count.update(("section", records.section_answer(case).number) for case in by_hand)
+    return count
 
 
 def made():
@@ -147,9 +177,7 @@ def made():
     text = "".join(expected(image) for image in vectors)
     answers = [answer for row in written.values() for answer in row]
     lines = "".join(calls.line(call.entry, reply, after) for call, reply, after in answers)
-    count = collections.Counter(("read", model.read(image).number) for image in vectors)
-    count.update((call.entry, reply.number) for call, reply, _ in answers)
-    count.update(("record", records.answer(case)[0].number) for case in by_hand.values())
+    count = counted(vectors, answers, by_hand.values())
     files = {
         REPLAY / "data" / "vectors": data,
         REPLAY / "stdout": text.encode(),

@@ -4,10 +4,14 @@ This file was written from document 01 and from the readings recorded in docs/DE
 this project. Nothing is proved here. It says what the reader, the form and the inspection program should answer, so
 that the two can be held against each other (make_vectors.py stores its answers).
 
-    read(image)         the reply and, where it is accepted, the record: an Answer
-    write_plain(...)    a plain image by the writer's rules
-    form(image)         whether writing the record again, with its own checkint, gives the image back
-    report(image)       what the inspection program prints
+    read(image)                  the reply and, where it is accepted, the record: an Answer
+    read_header(image)           the same of the header alone, up to and with the public blob: a Half
+    read_section(image, half)    the full read's Answer, from a half that is handed in and judged first
+    write_plain(...)             a plain image by the writer's rules
+    form(image)                  whether writing the record again, with its own checkint, gives the image back
+    report(image)                what the inspection program prints
+
+The full read is the header read and then the section read.
 
 It holds nothing back, compares in no constant time, and is for test keys only.
 """
@@ -20,62 +24,82 @@ PLAIN, ENCRYPTED = 1, 2
 
 
 @dataclass(frozen=True)
-class Answer:
-    """The reply (number, count, at) and the record. A part is its start in the image and its length."""
+class Half:
+    """The reply (number, count, at) and the header's half of the record. A part is its start in the image and its length."""
 
     number: int = 0
     count: int = 0
     at: int = 0  # the byte of the image at which the failing field began
-    kind: int = 0
     algorithm: int = 0
     cipher: int = 0
     kdf: int = 0
     rounds: int = 0
-    checkint: int = 0
-    padding: int = 0
     section: int = 0  # where the length of the section, or of the ciphertext, begins
     blob: tuple = ABSENT
     point: tuple = ABSENT
+    salt: tuple = ABSENT
+
+
+@dataclass(frozen=True)
+class Answer(Half):
+    """The reply and the whole record."""
+
+    kind: int = 0
+    checkint: int = 0
+    padding: int = 0
     scalar: tuple = ABSENT
     comment: tuple = ABSENT
-    salt: tuple = ABSENT
     ciphertext: tuple = ABSENT
     tag: tuple = ABSENT
 
 
-# ---- the container, steps 1 to 7
+# ---- the three reads
 
 
 def read(image):
     """The reply to an image, with the record where it is accepted."""
+    return answer_of(Answer, read_image, image)
+
+
+def read_header(image):
+    """The reply to an image's header, with the half where it is accepted. What comes after the blob isn't looked at."""
+    return answer_of(Half, half_of_image, image)
+
+
+def read_section(image, half):
+    """The reply to an image and a half that is handed in, with the record where both are accepted."""
+    return answer_of(Answer, record_from, image, half)
+
+
+def answer_of(answer, reading, *arguments):
+    """What the reading gives, or an answer that has only its refusal."""
     try:
-        return read_image(image)
+        return reading(*arguments)
     except Refused as refused:
-        return Answer(refused.number, refused.count, refused.at)
+        return answer(refused.number, refused.count, refused.at)
 
 
 def read_image(image):
+    """The full read: the header read, then the section read."""
+    return record_from(image, half_of_image(image))
+
+
+# ---- the header, steps 1 to 5
+
+
+def half_of_image(image):
     if len(image) > LIMIT:
         raise Refused(11, 0)
     reader = Reader(image, 0, len(image))
     read_magic(reader)  # step 1
     cipher = read_name(reader, CIPHER_NAMES)  # step 2
-    kdf_name = reader.place
     kdf = read_name(reader, KDFS)  # step 3
     salt, rounds = read_options(reader, kdf)
     read_key_count(reader)  # step 4
     blob = reader.string()  # step 5
     algorithm, point = read_blob(reader.inside(blob))
-    header = dict(algorithm=algorithm, cipher=cipher, kdf=kdf, rounds=rounds, blob=blob, point=point, salt=salt)
-    header["section"] = reader.place
-    if cipher != NONE:  # step 6
-        return Answer(kind=ENCRYPTED, **header, **read_ciphertext(reader, cipher))
-    if kdf != NONE:  # step 7
-        raise Refused(3, kdf_name)
-    section = reader.inside(reader.string())
-    rest = read_section(section, algorithm, content(image, point))
-    reader.finish()
-    return Answer(kind=PLAIN, **header, **rest)
+    names = dict(algorithm=algorithm, cipher=cipher, kdf=kdf, rounds=rounds)
+    return Half(**names, section=reader.place, blob=blob, point=point, salt=salt)
 
 
 def read_magic(reader):
@@ -116,6 +140,24 @@ def read_key_count(reader):
         raise Refused(1, field)
 
 
+# ---- the section, steps 6 and 7
+
+
+def record_from(image, half):
+    """Unless every field of the half is what an accepted header read of the image gives, 1 before all else."""
+    own = read_header(image)
+    if own.number != 0 or half != own:
+        raise Refused(1, 0)
+    reader = Reader(image, half.section, len(image))
+    if half.cipher != NONE:  # step 6
+        return Answer(**vars(half), kind=ENCRYPTED, **read_ciphertext(reader, half.cipher))
+    if half.kdf != NONE:  # step 7
+        raise Refused(3, len(MAGIC + string(b"none")))  # where the KDF's name begins
+    rest = read_plain_section(reader.inside(reader.string()), half.algorithm, content(image, half.point))
+    reader.finish()
+    return Answer(**vars(half), kind=PLAIN, **rest)
+
+
 def read_ciphertext(reader, cipher):
     """Step 6: the ciphertext, then the tag outside the string if the cipher has one, then the end."""
     _, block, tag_length = CIPHERS[cipher]
@@ -136,7 +178,7 @@ def read_ciphertext(reader, cipher):
 # ---- the plain section
 
 
-def read_section(reader, algorithm, point):
+def read_plain_section(reader, algorithm, point):
     """The plain section; algorithm and point are the header's."""
     if reader.left() % 8 != 0:
         raise Refused(1, reader.place)

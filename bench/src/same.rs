@@ -52,6 +52,7 @@ fn byte_by_byte(random: &mut Random, compared: &mut Compared, image: &[u8]) -> R
 fn one(random: &mut Random, compared: &mut Compared, image: &[u8]) -> Result<(), String> {
     compared.inputs += 1;
     compared.accepted += usize::from(reads(image)?);
+    halves(image)?;
     rewrites(random, image)?;
     changes(random, image)
 }
@@ -83,9 +84,29 @@ fn reads(image: &[u8]) -> Result<bool, String> {
     Err(differ("read", image, [shown(&library), shown(&model), shown(&yardstick)]))
 }
 
+/// The header's read, and the section's from it, which the yardstick doesn't have apart: its whole read stands for that.
+fn halves(image: &[u8]) -> Result<(), String> {
+    let library = raw::read_header(image);
+    let model = model::read_header(image);
+    let half = model::numbers(&model);
+    let (model, yardstick) = (from_model(model), yardstick::read_header(image));
+    if library != model || library != yardstick {
+        return Err(differ("header read", image, [shown(&library), shown(&model), shown(&yardstick)]));
+    }
+    if library.number != 0 {
+        return Ok(());
+    }
+    let section = raw::read_section(image, library);
+    let (model, yardstick) = (from_model(model::read_section(image, &half)), yardstick::read(image));
+    if section != model || section != yardstick {
+        return Err(differ("section read", image, [shown(&section), shown(&model), shown(&yardstick)]));
+    }
+    Ok(())
+}
+
 fn shown(record: &Image) -> String {
     let numbers = [record.number, record.count, record.at, record.kind, record.algorithm, record.cipher, record.kdf];
-    let more = [record.rounds, record.checkint, record.padding, record.form];
+    let more = [record.rounds, record.checkint, record.padding, record.form, record.section];
     let parts = [record.blob, record.point, record.scalar, record.comment, record.salt, record.ciphertext, record.tag];
     let places: Vec<_> = parts.iter().map(|part| (part.start, part.length)).collect();
     format!("{:?} {:?} {:?}", numbers, more, places)
@@ -96,12 +117,11 @@ fn from_model(answer: Result<model::Record, model::Refusal>) -> Image {
         Ok(record) => (record, model::Refusal { number: 0, count: 0, at: 0 }),
         Err(refusal) => (model::Record::default(), refusal),
     };
-    let kind = if record.encrypted { 2 } else { 1 };
     Image {
         number: refusal.number,
         count: refusal.count,
         at: refusal.at,
-        kind: if refusal.number == 0 { kind } else { 0 },
+        kind: record.kind.into(),
         algorithm: record.algorithm.into(),
         cipher: record.cipher.into(),
         kdf: record.kdf.into(),
@@ -116,6 +136,7 @@ fn from_model(answer: Result<model::Record, model::Refusal>) -> Image {
         salt: part(&record.salt),
         ciphertext: part(&record.ciphertext),
         tag: part(&record.tag),
+        section: record.section,
     }
 }
 

@@ -8,15 +8,20 @@ use crate::yardstick;
 use saltorchard::raw;
 use std::time::{Duration, Instant};
 
-pub const JOBS: [&str; 3] = ["read", "read and rewrite", "change of comment"];
+pub const JOBS: [&str; 4] = ["read", "read and rewrite", "change of comment", "header read"];
+const READ: usize = 0;
+const REWRITE: usize = 1;
+const CHANGE: usize = 2;
+const HEADER: usize = 3;
 pub const COMPETITORS: [&str; 4] = ["library", "copy", "model", "yardstick"];
 pub const LIBRARY: usize = 0;
 pub const COPY: usize = 1;
 pub const MODEL: usize = 2;
 
-/// Images of one sort, and for each competitor its own buffers for the comment change.
+/// Images of one sort, their headers' bytes for the copy, and for each competitor its own buffers for the comment change.
 pub struct Group {
     images: Vec<Vec<u8>>,
+    headers: Vec<Vec<u8>>,
     lent: Vec<Vec<Lent>>,
     out: Vec<u8>,
 }
@@ -43,13 +48,14 @@ impl Group {
         let mut random = Random::new(99);
         let plain = images.iter().filter(|image| raw::read(image).kind == 1);
         let lent: Vec<Lent> = plain.map(|image| Lent::new(&mut random, image, shorter, longer)).collect();
-        Group { images, lent: vec![lent; COMPETITORS.len()], out: vec![0; LIMIT] }
+        let headers = images.iter().map(|image| image[..raw::read(image).section as usize].to_vec()).collect();
+        Group { images, headers, lent: vec![lent; COMPETITORS.len()], out: vec![0; LIMIT] }
     }
 
     /// How many calls a pass of this job makes.
     pub fn calls(&self, job: usize) -> usize {
         match job {
-            2 => 2 * self.lent[0].len(),
+            CHANGE => 2 * self.lent[0].len(),
             _ => self.images.len(),
         }
     }
@@ -57,16 +63,18 @@ impl Group {
     /// How many bytes the images of this job have.
     pub fn bytes(&self, job: usize) -> usize {
         match job {
-            2 => self.lent[0].iter().map(|lent| lent.original.len() + lent.shorter_length).sum(),
+            CHANGE => self.lent[0].iter().map(|lent| lent.original.len() + lent.shorter_length).sum(),
+            HEADER => self.headers.iter().map(Vec::len).sum(),
             _ => self.images.iter().map(Vec::len).sum(),
         }
     }
 
     pub fn pass(&mut self, job: usize, competitor: usize) -> Duration {
         match job {
-            0 => self.read_by(competitor),
-            1 => self.rewrite_by(competitor),
-            _ => self.change_by(competitor),
+            READ => self.read_by(competitor),
+            REWRITE => self.rewrite_by(competitor),
+            CHANGE => self.change_by(competitor),
+            _ => self.read_header_by(competitor),
         }
     }
 
@@ -76,6 +84,15 @@ impl Group {
             COPY => rewrite_pass(&self.images, &mut self.out, copy, |length| *length),
             MODEL => read_pass(&self.images, model::read, |answer| u64::from(answer.is_err())),
             _ => read_pass(&self.images, yardstick::read, |image| image.number),
+        }
+    }
+
+    fn read_header_by(&mut self, competitor: usize) -> Duration {
+        match competitor {
+            LIBRARY => read_pass(&self.images, raw::read_header, |header| header.number),
+            COPY => rewrite_pass(&self.headers, &mut self.out, copy, |length| *length),
+            MODEL => read_pass(&self.images, model::read_header, |answer| u64::from(answer.is_err())),
+            _ => read_pass(&self.images, yardstick::read_header, |header| header.number),
         }
     }
 

@@ -12,6 +12,7 @@ const ABSENT: Part = Part { start: 0, length: 0 };
 const ED25519: u64 = 0;
 const PLAIN: u64 = 1;
 const ENCRYPTED: u64 = 2;
+const HEADER: u64 = 3;
 
 const NOTHING: Image = Image {
     number: 0,
@@ -32,6 +33,7 @@ const NOTHING: Image = Image {
     salt: ABSENT,
     ciphertext: ABSENT,
     tag: ABSENT,
+    section: 0,
 };
 
 struct Refused {
@@ -247,6 +249,9 @@ fn scalar(part: &[u8], key: &Public) -> Step<Private> {
 /// The blob's key and where the blob ends.
 #[inline(always)]
 fn header(image: &[u8], record: &mut Image) -> Step<(Public, usize)> {
+    if image.len() > LIMIT {
+        return refuse(11, 0);
+    }
     let options = names(image, record)?;
     if uint32(image, options)? != 1 {
         return refuse(1, options);
@@ -258,6 +263,7 @@ fn header(image: &[u8], record: &mut Image) -> Step<(Public, usize)> {
     record.algorithm = key.algorithm;
     record.blob = blob.part();
     record.point = key.point.part();
+    record.section = blob.end as u64;
     Ok((key, blob.end))
 }
 
@@ -371,9 +377,6 @@ fn padding(part: &[u8], at: usize) -> Step<u64> {
 
 #[inline(always)]
 fn fill(image: &[u8], record: &mut Image) -> Step<()> {
-    if image.len() > LIMIT {
-        return refuse(11, 0);
-    }
     let (key, at) = header(image, record)?;
     if record.cipher != 0 {
         return encrypted(image, at, record);
@@ -381,15 +384,33 @@ fn fill(image: &[u8], record: &mut Image) -> Step<()> {
     plain(image, at, &key, record)
 }
 
+#[inline(always)]
+fn fill_header(image: &[u8], record: &mut Image) -> Step<()> {
+    header(image, record)?;
+    record.kind = HEADER;
+    Ok(())
+}
+
+fn not_read(refused: Refused) -> Image {
+    Image { number: refused.number, count: refused.count as u64, at: refused.at as u64, ..NOTHING }
+}
+
 /// Reads an image.
 #[inline(never)]
 pub fn read(image: &[u8]) -> Image {
     let mut record = NOTHING;
     if let Err(refused) = fill(image, &mut record) {
-        record = NOTHING;
-        record.number = refused.number;
-        record.count = refused.count as u64;
-        record.at = refused.at as u64;
+        record = not_read(refused);
+    }
+    record
+}
+
+/// Reads an image's header.
+#[inline(never)]
+pub fn read_header(image: &[u8]) -> Image {
+    let mut record = NOTHING;
+    if let Err(refused) = fill_header(image, &mut record) {
+        record = not_read(refused);
     }
     record
 }

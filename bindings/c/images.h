@@ -224,6 +224,7 @@ static saltorchard_image plain_record(const key *k, size_t zero, uint32_t checki
     r.point = part(43 + before_point, k->pub_len);
     r.scalar = part(scalar, k->priv_len);
     r.comment = part(comment_at, comment);
+    r.section = section - 4;
     return r;
 }
 
@@ -242,10 +243,73 @@ static saltorchard_image encrypted_record(const sealed *s, const key *k)
     r.blob = part(blob, s->blob.length);
     r.point = part(blob + s->blob.length - k->pub_len, k->pub_len);
     r.ciphertext = part(ciphertext, s->ciphertext.length);
+    r.section = ciphertext - 4;
     if (s->kdf == SALTORCHARD_BCRYPT)
         r.salt = part(names + 4 + 4, s->salt.length);
     if (s->tag.length > 0)
         r.tag = part(ciphertext + s->ciphertext.length, s->tag.length);
+    return r;
+}
+
+/* ---- what a header's read must answer */
+
+/* A number of four bytes. One that the image has no room for counts as one past every end. */
+static uint64_t uint32_at(const bytes *image, uint64_t at)
+{
+    uint64_t number = 0;
+    if (at + 4 > image->length)
+        return LARGEST;
+    for (int i = 0; i < 4; i++)
+        number = number << 8 | image->at[at + (uint64_t)i];
+    return number;
+}
+
+/* The contents of the string at a place, its length taken at its word. */
+static saltorchard_part string_at(const bytes *image, uint64_t at)
+{
+    return part(at + 4, uint32_at(image, at));
+}
+
+static uint64_t end_of(saltorchard_part p)
+{
+    return p.start + p.length;
+}
+
+/* The blob, behind the key count, which follows three strings. */
+static saltorchard_part blob_of(const bytes *image)
+{
+    uint64_t at = 15;
+    for (int i = 0; i < 3; i++)
+        at = end_of(string_at(image, at));
+    return string_at(image, at + 4);
+}
+
+static int names(const bytes *image, saltorchard_part p, const char *name)
+{
+    return p.length == strlen(name) && memcmp(image->at + p.start, name, p.length) == 0;
+}
+
+/* Of an image whose header is right. */
+static saltorchard_image header_record(const bytes *image)
+{
+    saltorchard_part cipher = string_at(image, 15), kdf = string_at(image, end_of(cipher));
+    saltorchard_part options = string_at(image, end_of(kdf)), blob = blob_of(image), name = string_at(image, blob.start);
+    saltorchard_image r = {0};
+    r.kind = SALTORCHARD_HEADER;
+    while (r.algorithm < 3 && !names(image, name, ALGORITHMS[r.algorithm]))
+        r.algorithm++;
+    while (r.cipher < 9 && !names(image, cipher, CIPHERS[r.cipher].name))
+        r.cipher++;
+    r.blob = blob;
+    r.point = string_at(image, end_of(name));
+    if (r.algorithm != SALTORCHARD_ED25519)
+        r.point = string_at(image, end_of(r.point));
+    if (names(image, kdf, KDFS[SALTORCHARD_BCRYPT])) {
+        r.kdf = SALTORCHARD_BCRYPT;
+        r.salt = string_at(image, options.start);
+        r.rounds = uint32_at(image, end_of(r.salt));
+    }
+    r.section = end_of(blob);
     return r;
 }
 

@@ -24,7 +24,7 @@ extern "C" {
 /* The number of a reply. The first condition that holds, in the order of reading or writing, gives it. */
 enum {
     SALTORCHARD_ACCEPTED = 0,
-    SALTORCHARD_LENGTH = 1,          /* a field runs past its end, or has a wrong length or key count */
+    SALTORCHARD_LENGTH = 1,          /* a field runs past its end, or has a wrong length or key count; not the image's header */
     SALTORCHARD_FORMAT = 2,          /* wrong magic, padding byte, point tag or leading scalar byte */
     SALTORCHARD_CRYPTO = 3,          /* checkints, KDF use, ciphertext length, Ed25519 halves */
     SALTORCHARD_UNKNOWN = 4,         /* unknown name or code, or curve unlike its algorithm */
@@ -39,9 +39,9 @@ enum {
 
 enum { SALTORCHARD_LIMIT = 65535 };
 
-enum { SALTORCHARD_REFUSED = 0, SALTORCHARD_PLAIN = 1, SALTORCHARD_ENCRYPTED = 2 };
+enum { SALTORCHARD_REFUSED = 0, SALTORCHARD_PLAIN = 1, SALTORCHARD_ENCRYPTED = 2, SALTORCHARD_HEADER = 3 };
 
-/* Codes of algorithms, KDFs and ciphers. Any other code is refused with 4, count 0, at 0, before all else. */
+/* Codes of algorithms, KDFs and ciphers. A writer refuses any other code with 4, count 0, at 0, before all else. */
 enum { SALTORCHARD_ED25519 = 0, SALTORCHARD_P256 = 1, SALTORCHARD_P384 = 2, SALTORCHARD_P521 = 3 };
 enum { SALTORCHARD_KDF_NONE = 0, SALTORCHARD_BCRYPT = 1 };
 enum {
@@ -63,11 +63,12 @@ typedef struct { uint64_t start, length; } saltorchard_part;
 /* What a read answers. `at` is the byte at which the failing field began. Of a refused image every field after `at` is 0. */
 typedef struct {
     uint64_t number, count, at;            /* the refusal; 0 0 0 where accepted */
-    uint64_t kind;                         /* 0 refused, 1 plain, 2 encrypted */
+    uint64_t kind;                         /* 0 refused, 1 plain, 2 encrypted, 3 a header alone */
     uint64_t algorithm, cipher, kdf;       /* the codes above */
     uint64_t rounds, checkint, padding;    /* 0 where the image has none */
     uint64_t form;                         /* 1: in the writer's form */
     saltorchard_part blob, point, scalar, comment, salt, ciphertext, tag;   /* 0 0 where absent */
+    uint64_t section;                      /* where the section's length field is: the blob's end */
 } saltorchard_image;
 
 /* What the others answer. `length` is what was written, 0 where refused. `at` is 0 for what was handed to a writer; where an image
@@ -76,6 +77,15 @@ typedef struct { uint64_t number, count, at, length; } saltorchard_reply;
 
 /* Reads an image. For Ed25519 `point` is the public string and `scalar` the seed. An ECDSA scalar has no extra zero. */
 saltorchard_image saltorchard_read(const uint8_t *image, size_t image_len);
+
+/* Reads an image up to its blob's end. What comes after isn't looked at: it may be damaged, short or missing. An accepted header
+ * has kind 3, and its form, checkint, padding, scalar, comment, ciphertext and tag are 0. Cipher none with KDF bcrypt is accepted
+ * here; the section's read refuses it, with 3 at the KDF. */
+saltorchard_image saltorchard_read_header(const uint8_t *image, size_t image_len);
+
+/* Goes on from `header`, and answers what saltorchard_read of the image does. `header` must be, number for number, what an accepted
+ * saltorchard_read_header of this image answers; any other is refused with 1, count 0, at 0, before all else. */
+saltorchard_image saltorchard_read_section(const uint8_t *image, size_t image_len, saltorchard_image header);
 
 /* Writes a plain image. `pub` is an Ed25519 public key of 32 bytes or an uncompressed point (65, 97, 133), `priv` the seed of
  * 32 bytes or the scalar (32, 48, 66). `derive` 0: the given checkint; else one is derived from `priv`. */

@@ -8,10 +8,11 @@
 
 _Static_assert(sizeof(saltorchard_part) == 16, "part");
 _Static_assert(sizeof(saltorchard_reply) == 32 && offsetof(saltorchard_reply, length) == 24, "reply");
-_Static_assert(sizeof(saltorchard_image) == 200, "image");
+_Static_assert(sizeof(saltorchard_image) == 208, "image");
 _Static_assert(offsetof(saltorchard_image, kind) == 24 && offsetof(saltorchard_image, rounds) == 56, "image's numbers");
 _Static_assert(offsetof(saltorchard_image, form) == 80 && offsetof(saltorchard_image, blob) == 88, "image's form and parts");
 _Static_assert(offsetof(saltorchard_image, comment) == 136 && offsetof(saltorchard_image, tag) == 184, "image's last parts");
+_Static_assert(offsetof(saltorchard_image, section) == 200, "image's last number");
 
 /* ---- checks */
 
@@ -50,25 +51,49 @@ static void reply_at(int line, saltorchard_reply got, uint64_t number, uint64_t 
                (int)number, (int)count, (int)at, (int)length);
 }
 
+enum { NUMBERS = 26 };
+
 static void image_at(int line, saltorchard_image got, saltorchard_image want)
 {
-    static const char *const NAMES[25] = {
+    static const char *const NAMES[NUMBERS] = {
         "number", "count", "at", "kind", "algorithm", "cipher", "kdf", "rounds", "checkint", "padding", "form",
         "blob.start", "blob.length", "point.start", "point.length", "scalar.start", "scalar.length", "comment.start",
-        "comment.length", "salt.start", "salt.length", "ciphertext.start", "ciphertext.length", "tag.start", "tag.length"};
-    uint64_t g[25], w[25];
+        "comment.length", "salt.start", "salt.length", "ciphertext.start", "ciphertext.length", "tag.start", "tag.length",
+        "section"};
+    uint64_t g[NUMBERS], w[NUMBERS];
     memcpy(g, &got, sizeof g);
     memcpy(w, &want, sizeof w);
     size_t i = 0;
-    while (i < 25 && g[i] == w[i])
+    while (i < NUMBERS && g[i] == w[i])
         i++;
-    if (!check_at(line, i == 25))
+    if (!check_at(line, i == NUMBERS))
         printf("read answers %s %llu, not %llu\n", NAMES[i], (unsigned long long)g[i], (unsigned long long)w[i]);
+}
+
+/* Is an image that is refused so refused by its header's read? The KDF without a cipher is left to the section's. No image here
+ * has a blob that ends where one of its own fields should begin. */
+static int in_header(const bytes *image, saltorchard_image refused)
+{
+    int kdf_without_cipher = refused.number == SALTORCHARD_CRYPTO && refused.at == 23;
+    return refused.at < end_of(blob_of(image)) && !kdf_without_cipher;
+}
+
+/* Reads an image whole and in halves. After a refused header there is nothing to go on from. */
+static void reads_at(int line, const bytes *image, saltorchard_image want)
+{
+    static bytes before;
+    int refused = want.number != 0 && in_header(image, want);
+    saltorchard_image header = refused ? want : header_record(image);
+    before = *image;
+    image_at(line, saltorchard_read(image->at, image->length), want);
+    image_at(line, saltorchard_read_header(image->at, image->length), header);
+    image_at(line, saltorchard_read_section(image->at, image->length, header), refused ? refusal(1, 0, 0) : want);
+    true_at(line, memcmp(&before, image, sizeof before) == 0, "the image stays");
 }
 
 #define CHECK(ok) true_at(__LINE__, (ok), #ok)
 #define REPLY(got, number, count, at, length) reply_at(__LINE__, (got), (number), (count), (at), (length))
-#define READS(image, want) image_at(__LINE__, saltorchard_read((image)->at, (image)->length), (want))
+#define READS(image, want) reads_at(__LINE__, (image), (want))
 
 /* ---- the lent buffer: junk before, in and after it, and what all of it must be after a call */
 
@@ -136,7 +161,7 @@ static saltorchard_reply change(size_t n, const void *comment, size_t c, size_t 
 /* An image that the reader refuses, and so do the rewrite and the comment change, whatever the comment and the room. */
 static void refused_at(int line, const bytes *image, uint64_t number, uint64_t count, uint64_t at)
 {
-    image_at(line, saltorchard_read(image->at, image->length), refusal(number, count, at));
+    reads_at(line, image, refusal(number, count, at));
     lend_junk();
     reply_at(line, rewrite(image, 10), number, count, at, 0);
     ground_at(line);
@@ -439,6 +464,7 @@ static void cut_or_longer(void)
         other.length = n;
         saltorchard_image r = saltorchard_read(other.at, n);
         CHECK(r.number == 1 && r.count == 0 && r.kind == 0 && r.at <= n);
+        READS(&other, r);
         other.length = 242;
     }
     for (size_t n = 1; n < 9; n++) {
@@ -776,6 +802,9 @@ static void null_parts(void)
     key k = make_key(SALTORCHARD_ED25519, 1);
     now("NULL", 0);
     image_at(__LINE__, saltorchard_read(NULL, 0), refusal(1, 0, 0));
+    image_at(__LINE__, saltorchard_read_header(NULL, 0), refusal(1, 0, 0));
+    image_at(__LINE__, saltorchard_read_section(NULL, 0, refusal(0, 0, 0)), refusal(1, 0, 0));
+    image_at(__LINE__, saltorchard_read_section(NULL, 0, refusal(1, 0, 0)), refusal(1, 0, 0));
     REPLY(saltorchard_rewrite(NULL, 0, NULL, 0), 1, 0, 0, 0);
     REPLY(saltorchard_change_comment(NULL, 0, 0, NULL, 0), 1, 0, 0, 0);
     REPLY(saltorchard_change_comment(NULL, 0, 1, NULL, 0), 1, 0, 0, 0);
@@ -903,6 +932,190 @@ static void comment_lengths(void)
     KEPT();
 }
 
+/* ---- the two halves of a read */
+
+/* One image of each algorithm, then one of each cipher with KDF none or bcrypt: no two have the same header. */
+enum { KINDS = 13 };
+
+static void image_of_kind(bytes *to, int kind)
+{
+    key k = make_key(kind % 4, 0x7f);
+    now("halves of kind", (size_t)kind);
+    if (kind < 4) {
+        plain_image(to, &k, 0x01020304, "oven7", 5);
+        return;
+    }
+    make_sealed(&seal, kind - 3, kind % 2, &k, 2);
+    encrypted_image(to, &seal);
+}
+
+/* The lent image's first n bytes: the header is there from the blob's end on, whatever follows. */
+static void cut_to(size_t n, saltorchard_image header)
+{
+    int whole_header = n >= header.section;
+    saltorchard_image read = saltorchard_read(lent, n);
+    image_at(__LINE__, saltorchard_read_header(lent, n), whole_header ? header : read);
+    image_at(__LINE__, saltorchard_read_section(lent, n, header), whole_header ? read : refusal(1, 0, 0));
+}
+
+static void halves_cut(void)
+{
+    for (int kind = 0; kind < KINDS; kind++) {
+        image_of_kind(&image, kind);
+        saltorchard_image header = header_record(&image);
+        lend_image(&image);
+        for (size_t n = 0; n < image.length; n++) {
+            now("halves cut to", n);
+            cut_to(n, header);
+            CHECK(saltorchard_read_header(lent, n).kind == (n < header.section ? SALTORCHARD_REFUSED : SALTORCHARD_HEADER));
+            CHECK(saltorchard_read(lent, n).number == 1);
+        }
+        for (size_t n = image.length; n < image.length + 20; n++)
+            cut_to(n, header);
+        KEPT();
+    }
+}
+
+/* Each byte of the section, or of what stands there for one, is changed: the header doesn't know, and the section's read says what
+ * the whole read says. */
+static void halves_damaged(void)
+{
+    static const uint8_t CHANGES[3] = {0x01, 0x80, 0xff};
+    for (int kind = 0; kind < KINDS; kind++) {
+        image_of_kind(&image, kind);
+        saltorchard_image header = header_record(&image);
+        for (size_t i = header.section; i < image.length; i++) {
+            for (size_t c = 0; c < 3; c++) {
+                now("halves, damage of byte", i);
+                image.at[i] ^= CHANGES[c];
+                READS(&image, saltorchard_read(image.at, image.length));
+                image.at[i] ^= CHANGES[c];
+            }
+        }
+        memset(image.at + header.section, 0xff, image.length - header.section);
+        READS(&image, refusal(1, 0, header.section));
+        image.length = header.section;
+        READS(&image, refusal(1, 0, header.section));
+    }
+}
+
+/* A half that isn't the image's header. */
+static void forged_at(int line, const bytes *image, saltorchard_image half)
+{
+    image_at(line, saltorchard_read_section(image->at, image->length, half), refusal(1, 0, 0));
+}
+
+#define FORGED(image, half) forged_at(__LINE__, (image), (half))
+
+/* The header with one of its numbers made another. */
+static saltorchard_image with_number(saltorchard_image header, size_t place, uint64_t number)
+{
+    uint64_t numbers[NUMBERS];
+    memcpy(numbers, &header, sizeof numbers);
+    numbers[place] = number;
+    memcpy(&header, numbers, sizeof numbers);
+    return header;
+}
+
+static uint64_t number_at(saltorchard_image header, size_t place)
+{
+    uint64_t numbers[NUMBERS];
+    memcpy(numbers, &header, sizeof numbers);
+    return numbers[place];
+}
+
+static void numbers_changed(const bytes *image, saltorchard_image header)
+{
+    static const uint64_t STEPS[] = {1, (uint64_t)1 << 32, (uint64_t)1 << 63, UINT64_MAX, 256};
+    for (size_t place = 0; place < NUMBERS; place++) {
+        now("halves, change of number", place);
+        for (size_t s = 0; s < sizeof STEPS / sizeof *STEPS; s++)
+            FORGED(image, with_number(header, place, number_at(header, place) + STEPS[s]));
+    }
+}
+
+/* Kind and codes: every other one of a byte, and those that are right in their low bits alone. */
+static void codes_changed(const bytes *image, saltorchard_image header)
+{
+    for (size_t place = 3; place < 7; place++) {
+        now("halves, code at", place);
+        uint64_t right = number_at(header, place);
+        for (uint64_t code = 0; code <= 256; code++) {
+            if (code != right)
+                FORGED(image, with_number(header, place, code));
+        }
+        for (int bit = 8; bit < 64; bit++)
+            FORGED(image, with_number(header, place, right | (uint64_t)1 << bit));
+    }
+}
+
+/* What other reads answer. */
+static void answers_handed_in(const bytes *image, saltorchard_image header)
+{
+    saltorchard_image read = saltorchard_read(image->at, image->length);
+    now("halves, other answers", image->length);
+    FORGED(image, read);
+    FORGED(image, with_number(read, 3, SALTORCHARD_HEADER));
+    for (uint64_t number = 0; number < 12; number++)
+        FORGED(image, refusal(number, 0, 0));
+    FORGED(image, refusal(6, 1, header.section));
+    FORGED(image, saltorchard_read_header(image->at, (size_t)header.section - 1));
+    image_at(__LINE__, saltorchard_read_section(NULL, 0, header), refusal(1, 0, 0));
+    read = saltorchard_read(image->at, image->length - 1);
+    CHECK(read.number == 1);
+    FORGED(image, read);
+}
+
+static void halves_forged(void)
+{
+    for (int kind = 0; kind < KINDS; kind++) {
+        image_of_kind(&image, kind);
+        lend_image(&image);
+        saltorchard_image header = header_record(&image);
+        numbers_changed(&image, header);
+        codes_changed(&image, header);
+        answers_handed_in(&image, header);
+        for (int another = 0; another < KINDS; another++) {
+            image_of_kind(&other, another);
+            if (another != kind)
+                FORGED(&image, header_record(&other));
+        }
+        CHECK(memcmp(lent, image.at, image.length) == 0);
+        image_at(__LINE__, saltorchard_read_section(image.at, image.length, header), saltorchard_read(image.at, image.length));
+    }
+}
+
+/* A header is its numbers: one read from an image with another comment, another key and the same places is this image's too. */
+static void header_of_a_like_image(void)
+{
+    key k = make_key(SALTORCHARD_P256, 0x7f), like = k;
+    like.pub[64] ^= 1;
+    now("header of a like image", 1);
+    plain_image(&image, &k, 3, "oven7", 5);
+    plain_image(&other, &like, 4, "a comment of another length", 27);
+    image_at(__LINE__, saltorchard_read_section(image.at, image.length, saltorchard_read_header(other.at, other.length)),
+             plain_record(&k, 0, 3, 5, 1));
+}
+
+/* An image above the limit has no header, so none is right for it: 1, not 11. */
+static void halves_above_the_limit(void)
+{
+    key k = make_key(SALTORCHARD_ED25519, 1);
+    saltorchard_image header;
+    now("halves at length", 65535);
+    plain_image(&image, &k, 2, "oven7", 5);
+    header = header_record(&image);
+    image.length = 65535;
+    READS(&image, refusal(6, 65535 - 234, 234));
+    now("halves at length", 65536);
+    image.length = 65536;
+    READS(&image, refusal(11, 0, 0));
+    FORGED(&image, header);
+    FORGED(&image, refusal(0, 0, 0));
+    image.length = LARGEST;
+    FORGED(&image, header);
+}
+
 int main(void)
 {
     memset(long_comment, 'c', sizeof long_comment - 1);
@@ -932,6 +1145,11 @@ int main(void)
     comment_bytes();
     comment_sequence();
     comment_lengths();
+    halves_cut();
+    halves_damaged();
+    halves_forged();
+    header_of_a_like_image();
+    halves_above_the_limit();
     if (failed > 0)
         printf("%lu checks failed\n", failed);
     printf("%lu checks passed\n", passed);

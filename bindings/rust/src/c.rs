@@ -8,7 +8,8 @@ pub struct Part {
     pub length: u64,
 }
 
-/// What a read answers. It has no `Debug`: a derived checkint says something of the private bytes.
+/// What a read answers, of an image whole, by its header or by its section. It has no `Debug`: a derived checkint says
+/// something of the private bytes.
 #[repr(C)]
 #[derive(Clone, Copy, PartialEq, Eq)]
 pub struct Image {
@@ -30,6 +31,7 @@ pub struct Image {
     pub salt: Part,
     pub ciphertext: Part,
     pub tag: Part,
+    pub section: u64,
 }
 
 /// What a writer or a comment change answers.
@@ -44,6 +46,8 @@ pub struct Reply {
 
 extern "C" {
     fn saltorchard_read(image: *const u8, image_len: usize) -> Image;
+    fn saltorchard_read_header(image: *const u8, image_len: usize) -> Image;
+    fn saltorchard_read_section(image: *const u8, image_len: usize, header: Image) -> Image;
     fn saltorchard_write_plain(
         algorithm: u8,
         public: *const u8,
@@ -86,6 +90,18 @@ extern "C" {
 pub fn read(image: &[u8]) -> Image {
     // SAFETY: the pointer and the length are one live slice's, and only that is read.
     unsafe { saltorchard_read(image.as_ptr(), image.len()) }
+}
+
+/// `saltorchard_read_header`.
+pub fn read_header(image: &[u8]) -> Image {
+    // SAFETY: the pointer and the length are one live slice's, and only that is read.
+    unsafe { saltorchard_read_header(image.as_ptr(), image.len()) }
+}
+
+/// `saltorchard_read_section`; any `header` is fine, one that isn't the image's is refused.
+pub fn read_section(image: &[u8], header: Image) -> Image {
+    // SAFETY: the pointer and the length are one live slice's, and only that is read; the header is handed over as a copy.
+    unsafe { saltorchard_read_section(image.as_ptr(), image.len(), header) }
 }
 
 /// `saltorchard_write_plain`; `derive` 0 takes the given checkint.

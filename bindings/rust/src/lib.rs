@@ -2,15 +2,19 @@
 #![deny(unsafe_code)]
 #![warn(missing_docs)]
 
+#[macro_use]
+mod accepted;
 #[allow(unsafe_code, missing_docs)]
 mod c;
 mod error;
+mod header;
 mod image;
 mod lent;
 mod names;
 mod write;
 
 pub use error::Error;
+pub use header::Header;
 pub use image::Image;
 pub use lent::{set_comment, LentImage};
 pub use names::{Algorithm, Cipher, EcdsaCurve, KdfAlg};
@@ -22,5 +26,6 @@ pub const MAX_IMAGE_LEN: usize = 65_535;
 /// The C interface's own numbers, for the tests.
 #[doc(hidden)]
 pub mod raw {
-    pub use crate::c::{change_comment, read, rewrite, write_encrypted, write_plain, Image, Part, Reply};
+    pub use crate::c::{change_comment, read, read_header, read_section, rewrite, write_encrypted, write_plain};
+    pub use crate::c::{Image, Part, Reply};
 }

@@ -5,7 +5,8 @@ mod support;
 use std::collections::BTreeSet;
 
 use saltorchard::{set_comment, write_encrypted, write_plain, MAX_IMAGE_LEN};
-use saltorchard::{Algorithm, Checkint, Cipher, EcdsaCurve, EncryptedKey, Error, Image, KdfAlg, LentImage, PlainKey};
+use saltorchard::{Algorithm, Checkint, Cipher, EcdsaCurve, KdfAlg};
+use saltorchard::{EncryptedKey, Error, Header, Image, LentImage, PlainKey};
 use support::hex;
 use support::images::{blob_bytes, sealed, Draft, Key, CIPHERS};
 use support::Rng;
@@ -165,6 +166,80 @@ fn an_encrypted_image() {
     let mut again = [0; 400];
     assert_eq!(image.rewrite(&mut again), Ok(len));
     assert_eq!(again[..len], out[..len]);
+}
+
+#[test]
+fn a_header_of_a_plain_image() {
+    let key = Key::new(1, &mut rng()).beginning(0x80);
+    let bytes = Draft::in_form(&key, 0xfeed_beef, b"oven7").bytes();
+    let header = Header::read(&bytes).expect("a good image");
+    assert_eq!(header.algorithm(), Algorithm::Ecdsa { curve: EcdsaCurve::NistP256 });
+    assert_eq!((header.cipher(), header.kdf(), header.is_encrypted()), (Cipher::None, KdfAlg::None, false));
+    assert_eq!((header.public_blob(), header.point()), (&blob_bytes(&key)[..], &key.public[..]));
+    assert_eq!((header.salt(), header.rounds(), header.section_start()), (&b""[..], 0, 147));
+    let image = header.section().expect("a good image");
+    assert_eq!((image.comment(), image.scalar(), image.section_start()), ("oven7", &key.private[..], 147));
+    assert!(std::ptr::eq(image.as_bytes(), &bytes[..]));
+    let debug = format!("{:?}", header);
+    assert!(
+        debug.starts_with("Header { algorithm: Ecdsa { curve: NistP256 }, cipher: None, kdf: None, section_start: 147")
+    );
+    hides_private_bytes(&format!("{} {:#?}", debug, header), &key.private);
+}
+
+#[test]
+fn a_header_of_an_encrypted_image() {
+    let draft = sealed(0, 9, true, 2, &mut rng());
+    let (salt, rounds) = draft.options.clone().expect("bcrypt's options");
+    let (ciphertext, tag) = draft.sealed.clone().expect("an encrypted section");
+    let bytes = draft.bytes();
+    let header = Header::read(&bytes).expect("a good image");
+    assert_eq!((header.algorithm(), header.is_encrypted()), (Algorithm::Ed25519, true));
+    assert_eq!((header.cipher(), header.kdf()), (Cipher::Aes256Gcm, KdfAlg::Bcrypt));
+    assert_eq!((header.salt(), header.rounds(), header.point()), (&salt[..], rounds, &draft.blob[1][..]));
+    assert_eq!(header.section_start(), bytes.len() - tag.len() - ciphertext.len() - 4);
+    let image = header.section().expect("a good image");
+    assert_eq!((image.ciphertext(), image.tag()), (&ciphertext[..], &tag[..]));
+}
+
+/// The header of `bytes` is read, and the section is then refused as the whole image is.
+fn section_refused(bytes: &[u8]) -> (u64, usize, usize) {
+    let header = Header::read(bytes).expect("a good header");
+    assert_eq!(header.algorithm(), Algorithm::Ecdsa { curve: EcdsaCurve::NistP256 });
+    let refusal = header.section().expect_err("a refusal");
+    assert_eq!(Image::read(bytes).expect_err("a refusal"), refusal);
+    (refusal.number(), refusal.count(), refusal.place())
+}
+
+#[test]
+fn a_header_before_a_damaged_section() {
+    let good = good().bytes();
+    assert_eq!(section_refused(&good[..good.len() - 1]), (1, 0, 147));
+    assert_eq!(section_refused(&good[..149]), (1, 0, 147));
+    assert_eq!(section_refused(&good[..147]), (1, 0, 147));
+    assert_eq!(section_refused(&changed(|draft| draft.checkints[1] = 1)), (3, 0, 155));
+    assert_eq!(section_refused(&changed(|draft| draft.pair[2][64] ^= 1)), (5, 0, 159));
+    assert_eq!(section_refused(&changed(|draft| draft.rest = vec![0, 0])), (6, 2, 311));
+    assert_eq!(section_refused(&changed(|draft| draft.comment = b"oven\xff".to_vec())), (7, 0, 300));
+    let kdf_without_cipher = changed(|draft| {
+        draft.kdf = b"bcrypt".to_vec();
+        draft.options = Some((b"salt".to_vec(), 16));
+    });
+    assert_eq!(section_refused(&kdf_without_cipher), (3, 0, 23));
+}
+
+#[test]
+fn headers_refused() {
+    let refused = |bytes: &[u8]| {
+        let refusal = Header::read(bytes).expect_err("a refusal");
+        assert_eq!(Image::read(bytes).expect_err("a refusal"), refusal);
+        (refusal.number(), refusal.count(), refusal.place())
+    };
+    assert_eq!(refused(b""), (1, 0, 0));
+    assert_eq!(refused(&good().bytes()[..146]), (1, 0, 39));
+    assert_eq!(refused(&changed(|draft| draft.cipher = b"aes512-ctr".to_vec())), (4, 0, 15));
+    assert_eq!(refused(&changed(|draft| draft.blob_rest = vec![0; 3])), (6, 3, 147));
+    assert_eq!(refused(&[0; MAX_IMAGE_LEN + 1]), (11, 0, 0));
 }
 
 #[test]

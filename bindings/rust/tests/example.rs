@@ -1,15 +1,20 @@
-//! The example in the documents is run, and it is the same text in each place.
+//! The examples in the documents are run, and each is the same text in each place.
 
 #[path = "../examples/oven.rs"]
 mod oven;
+#[path = "../examples/passphrase.rs"]
+mod passphrase;
 
 #[test]
-fn runs() {
+fn run() {
     oven::main().expect("the example's key is fine");
+    passphrase::main().expect("the example's keys are fine");
 }
 
 #[test]
-fn stands_in_the_readme() {
-    let (readme, example) = (include_str!("../README.md"), include_str!("../examples/oven.rs"));
-    assert!(readme.contains(&format!("```\n{}```", example)));
+fn stand_in_the_readme() {
+    let readme = include_str!("../README.md");
+    for example in [include_str!("../examples/oven.rs"), include_str!("../examples/passphrase.rs")] {
+        assert!(readme.contains(&format!("```\n{}```", example)));
+    }
 }

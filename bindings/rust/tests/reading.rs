@@ -1,4 +1,4 @@
-//! Reading, held against the model.
+//! Reading, whole and in halves, held against the model.
 
 mod support;
 
@@ -24,7 +24,7 @@ fn short_images() {
         tally.read(&[value; 15]);
         tally.read(&[value; 16]);
     }
-    tally.end(5_121);
+    tally.end(15_363);
 }
 
 #[test]
@@ -38,7 +38,9 @@ fn every_prefix() {
         }
     }
     assert_eq!(accepted, 88, "each image whole and no prefix of it");
-    tally.end(27_000);
+    tally.expect_of_headers(&[0], 10_000);
+    tally.expect_of_sections(&[0], 88);
+    tally.end(81_000);
 }
 
 fn every_byte_value(entry: &'static str, draft: &dyn Fn(&mut Rng) -> Draft, least: u64) {
@@ -57,19 +59,19 @@ fn every_byte_value(entry: &'static str, draft: &dyn Fn(&mut Rng) -> Draft, leas
 #[test]
 fn every_byte_value_of_ed25519() {
     let draft = |rng: &mut Rng| Draft::in_form(&Key::new(0, rng), 0x5a17, b"oven\xc3\xb6");
-    every_byte_value("every byte value, Ed25519", &draft, 61_000);
+    every_byte_value("every byte value, Ed25519", &draft, 183_000);
 }
 
 #[test]
 fn every_byte_value_of_p256() {
     let draft = |rng: &mut Rng| Draft::in_form(&Key::new(1, rng).beginning(0x80), 0x5a17, b"");
-    every_byte_value("every byte value, P-256", &draft, 79_000);
+    every_byte_value("every byte value, P-256", &draft, 237_000);
 }
 
 #[test]
 fn every_byte_value_of_encrypted_images() {
-    every_byte_value("every byte value, 3des-cbc", &|rng| sealed(0, 1, false, 0, rng), 26_000);
-    every_byte_value("every byte value, aes256-gcm", &|rng| sealed(1, 9, true, 1, rng), 57_000);
+    every_byte_value("every byte value, 3des-cbc", &|rng| sealed(0, 1, false, 0, rng), 78_000);
+    every_byte_value("every byte value, aes256-gcm", &|rng| sealed(1, 9, true, 1, rng), 171_000);
 }
 
 #[test]
@@ -86,7 +88,7 @@ fn numbers_changed() {
         }
     }
     tally.expect_replies(&[1, 3, 4, 6], 50);
-    tally.end(18_000);
+    tally.end(54_000);
 }
 
 #[test]
@@ -100,7 +102,7 @@ fn bytes_dropped() {
             tally.read(&image);
         }
     }
-    tally.end(27_000);
+    tally.end(81_000);
 }
 
 #[test]
@@ -115,7 +117,7 @@ fn bytes_inserted() {
             tally.read(&image);
         }
     }
-    tally.end(27_000);
+    tally.end(81_000);
 }
 
 #[test]
@@ -131,7 +133,7 @@ fn bytes_swapped() {
             tally.read(&image);
         }
     }
-    tally.end(27_000);
+    tally.end(81_000);
 }
 
 #[test]
@@ -144,7 +146,7 @@ fn images_spliced() {
         tally.read(&spliced(first, second, &mut rng));
     }
     tally.expect_replies(&[0, 1, 3, 4, 6], 50);
-    tally.end(20_000);
+    tally.end(60_000);
 }
 
 #[test]
@@ -157,7 +159,9 @@ fn parts_changed() {
         tally.read(&structured(good, &mut rng));
     }
     tally.expect_replies(&[0, 1, 2, 3, 4, 5, 6, 7], 300);
-    tally.end(40_000);
+    tally.expect_of_headers(&[0, 1, 2, 3, 4, 6], 80);
+    tally.expect_of_sections(&[0, 1, 2, 3, 4, 5, 6, 7], 80);
+    tally.end(120_000);
 }
 
 /// Which of two faults is found first?
@@ -172,7 +176,7 @@ fn order_of_reading() {
         }
     }
     tally.expect_replies(&[0, 1, 2, 3, 4, 5, 6, 7], 50);
-    tally.end(13_000);
+    tally.end(39_000);
 }
 
 #[test]
@@ -185,7 +189,7 @@ fn random_bytes_after_the_magic() {
         image.extend((0..length).map(|_| if rng.one_in(2) { 0 } else { rng.byte() }));
         tally.read(&image);
     }
-    tally.end(5_000);
+    tally.end(15_000);
 }
 
 #[test]
@@ -200,7 +204,7 @@ fn comment_lengths() {
             tally.read(&Draft::plain(&key, !key.needs_zero(), 0, &vec![b'c'; length]).bytes());
         }
     }
-    tally.end(2_400);
+    tally.end(7_200);
 }
 
 #[test]
@@ -214,7 +218,7 @@ fn comments_in_an_image() {
         tally.read(&draft.bytes());
     }
     tally.expect_replies(&[0, 7], 1_000);
-    tally.end(10_000);
+    tally.end(30_000);
 }
 
 #[test]
@@ -238,5 +242,5 @@ fn around_the_limit() {
         tally.read(&[MAGIC, &vec![0; length - MAGIC.len()]].concat());
     }
     tally.expect_replies(&[0, 11], 40);
-    tally.end(390);
+    tally.end(1_170);
 }

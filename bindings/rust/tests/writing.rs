@@ -255,7 +255,7 @@ fn random_plain_calls() {
         }
     }
     tally.expect_replies(&[0, 7, 9], 1_000);
-    tally.end(15_000);
+    tally.end(21_000);
 }
 
 #[test]
@@ -281,7 +281,7 @@ fn random_encrypted_calls() {
         let odd = *rng.pick(&[0, 1, 15, 16, 17, 32]);
         tally.write_encrypted(Encrypted { tag: &[7; 32][..odd], ..call }, 1_000);
     }
-    tally.end(20_000);
+    tally.end(32_000);
 }
 
 #[test]
@@ -392,5 +392,5 @@ fn rewriting_around_the_limit() {
     }
     assert_eq!(grown, 3, "for each curve, one image without its zero grows above the limit");
     tally.expect_replies(&[0, 9, 11], 3);
-    tally.end(648);
+    tally.end(1_080);
 }

@@ -1,5 +1,5 @@
--- Document 01, 'Bytes of the container', steps 6 and 7: the section that goes on from a header, and the full read, which is the
--- header read followed by the section's, with their replies.
+-- Document 01, 'Bytes of the container', steps 6 and 7: the section that goes on from a header. Document 02, request One: the full read
+-- is the header read followed by the section's, and a section read of its own is handed a half.
 use Prim.Native.Nat.{ℕ, _+_}
 use mathlib.Core.Path.{_≡_}
 use mathlib.Core.List.{List}
@@ -7,16 +7,15 @@ use mathlib.Core.Bool.{cond}
 use lib.ListN.{length}
 use Rattle.fields.specs.Fields.{fault, absent}
 use Rattle.fields.specs.Refusals.{numberOf, countOf}
-use Rattle.fields.specs.declared.Refusal.the-variants.{Crypto}
+use Rattle.fields.specs.declared.Refusal.the-variants.{Length, Crypto}
 use Rattle.fields.specs.declared.Fault.{Fault}
 use Rattle.fields.specs.Bytes.{string}
 use Rattle.format.specs.Format.{magic}
 use Rattle.header.specs.declared.Header.{Header}
-use Rattle.names.specs.declared.Algorithm.the-variants.{Ed25519}
 use Rattle.names.specs.declared.Cipher.the-variants as cipher
-use Rattle.names.specs.declared.Kdf.the-variants as kdf
 use Rattle.names.specs.Ciphers.{isNone, cipherName}
-use Rattle.header.specs.Header.{onKdf, onHeaderRead, headerAt}
+use Rattle.header.specs.Header.{onKdf, onHeaderRead, headerAt, noHeader}
+use Rattle.halves.specs.Halves.{isHeader}
 use Rattle.section.specs.declared.Kind.the-variants.{Plain}
 use Rattle.section.specs.declared.SectionRead.{SectionRead}
 use Rattle.section.specs.declared.SectionRead.the-variants as section-read
@@ -42,11 +41,17 @@ sectionAt s h =
     (section-read.Refused (fault Crypto kdfNamePlace)))
     (encryptedAt s (record { at = h .section; end = length s }) (h .cipher))
 
+-- the record of a header and the section after it
+abbrev pub goOnAt : List ℕ → Header → ImageRead
+goOnAt s h = onSectionRead (sectionAt s h) read.Refused (λ x. read.Record (record { header = h; section = x }))
+
+-- the full read: the one followed by the other
 unfoldable pub readAt : List ℕ → ImageRead
-readAt s =
-    onHeaderRead (headerAt s) read.Refused (λ h.
-    onSectionRead (sectionAt s h) read.Refused (λ x.
-    read.Record (record { header = h; section = x })))
+readAt s = onHeaderRead (headerAt s) read.Refused (λ h. goOnAt s h)
+
+-- the section read: a half that isn't what an accepted header read of the image gives is 1, at 0, before all else
+unfoldable pub sectionReadAt : List ℕ → Header → ImageRead
+sectionReadAt s half = cond (isHeader s half) (goOnAt s half) (read.Refused (fault Length 0))
 
 -- ---- the paper's reply to a read
 
@@ -54,17 +59,7 @@ readAt s =
 abbrev pub noFields : Fields
 noFields =
     record {
-      header =
-          record {
-            cipher = cipher.None;
-            kdf = kdf.None;
-            salt = absent;
-            rounds = 0;
-            algorithm = Ed25519;
-            blob = absent;
-            point = absent;
-            section = 0;
-          };
+      header = noHeader;
       section =
           record {
             kind = Plain;
@@ -92,5 +87,11 @@ toldRead r =
     (λ x. record { number = 0; count = 0; at = 0; fields = x })
 
 -- the promise of a read: it answers this, which is this in the paper's numbers
+abbrev answersThis : ImageRead → ImageRead → Type 0
+answersThis w r = (r ≡ w) × (toldRead r ≡ toldRead w)
+
 abbrev pub answersRead : List ℕ → ImageRead → Type 0
-answersRead s r = (r ≡ readAt s) × (toldRead r ≡ toldRead (readAt s))
+answersRead s r = answersThis (readAt s) r
+
+abbrev pub answersSection : List ℕ → Header → ImageRead → Type 0
+answersSection s half r = answersThis (sectionReadAt s half) r

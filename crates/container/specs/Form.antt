@@ -9,13 +9,15 @@ use Rattle.fields.specs.declared.Fault.{Fault}
 use Rattle.format.specs.Format.{leadingZero, writtenImage, encryptedImage}
 use Rattle.keys.specs.Keys.{onAlgorithm}
 use Rattle.pairs.specs.Pairs.{afterZero}
+use Rattle.header.specs.declared.Header.{Header}
 use Rattle.section.specs.declared.Kind.{Kind}
 use Rattle.section.specs.declared.Kind.the-variants.{Plain, Encrypted}
 use Rattle.container.specs.declared.Fields.{Fields}
 use Rattle.container.specs.declared.FormRead.{FormRead}
 use Rattle.container.specs.declared.FormRead.the-variants as form-read
+use Rattle.container.specs.declared.ImageRead.{ImageRead}
 use Rattle.container.specs.declared.ImageRead.the-variants as read
-use Rattle.container.specs.Container.{onRead, readAt, ToldRead, toldRead}
+use Rattle.container.specs.Container.{onRead, readAt, sectionReadAt, ToldRead, toldRead}
 
 abbrev pub onKind : {R : Type 0} → Kind → R → R → R
 onKind Plain plain encrypted = plain
@@ -34,8 +36,15 @@ rewritten s f =
 unfoldable pub formOf : List ℕ → Fields → Bool
 formOf s f = sameBytes (rewritten s f) s
 
+-- what a read of the image answered, with the form
+abbrev pub withForm : List ℕ → ImageRead → FormRead
+withForm s r = onRead r form-read.Refused (λ f. form-read.Record f (formOf s f))
+
 unfoldable pub formReadAt : List ℕ → FormRead
-formReadAt s = onRead (readAt s) form-read.Refused (λ f. form-read.Record f (formOf s f))
+formReadAt s = withForm s (readAt s)
+
+unfoldable pub sectionFormAt : List ℕ → Header → FormRead
+sectionFormAt s half = withForm s (sectionReadAt s half)
 
 -- the paper's reply, and whether the image is in the form
 abbrev pub onForm : {R : Type 0} → FormRead → (Fault → R) → (Fields → Bool → R) → R
@@ -46,8 +55,14 @@ unfoldable pub toldForm : FormRead → ToldRead × Bool
 toldForm r = onForm r (λ f. (toldRead (read.Refused f), false)) (λ x form. (toldRead (read.Record x), form))
 
 -- the promise of a read with the form
+abbrev answersThis : FormRead → FormRead → Type 0
+answersThis w r = (r ≡ w) × (toldForm r ≡ toldForm w)
+
 abbrev pub answersForm : List ℕ → FormRead → Type 0
-answersForm s r = (r ≡ formReadAt s) × (toldForm r ≡ toldForm (formReadAt s))
+answersForm s r = answersThis (formReadAt s) r
+
+abbrev pub answersSectionForm : List ℕ → Header → FormRead → Type 0
+answersSectionForm s half r = answersThis (sectionFormAt s half) r
 
 -- ---- the form by the scalar alone, which is what the code looks at; `form-scalar` says that it is the same
 

@@ -1,4 +1,5 @@
 pub mod Container
+pub mod Halves
 pub mod Form
 pub mod Back
 pub mod Read

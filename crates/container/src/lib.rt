@@ -1,8 +1,8 @@
-// An image read whole: the header, then the section that goes on from it. The record's fields are plain
-// data, places in the image among them.
+// An image read whole, and its section read from a header half that is handed in. Both go through one
+// section step. The record's fields are plain data, places in the image among them.
 ghost use mathlib.Core.Path.{_≡_};
-ghost use Rattle.container.specs.Container.{sectionAt, answersRead};
-ghost use Rattle.container.specs.Form.{scalarInForm, answersForm};
+ghost use Rattle.container.specs.Container.{sectionAt, goOnAt, answersRead, answersSection};
+ghost use Rattle.container.specs.Form.{scalarInForm, answersForm, answersSectionForm};
 ghost use Rattle.pairs.specs.Pairs.{afterZero};
 use fields::Cursor;
 use fields::Fault;
@@ -29,7 +29,7 @@ pub enum ImageRead {
 
 // The section that goes on from a header. A plain one needs the KDF `none`, whose name begins at 23 after
 // the cipher's.
-fn read_section(image: &[u8], header: Header) -> SectionRead
+fn section_step(image: &[u8], header: Header) -> SectionRead
     ensures { λ r. ⌜ r ≡ sectionAt (now (image .entry)) header ⌝ }
 {
     let at = header.section;
@@ -53,20 +53,40 @@ fn read_section(image: &[u8], header: Header) -> SectionRead
     section::read_encrypted(c, image, cipher)
 }
 
-// The full read: the one followed by the other.
+// The record of a header and the section after it.
+fn go_on(image: &[u8], header: Header) -> ImageRead
+    ensures { λ r. ⌜ r ≡ goOnAt (now (image .entry)) header ⌝ }
+{
+    match section_step(image, header) {
+        SectionRead::Refused(f) => ImageRead::Refused(f),
+        SectionRead::Section(x) => ImageRead::Record(Fields {
+            header: header,
+            section: x,
+        }),
+    }
+}
+
+// The full read: the header read, then the section.
 pub fn read(image: &[u8]) -> ImageRead
     ensures { λ r. ⌜ answersRead (now (image .entry)) r ⌝ }
 {
     match header::read_header(image) {
         HeaderRead::Refused(f) => ImageRead::Refused(f),
-        HeaderRead::Header(h) => match read_section(image, h) {
-            SectionRead::Refused(f) => ImageRead::Refused(f),
-            SectionRead::Section(x) => ImageRead::Record(Fields {
-                header: h,
-                section: x,
-            }),
-        },
+        HeaderRead::Header(h) => go_on(image, h),
     }
+}
+
+// The section read. The half is judged first, by a header read of the image.
+pub fn read_section(image: &[u8], half: Header) -> ImageRead
+    ensures { λ r. ⌜ answersSection (now (image .entry)) half r ⌝ }
+{
+    if halves::is_header(image, half) {
+        return go_on(image, half);
+    }
+    ImageRead::Refused(Fault {
+        why: Refusal::Length,
+        at: 0,
+    })
 }
 
 fn after_zero(image: &[u8], part: Part) -> bool
@@ -115,6 +135,16 @@ pub fn read_with_form(image: &[u8]) -> FormRead
     ensures { λ r. ⌜ answersForm (now (image .entry)) r ⌝ }
 {
     match read(image) {
+        ImageRead::Refused(f) => FormRead::Refused(f),
+        ImageRead::Record(fields) => FormRead::Record(fields, scalar_in_form(image, fields)),
+    }
+}
+
+// The section read, and whether the image is in the writer's form.
+pub fn read_section_with_form(image: &[u8], half: Header) -> FormRead
+    ensures { λ r. ⌜ answersSectionForm (now (image .entry)) half r ⌝ }
+{
+    match read_section(image, half) {
         ImageRead::Refused(f) => FormRead::Refused(f),
         ImageRead::Record(fields) => FormRead::Record(fields, scalar_in_form(image, fields)),
     }

@@ -7,18 +7,32 @@ use lib.Dec.{eqb}
 use lib.ListN.{length}
 use Rattle.fields.specs.Fields.{part, absent}
 use Rattle.fields.specs.declared.Part.{Part}
-use Rattle.container.specs.Container.{readAt, toldRead}
+use Rattle.header.specs.declared.Header.{Header}
+use Rattle.header.specs.Header.{headerAt, toldHeader}
+use Rattle.container.specs.declared.ImageRead.{ImageRead}
+use Rattle.container.specs.Container.{readAt, sectionReadAt, toldRead}
 use Rattle.found.specs.declared.Found.{Found}
+use Rattle.found.specs.declared.FoundHeader.{FoundHeader}
+
+abbrev pub foundOf : ImageRead → Found
+foundOf r = record { number = toldRead r .number; count = toldRead r .count; at = toldRead r .at; fields = toldRead r .fields }
 
 unfoldable pub foundAt : List ℕ → Found
-foundAt s =
+foundAt s = foundOf (readAt s)
+
+-- by a section read, and by a header read
+unfoldable pub sectionFoundAt : List ℕ → Header → Found
+sectionFoundAt s half = foundOf (sectionReadAt s half)
+
+unfoldable pub headerFoundAt : List ℕ → FoundHeader
+headerFoundAt s =
     record {
-      number = toldRead (readAt s) .number;
-      count = toldRead (readAt s) .count;
-      at = toldRead (readAt s) .at;
-      fields = toldRead (readAt s) .fields;
+      number = toldHeader (headerAt s) .number;
+      count = toldHeader (headerAt s) .count;
+      at = toldHeader (headerAt s) .at;
+      half = toldHeader (headerAt s) .header;
     }
 
--- the bytes that the record holds: the image itself, or none
+-- the bytes that the record or the half holds: the image itself, or none
 unfoldable pub heldPart : List ℕ → ℕ → Part
 heldPart s number = cond (eqb number 0) (part 0 (length s)) absent

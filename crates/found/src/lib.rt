@@ -1,13 +1,15 @@
-// What reading an image finds, in the paper's numbers, with no reference in it, and the bytes that a record
-// of it holds.
+// What reading an image, its header or its section finds, in the paper's numbers, with no reference in it,
+// and the bytes that a record or a half of it holds.
 ghost use mathlib.Core.Path.{_≡_};
 ghost use Rattle.fields.specs.Fields.{absent, isView};
+ghost use Rattle.header.specs.Header.{noHeader};
 ghost use Rattle.container.specs.Container.{noFields};
-ghost use Rattle.found.specs.Found.{foundAt, heldPart};
+ghost use Rattle.found.specs.Found.{foundOf, foundAt, sectionFoundAt, headerFoundAt, heldPart};
 use container::Fields;
 use container::ImageRead;
 use fields::Part;
 use header::Header;
+use header::HeaderRead;
 use names::Algorithm;
 use names::Cipher;
 use names::Kdf;
@@ -22,6 +24,14 @@ pub struct Found {
     pub fields: Fields,
 }
 
+// The same of a header read, and the half.
+pub struct FoundHeader {
+    pub number: u8,
+    pub count: usize,
+    pub at: usize,
+    pub half: Header,
+}
+
 fn nowhere() -> Part
     ensures { λ r. ⌜ r ≡ absent ⌝ }
 {
@@ -31,11 +41,11 @@ fn nowhere() -> Part
     }
 }
 
-// The record of a refused image has no field.
-fn no_fields() -> Fields
-    ensures { λ r. ⌜ r ≡ noFields ⌝ }
+// The half of a refused image has no field.
+fn no_header() -> Header
+    ensures { λ r. ⌜ r ≡ noHeader ⌝ }
 {
-    let header = Header {
+    Header {
         cipher: Cipher::None,
         kdf: Kdf::None,
         salt: nowhere(),
@@ -44,7 +54,13 @@ fn no_fields() -> Fields
         blob: nowhere(),
         point: nowhere(),
         section: 0,
-    };
+    }
+}
+
+// Nor has its record.
+fn no_fields() -> Fields
+    ensures { λ r. ⌜ r ≡ noFields ⌝ }
+{
     let section = Section {
         kind: Kind::Plain,
         checkint: 0,
@@ -55,15 +71,15 @@ fn no_fields() -> Fields
         tag: nowhere(),
     };
     Fields {
-        header: header,
+        header: no_header(),
         section: section,
     }
 }
 
-pub fn find(image: &[u8]) -> Found
-    ensures { λ r. ⌜ r ≡ foundAt (now (image .entry)) ⌝ }
+fn found_of(read: ImageRead) -> Found
+    ensures { λ r. ⌜ r ≡ foundOf read ⌝ }
 {
-    match container::read(image) {
+    match read {
         ImageRead::Record(f) => Found {
             number: 0,
             count: 0,
@@ -83,11 +99,45 @@ pub fn find(image: &[u8]) -> Found
     }
 }
 
-// The image itself where it was accepted, else no bytes of it.
-pub fn held(image: &[u8], found: Found) -> &[u8]
-    ensures { λ r. ⌜ isView r (image .entry) (heldPart (now (image .entry)) (found .number)) ⌝ }
+pub fn find(image: &[u8]) -> Found
+    ensures { λ r. ⌜ r ≡ foundAt (now (image .entry)) ⌝ }
 {
-    let number = found.number;
+    found_of(container::read(image))
+}
+
+pub fn find_section(image: &[u8], half: Header) -> Found
+    ensures { λ r. ⌜ r ≡ sectionFoundAt (now (image .entry)) half ⌝ }
+{
+    found_of(container::read_section(image, half))
+}
+
+pub fn find_header(image: &[u8]) -> FoundHeader
+    ensures { λ r. ⌜ r ≡ headerFoundAt (now (image .entry)) ⌝ }
+{
+    match header::read_header(image) {
+        HeaderRead::Header(h) => FoundHeader {
+            number: 0,
+            count: 0,
+            at: 0,
+            half: h,
+        },
+        HeaderRead::Refused(f) => {
+            let why = f.why;
+            let at = f.at;
+            FoundHeader {
+                number: why.number(),
+                count: why.count(),
+                at: at,
+                half: no_header(),
+            }
+        }
+    }
+}
+
+// The image itself where it was accepted, else no bytes of it.
+fn held_by(image: &[u8], number: u8) -> &[u8]
+    ensures { λ r. ⌜ isView r (image .entry) (heldPart (now (image .entry)) number) ⌝ }
+{
     if number == 0 {
         let whole = Part {
             start: 0,
@@ -96,4 +146,16 @@ pub fn held(image: &[u8], found: Found) -> &[u8]
         return fields::view(image, whole);
     }
     fields::view(image, nowhere())
+}
+
+pub fn held(image: &[u8], found: Found) -> &[u8]
+    ensures { λ r. ⌜ isView r (image .entry) (heldPart (now (image .entry)) (found .number)) ⌝ }
+{
+    held_by(image, found.number)
+}
+
+pub fn held_half(image: &[u8], found: FoundHeader) -> &[u8]
+    ensures { λ r. ⌜ isView r (image .entry) (heldPart (now (image .entry)) (found .number)) ⌝ }
+{
+    held_by(image, found.number)
 }

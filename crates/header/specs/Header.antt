@@ -1,11 +1,14 @@
--- Document 01, 'Bytes of the container', the order of reading up to and with step 5: what reading the header finds.
+-- Document 01, 'Bytes of the container', the order of reading up to and with step 5: what reading the header finds. Document 02, request
+-- One: a header read ends after the public blob, and of the section it says where it begins and no more.
 use Prim.Native.Nat.{ℕ}
+use mathlib.Core.Path.{_≡_}
 use mathlib.Core.List.{List}
 use mathlib.Core.Bool.{cond}
 use lib.ListN.{length}
 use lib.Dec.{eqb, ltb}
 use Rattle.fields.specs.Bytes.{sameBytes}
 use Rattle.fields.specs.Fields.{fault, absent, whole, within, onField, onUint32, onEnding, uint32At, bytesAt, stringAt, endAt, viewOf}
+use Rattle.fields.specs.Refusals.{numberOf, countOf}
 use Rattle.fields.specs.declared.Cursor.{Cursor}
 use Rattle.fields.specs.declared.Fault.{Fault}
 use Rattle.fields.specs.declared.Part.{Part}
@@ -15,7 +18,9 @@ use Rattle.fields.specs.declared.Uint32.{Uint32}
 use Rattle.fields.specs.declared.Uint32.the-variants as uint32
 use Rattle.fields.specs.declared.Refusal.the-variants.{Length, FormatEncoding, Crypto, AlgorithmUnknown, Size}
 use Rattle.names.specs.declared.Algorithm.{Algorithm}
+use Rattle.names.specs.declared.Algorithm.the-variants.{Ed25519}
 use Rattle.names.specs.declared.Cipher.{Cipher}
+use Rattle.names.specs.declared.Cipher.the-variants as cipher
 use Rattle.names.specs.declared.CipherName.{CipherName}
 use Rattle.names.specs.declared.CipherName.the-variants as cipher-name
 use Rattle.names.specs.declared.Kdf.{Kdf}
@@ -131,3 +136,37 @@ headerAt s =
       point = point;
       section = g .at;
     })))))
+
+-- ---- the paper's reply to a header read
+
+-- the half of a refused image: no place, no number; names are the first of theirs
+abbrev pub noHeader : Header
+noHeader =
+    record {
+      cipher = cipher.None;
+      kdf = kdf.None;
+      salt = absent;
+      rounds = 0;
+      algorithm = Ed25519;
+      blob = absent;
+      point = absent;
+      section = 0;
+    }
+
+-- number, count, the place at which the failing field began, and the half
+pub record ToldHeader : Type 0 where
+  pub number : ℕ
+  pub count : ℕ
+  pub at : ℕ
+  pub header : Header
+
+-- of each case of a header read's answer
+unfoldable pub toldHeader : HeaderRead → ToldHeader
+toldHeader r =
+    onHeaderRead r
+    (λ f. record { number = numberOf (f .why); count = countOf (f .why); at = f .at; header = noHeader })
+    (λ h. record { number = 0; count = 0; at = 0; header = h })
+
+-- the promise of a header read: it answers this, which is this in the paper's numbers
+abbrev pub answersHeader : List ℕ → HeaderRead → Type 0
+answersHeader s r = (r ≡ headerAt s) × (toldHeader r ≡ toldHeader (headerAt s))

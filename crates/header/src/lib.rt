@@ -1,6 +1,6 @@
 // The container's header: magic, cipher, KDF with its options, key count, public blob.
 ghost use mathlib.Core.Path.{_≡_};
-ghost use Rattle.header.specs.Header.{magicAt, cipherAt, noneAt, bcryptAt, kdfAt, countAt, blobFieldAt, headerAt};
+ghost use Rattle.header.specs.Header.{magicAt, cipherAt, noneAt, bcryptAt, kdfAt, countAt, blobFieldAt, answersHeader};
 use fields::Cursor;
 use fields::Ending;
 use fields::Fault;
@@ -207,9 +207,10 @@ fn read_blob_field(c: Cursor, image: &[u8]) -> BlobField
     }
 }
 
-// The header, up to and with the public blob.
+// The header read: up to and with the public blob. Whether there is a section, and what it holds, isn't
+// looked at.
 pub fn read_header(image: &[u8]) -> HeaderRead
-    ensures { λ r. ⌜ r ≡ headerAt (now (image .entry)) ⌝ }
+    ensures { λ r. ⌜ answersHeader (now (image .entry)) r ⌝ }
 {
     match read_cipher(image) {
         CipherField::Refused(f) => HeaderRead::Refused(f),

@@ -3,8 +3,6 @@
 use Rattle.fields.specs.Determined.{Determined}
 use Rattle.judge.proofs.kind_code.Reads as kind-code
 use Rattle.judge.proofs.kind_code.Kinds as kind-code-kinds
-use Rattle.judge.proofs.same_header.Reads as same-header
-use Rattle.judge.proofs.same_header.Kinds as same-header-kinds
 use Rattle.judge.proofs.same_section.Reads as same-section
 use Rattle.judge.proofs.same_section.Kinds as same-section-kinds
 use Rattle.judge.proofs.is_read.Reads as is-read
@@ -12,9 +10,6 @@ use Rattle.judge.proofs.is_read.Kinds as is-read-kinds
 
 pub kind-code-determined : Determined 0 kind-code-kinds.ps kind-code-kinds.r kind-code.Post
 kind-code-determined κs a r₁ r₂ s₁ s₂ p q = cc
-
-pub same-header-determined : Determined 0 same-header-kinds.ps same-header-kinds.r same-header.Post
-same-header-determined κs a r₁ r₂ s₁ s₂ p q = cc
 
 pub same-section-determined : Determined 0 same-section-kinds.ps same-section-kinds.r same-section.Post
 same-section-determined κs a r₁ r₂ s₁ s₂ p q = cc

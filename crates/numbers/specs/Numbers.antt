@@ -1,5 +1,6 @@
 -- What a read found and what a writer answered, in plain numbers. An accepted image is 0 0 0, its kind (1 plain, 2 encrypted), the codes,
--- the numbers and the places of its fields; of a refused one all after the place is 0. A writer replies the refusal, or 0 0 0 and the length.
+-- the numbers and the places of its fields; of a refused one all after the place is 0. An accepted header is of kind 3, and all that a
+-- header doesn't have is 0, the form too. A writer replies the refusal, or 0 0 0 and the length.
 use Prim.Native.Nat.{ℕ}
 use mathlib.Core.Bool.{Bool, true, false}
 use Rattle.fields.specs.Fields.{absent}
@@ -8,6 +9,9 @@ use Rattle.fields.specs.declared.Fault.{Fault}
 use Rattle.fields.specs.declared.Part.{Part}
 use Rattle.names.specs.Algorithms.{algorithmCode}
 use Rattle.codes.specs.Codes.{cipherCode, kdfCode}
+use Rattle.header.specs.declared.Header.{Header}
+use Rattle.header.specs.declared.HeaderRead.{HeaderRead}
+use Rattle.header.specs.Header.{onHeaderRead}
 use Rattle.judge.specs.Judge.{kindCode}
 use Rattle.container.specs.declared.Fields.{Fields}
 use Rattle.container.specs.declared.FormRead.{FormRead}
@@ -48,6 +52,7 @@ refusedImage f =
       salt = placeOf absent;
       ciphertext = placeOf absent;
       tag = placeOf absent;
+      section = 0;
     }
 
 abbrev pub acceptedImage : Fields → Bool → Image
@@ -71,10 +76,40 @@ acceptedImage f form =
       salt = placeOf (f .header .salt);
       ciphertext = placeOf (f .section .ciphertext);
       tag = placeOf (f .section .tag);
+      section = f .header .section;
     }
 
 unfoldable pub imageOf : FormRead → Image
 imageOf read = onForm read refusedImage acceptedImage
+
+-- ---- a header
+
+abbrev pub halfImage : Header → Image
+halfImage h =
+    record {
+      number = 0;
+      count = 0;
+      at = 0;
+      kind = 3;
+      algorithm = algorithmCode (h .algorithm);
+      cipher = cipherCode (h .cipher);
+      kdf = kdfCode (h .kdf);
+      rounds = h .rounds;
+      checkint = 0;
+      padding = 0;
+      form = 0;
+      blob = placeOf (h .blob);
+      point = placeOf (h .point);
+      scalar = placeOf absent;
+      comment = placeOf absent;
+      salt = placeOf (h .salt);
+      ciphertext = placeOf absent;
+      tag = placeOf absent;
+      section = h .section;
+    }
+
+unfoldable pub headerOf : HeaderRead → Image
+headerOf read = onHeaderRead read refusedImage halfImage
 
 -- ---- a writer's reply
 

@@ -1,13 +1,16 @@
-// What a read found and what a writer answered, in plain numbers: the structs of the functions for C.
+// What a read found, or the header read alone, and what a writer answered, in plain numbers: the structs of
+// the functions for C.
 ghost use mathlib.Core.Path.{_≡_};
 ghost use Rattle.fields.specs.Fields.{absent};
-ghost use Rattle.numbers.specs.Numbers.{placeOf, formCode, refusedImage, acceptedImage, imageOf, replyOf};
+ghost use Rattle.numbers.specs.Numbers.{placeOf, formCode, refusedImage, acceptedImage, imageOf, halfImage, headerOf, replyOf};
 use codes::cipher_code;
 use codes::kdf_code;
 use container::Fields;
 use container::FormRead;
 use fields::Fault;
 use fields::Part;
+use header::Header;
+use header::HeaderRead;
 use judge::kind_code;
 use reply::Written;
 
@@ -38,6 +41,7 @@ pub struct Image {
     pub salt: Place,
     pub ciphertext: Place,
     pub tag: Place,
+    pub section: u64,
 }
 
 #[repr(C)]
@@ -98,6 +102,7 @@ fn refused_image(f: Fault) -> Image
         salt: nowhere(),
         ciphertext: nowhere(),
         tag: nowhere(),
+        section: 0,
     }
 }
 
@@ -129,6 +134,7 @@ fn accepted_image(f: Fields, form: bool) -> Image
         salt: place_of(header.salt),
         ciphertext: place_of(section.ciphertext),
         tag: place_of(section.tag),
+        section: header.section as u64,
     }
 }
 
@@ -139,6 +145,46 @@ pub fn image_of(read: FormRead) -> Image
     match read {
         FormRead::Refused(f) => refused_image(f),
         FormRead::Record(fields, form) => accepted_image(fields, form),
+    }
+}
+
+// An accepted header: kind 3, and 0 for all that a section has.
+pub fn half_image(h: Header) -> Image
+    ensures { λ r. ⌜ r ≡ halfImage h ⌝ }
+{
+    let algorithm = h.algorithm;
+    let cipher = h.cipher;
+    let kdf = h.kdf;
+    Image {
+        number: 0,
+        count: 0,
+        at: 0,
+        kind: 3,
+        algorithm: algorithm.code() as u64,
+        cipher: cipher_code(cipher) as u64,
+        kdf: kdf_code(kdf) as u64,
+        rounds: h.rounds as u64,
+        checkint: 0,
+        padding: 0,
+        form: 0,
+        blob: place_of(h.blob),
+        point: place_of(h.point),
+        scalar: nowhere(),
+        comment: nowhere(),
+        salt: place_of(h.salt),
+        ciphertext: nowhere(),
+        tag: nowhere(),
+        section: h.section as u64,
+    }
+}
+
+// What a header read answered, in numbers.
+pub fn header_of(read: HeaderRead) -> Image
+    ensures { λ r. ⌜ r ≡ headerOf read ⌝ }
+{
+    match read {
+        HeaderRead::Refused(f) => refused_image(f),
+        HeaderRead::Header(h) => half_image(h),
     }
 }
 

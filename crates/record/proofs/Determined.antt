@@ -1,22 +1,31 @@
--- Any two replies to one image are equal, in their fields and in the bytes and the place of what they hold. `read` is walked by hand, and
--- the checker makes no plain form of its contract; so this is said of the definition that the contract cites.
+-- Any two replies to one image are equal, in their fields and in the bytes and the place of what they hold. The reads are walked by hand, and
+-- the checker makes no plain form of their contracts; so this is said of the definitions that the contracts cite.
 use Prim.Native.Nat.{ℕ}
-use mathlib.Core.Path.{_≡_, sym, _∙_}
 use mathlib.Core.List.{List}
 use denote.Ref.{RefT, now}
+use Rattle.header.specs.declared.Header.{Header}
 use Rattle.container.specs.declared.Fields.{Fields}
-use Rattle.record.specs.Reply.{isReply}
+use Rattle.found.specs.declared.Found.{Found}
+use Rattle.found.specs.Found.{foundAt, sectionFoundAt, headerFoundAt}
+use Rattle.record.specs.Reply.{isFound, isReply, isSectionReply, isHeaderReply, Alike, held-alike}
 
--- two replies to one image
+found-determined :
+    (found : Found) (image : RefT (List ℕ)) (n m c d a b : ℕ) (v w : RefT (List ℕ)) (f g : Fields) → isFound found n c a v f image
+    → isFound found m d b w g image → Alike n m c d a b f g v w
+found-determined found image = held-alike (found .number) (found .count) (found .at) (found .fields) image
+
 pub read-determined :
-    (image : RefT (List ℕ)) (n m : ℕ) (c d : ℕ) (a b : ℕ) (v w : RefT (List ℕ)) (f g : Fields) → isReply n c a v f image → isReply m d b w g image
-    → (n ≡ m) × (c ≡ d) × (a ≡ b) × (f ≡ g) × (now v ≡ now w) × (v .ptr .0 ≡ w .ptr .0) × (v .ptr .1 ≡ w .ptr .1)
-read-determined image n m c d a b v w f g p q = (
-  p .0 ∙ sym (q .0),
-  p .1 ∙ sym (q .1),
-  p .2 ∙ sym (q .2),
-  p .3 ∙ sym (q .3),
-  p .4 .0 ∙ sym (q .4 .0),
-  p .4 .1 ∙ sym (q .4 .1),
-  p .4 .2 ∙ sym (q .4 .2),
-)
+    (image : RefT (List ℕ)) (n m c d a b : ℕ) (v w : RefT (List ℕ)) (f g : Fields) → isReply n c a v f image → isReply m d b w g image
+    → Alike n m c d a b f g v w
+read-determined image = found-determined (foundAt (now image)) image
+
+pub read-section-determined :
+    (image : RefT (List ℕ)) (half : Header) (n m c d a b : ℕ) (v w : RefT (List ℕ)) (f g : Fields) → isSectionReply n c a v f image half
+    → isSectionReply m d b w g image half → Alike n m c d a b f g v w
+read-section-determined image half = found-determined (sectionFoundAt (now image) half) image
+
+pub read-header-determined :
+    (image : RefT (List ℕ)) (n m c d a b : ℕ) (v w : RefT (List ℕ)) (h k : Header) → isHeaderReply n c a v h image → isHeaderReply m d b w k image
+    → Alike n m c d a b h k v w
+read-header-determined image =
+    held-alike (headerFoundAt (now image) .number) (headerFoundAt (now image) .count) (headerFoundAt (now image) .at) (headerFoundAt (now image) .half) image

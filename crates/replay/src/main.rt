@@ -1,10 +1,12 @@
 // Replays the stored images: reads them from the file `vectors`, each a length of four bytes, big-endian,
-// and that many bytes, and writes for each what the reader, the views and the report say of it.
+// and that many bytes, and writes for each what the reader, the views, the header read and the report say
+// of it.
 use container::Fields;
 use container::ImageRead;
 use fields::Fault;
 use fields::Part;
 use header::Header;
+use header::HeaderRead;
 use reply::Written;
 use telling::say_number;
 use telling::word;
@@ -109,6 +111,29 @@ fn say_read(image: &[u8]) {
     }
 }
 
+// What an accepted header read answers.
+fn say_half(half: Header) {
+    word(b" 0 0 0");
+    say_header_names(half);
+    say_number(half.section);
+    place(half.blob);
+    place(half.point);
+    place(half.salt);
+    word(b"\n");
+}
+
+fn say_header_read(image: &[u8]) {
+    word(b"header");
+    match header::read_header(image) {
+        HeaderRead::Refused(f) => {
+            let why = f.why;
+            telling::say_reply(why.number(), why.count(), f.at, 0);
+            word(b" 0 0 0 0 0 0 0 0 0 0\n");
+        }
+        HeaderRead::Header(h) => say_half(h),
+    }
+}
+
 fn say_report(image: &[u8]) {
     let mut text = [0u8; 256];
     match report::write_report(image, &mut text) {
@@ -147,6 +172,7 @@ fn one(fd: i32) -> bool {
     };
     let image = fields::view(&buf, whole);
     say_read(image);
+    say_header_read(image);
     say_report(image);
     true
 }

@@ -1,11 +1,13 @@
 // Replays records that are handed in by hand: reads them from the file `records`, has each written again
-// with its image, and writes the reply, the whole lent buffer afterwards, and what the views of it are.
+// with its image, and writes the reply, the whole lent buffer afterwards, what the views of it are, and what
+// the section read makes of its header half.
 //
 // Every number in the file is big-endian. A vector is the image's length and the lent buffer's, four bytes
 // each, the record's 22 numbers, eight bytes each, and the image. The numbers are kind (1 plain, 2
 // encrypted), algorithm, cipher, KDF, rounds, checkint, padding and section, and then start and length of
 // blob, point, scalar, comment, salt, ciphertext and tag.
 use container::Fields;
+use container::ImageRead;
 use fields::Part;
 use header::Header;
 use reply::Written;
@@ -109,6 +111,45 @@ fn say_later_views(image: &[u8], f: Fields) {
     say_view(parts::tag(image, f));
 }
 
+// ---- what the section read says of its header half
+
+fn code_of(kind: Kind) -> usize {
+    match kind {
+        Kind::Plain => 1,
+        Kind::Encrypted => 2,
+    }
+}
+
+fn say_place(part: Part) {
+    say_number(part.start);
+    say_number(part.length);
+}
+
+fn say_section(section: Section) {
+    let kind = section.kind;
+    word(b" 0 0 0");
+    say_number(code_of(kind));
+    say_number(section.checkint as usize);
+    say_number(section.padding);
+    say_place(section.scalar);
+    say_place(section.comment);
+    say_place(section.ciphertext);
+    say_place(section.tag);
+    word(b"\n");
+}
+
+fn say_section_read(image: &[u8], half: Header) {
+    word(b"section");
+    match container::read_section(image, half) {
+        ImageRead::Refused(f) => {
+            let why = f.why;
+            telling::say_reply(why.number(), why.count(), f.at, 0);
+            word(b" 0 0 0 0 0 0 0 0 0 0\n");
+        }
+        ImageRead::Record(g) => say_section(g.section),
+    }
+}
+
 // ---- the call
 
 // The i-th byte of a buffer before it is lent: never 0, and no run of one byte.
@@ -131,6 +172,7 @@ fn handed_in(image: &[u8], f: Fields, lent: &mut [u8]) {
     say_written(writer::rewrite_record(image, f, lent));
     telling::say_buffer(lent);
     say_views(image, f);
+    say_section_read(image, f.header);
 }
 
 // ---- the vectors

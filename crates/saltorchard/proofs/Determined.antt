@@ -5,6 +5,10 @@ use Rattle.fields.specs.Determined.{Determined}
 use Rattle.buffer.specs.Determined.{DeterminedBuffer}
 use Rattle.saltorchard.proofs.saltorchard_read.Reads as saltorchard-read
 use Rattle.saltorchard.proofs.saltorchard_read.Kinds as saltorchard-read-kinds
+use Rattle.saltorchard.proofs.saltorchard_read_header.Reads as saltorchard-read-header
+use Rattle.saltorchard.proofs.saltorchard_read_header.Kinds as saltorchard-read-header-kinds
+use Rattle.saltorchard.proofs.saltorchard_read_section.Reads as saltorchard-read-section
+use Rattle.saltorchard.proofs.saltorchard_read_section.Kinds as saltorchard-read-section-kinds
 use Rattle.saltorchard.proofs.saltorchard_write_plain.Reads as saltorchard-write-plain
 use Rattle.saltorchard.proofs.saltorchard_write_plain.Kinds as saltorchard-write-plain-kinds
 use Rattle.saltorchard.proofs.saltorchard_write_encrypted.Reads as saltorchard-write-encrypted
@@ -16,6 +20,12 @@ use Rattle.saltorchard.proofs.saltorchard_change_comment.Kinds as salto
 
 pub saltorchard-read-determined : Determined 1 saltorchard-read-kinds.ps saltorchard-read-kinds.r saltorchard-read.Post
 saltorchard-read-determined κs a r₁ r₂ s₁ s₂ p q = cc
+
+pub saltorchard-read-header-determined : Determined 1 saltorchard-read-header-kinds.ps saltorchard-read-header-kinds.r saltorchard-read-header.Post
+saltorchard-read-header-determined κs a r₁ r₂ s₁ s₂ p q = cc
+
+pub saltorchard-read-section-determined : Determined 1 saltorchard-read-section-kinds.ps saltorchard-read-section-kinds.r saltorchard-read-section.Post
+saltorchard-read-section-determined κs a r₁ r₂ s₁ s₂ p q = cc
 
 pub saltorchard-write-plain-determined : DeterminedBuffer 4 saltorchard-write-plain-kinds.ps saltorchard-write-plain-kinds.r saltorchard-write-plain.Post (λ κs s. now (s .1 .1 .1 .1 .1 .1 .0))
 saltorchard-write-plain-determined κs a r₁ r₂ s₁ s₂ p q = (cc, cc)

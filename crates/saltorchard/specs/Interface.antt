@@ -1,20 +1,25 @@
--- The C interface: what its functions reply and leave, over document 01's definitions. A code that names nothing is 4, before all else.
+-- The C interface: what its functions reply and leave, over document 01's definitions. A code that names nothing is 4, before all else;
+-- in a header half (document 02, request One) it is a forged one's, 1.
 use Prim.Native.Nat.{ℕ}
 use mathlib.Core.Path.{_≡_, _∙_, ap}
 use mathlib.Core.Bool.{cond}
 use mathlib.Core.List.{List}
 use lib.Dec.{eqb}
-use Rattle.fields.specs.declared.Refusal.the-variants.{AlgorithmUnknown}
+use Rattle.fields.specs.Fields.{fault}
+use Rattle.fields.specs.declared.Refusal.the-variants.{Length, AlgorithmUnknown}
 use Rattle.codes.specs.Codes.{algorithmCoded, cipherCoded, kdfCoded}
 use Rattle.keys.specs.Keys.{onAlgorithmName}
 use Rattle.material.specs.Material.{derivedCheckint}
-use Rattle.header.specs.Header.{onCipherName, onKdfName}
+use Rattle.header.specs.Header.{onCipherName, onKdfName, onHeaderRead, headerAt}
+use Rattle.container.specs.Form.{sectionFormAt}
 use Rattle.reply.specs.declared.Written.{Written}
 use Rattle.reply.specs.Reply.{refused, answers}
 use Rattle.plain.specs.Plain.{plainReply, plainLeft}
 use Rattle.encrypted.specs.Encrypted.{encryptedReply, encryptedLeft}
-use Rattle.numbers.specs.Numbers.{replyOf}
+use Rattle.numbers.specs.Numbers.{refusedImage, halfImage, imageOf, replyOf}
+use Rattle.numbers.specs.declared.Image.{Image}
 use Rattle.numbers.specs.declared.Reply.{Reply}
+use Rattle.handed.specs.Handed.{sameImage}
 
 -- the promise of a writer for C: it answers w in numbers, and leaves this in the buffer
 abbrev pub answersC : Written → List ℕ → Reply → List ℕ → Type 0
@@ -46,6 +51,15 @@ codedEncryptedLeft cipher kdf salt rounds blob ciphertext tag old =
     onCipherName (cipherCoded cipher) old (λ c.
     onKdfName (kdfCoded kdf) old (λ k.
     encryptedLeft c k salt rounds blob ciphertext tag old))
+
+-- the section read: a half that isn't, number for number, what an accepted header read of the image gives is 1, at 0, before all else
+abbrev pub forgedHalf : Image
+forgedHalf = refusedImage (fault Length 0)
+
+unfoldable pub sectionC : List ℕ → Image → Image
+sectionC s x =
+    onHeaderRead (headerAt s) (λ f. forgedHalf) (λ h.
+    cond (sameImage x (halfImage h)) (imageOf (sectionFormAt s h)) forgedHalf)
 
 -- ---- laws
 

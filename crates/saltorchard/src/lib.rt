@@ -1,21 +1,28 @@
 // The functions for C, and for all that can call C: bytes and numbers in, numbers out. Each hands on to a
-// proved entry what it is given, and a code that names nothing is refused with 4 before all else.
+// proved entry what it is given. Before all else a writer refuses a code that names nothing with 4, and the
+// section read a half that isn't the image's with 1.
 ghost use mathlib.Core.Path.{_≡_};
 ghost use lib.ListN.{length};
+ghost use Rattle.header.specs.Header.{headerAt};
 ghost use Rattle.container.specs.Form.{formReadAt};
 ghost use Rattle.writer.specs.Rewrite.{rewriteReply, rewriteLeft};
 ghost use Rattle.comment.specs.Change.{changeReply, changeLeft};
-ghost use Rattle.numbers.specs.Numbers.{imageOf, replyOf};
-ghost use Rattle.saltorchard.specs.Interface.{answersC, namesNothing, checkintFor, codedPlainReply, codedPlainLeft, codedEncryptedReply, codedEncryptedLeft};
+ghost use Rattle.numbers.specs.Numbers.{imageOf, headerOf, replyOf};
+ghost use Rattle.saltorchard.specs.Interface.{answersC, namesNothing, forgedHalf, sectionC, checkintFor, codedPlainReply, codedPlainLeft, codedEncryptedReply, codedEncryptedLeft};
 use codes::algorithm_coded;
 use codes::cipher_coded;
 use codes::kdf_coded;
+use container::FormRead;
+use fields::Fault;
 use fields::Refusal;
+use handed::Half;
+use handed::half_of;
 use names::AlgorithmName;
 use names::CipherName;
 use names::KdfName;
 use numbers::Image;
 use numbers::Reply;
+use numbers::header_of;
 use numbers::image_of;
 use numbers::reply_of;
 
@@ -23,6 +30,15 @@ fn names_nothing() -> Reply
     ensures { λ r. ⌜ r ≡ replyOf namesNothing ⌝ }
 {
     reply_of(reply::refused(Refusal::AlgorithmUnknown))
+}
+
+fn forged_half() -> Image
+    ensures { λ r. ⌜ r ≡ forgedHalf ⌝ }
+{
+    image_of(FormRead::Refused(Fault {
+        why: Refusal::Length,
+        at: 0,
+    }))
 }
 
 fn checkint_of(derive: u8, given: u32, private: &[u8]) -> u32
@@ -39,6 +55,25 @@ pub extern "C" fn saltorchard_read(image: &[u8]) -> Image
     ensures { λ r. ⌜ r ≡ imageOf (formReadAt (now (image .entry))) ⌝ }
 {
     image_of(container::read_with_form(image))
+}
+
+// Up to and with the public blob, whatever follows.
+#[no_mangle]
+pub extern "C" fn saltorchard_read_header(image: &[u8]) -> Image
+    ensures { λ r. ⌜ r ≡ headerOf (headerAt (now (image .entry))) ⌝ }
+{
+    header_of(header::read_header(image))
+}
+
+// The section that goes on from a header, with all that a full read answers.
+#[no_mangle]
+pub extern "C" fn saltorchard_read_section(image: &[u8], header: Image) -> Image
+    ensures { λ r. ⌜ r ≡ sectionC (now (image .entry)) header ⌝ }
+{
+    match half_of(header) {
+        Half::Forged => forged_half(),
+        Half::Header(h) => image_of(container::read_section_with_form(image, h)),
+    }
 }
 
 #[no_mangle]

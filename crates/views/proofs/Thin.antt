@@ -152,8 +152,8 @@ module _ {M : Type 1} (𝓤 : URA M) (H : Heap 𝓤) (A : Atoms 𝓤) (W : Given
     walk wt wf =
         qed W (raw (onEntry 𝓤 H A (outerSig ρ) κs (q, tt) (d, tt) (mach ∷ [], tt)) ∷ []) ∵ enter ! C Λ (mirOf τ k) (mach ∷ []) _ $
         alloc1 ! (λ l₀. alloc1 ! (λ l₁. alloc1 ! (λ l₂. alloc1 ! (λ l₃. alloc0 ! $ params1 ! $ pass1 ! (init ! 4 refl wt) $ pass0 ! $
-        assigns ! (of-opd ! (load ! (from ! (fld ! refl (stop !))) (look-in ! 4 (sub ! 0 refl (whole !))))) (from ! (stop !)) (init ! 2 refl (tt, wt .1 .0)) $
-        assigns ! (of-opd ! (load ! (from ! (fld ! refl (stop !))) (look-in ! 4 (sub ! 1 refl (whole !))))) (from ! (stop !)) (init ! 0 refl wf) $
+        assigns ! (of-opd ! (load ! (from ! (fld ! {τ = sliceTy (tyRef (named 0) imm (tyInt w8))} {d = 0} refl (stop !))) (look-in ! 4 {τ = sliceTy (tyRef (named 0) imm (tyInt w8))} (sub ! 0 {τ = sliceTy (tyRef (named 0) imm (tyInt w8))} {d = 0} refl (whole !))))) (from ! (stop !)) (init ! 2 refl (tt, wt .1 .0)) $
+        assigns ! (of-opd ! (load ! (from ! (fld ! {τ = F′.mir} {d = 16} refl (stop !))) (look-in ! 4 {τ = F′.mir} (sub ! 1 {τ = F′.mir} {d = 16} refl (whole !))))) (from ! (stop !)) (init ! 0 refl wf) $
         move ! (8 ∷ []) $ use1 W (raw (Inner 𝓤 H A ρ Says .pre to) ⊛ ‵ Own) apart $ split ! $
         calls-at ! fm (Inner 𝓤 H A ρ Says) known to (and-then ! (load ! (from ! (stop !)) (look ! 4 refl)) (and-then ! (load ! (from ! (stop !)) (look ! 2 refl)) (no-more !))) (λ u.
         use1 W (later (some (λ (s : ρ .row κs .Denot). ((‵ (flft κ q) ⊛ ‵ ftrue) ⊛ ‵ (ρ .row κs .own s (u ∷ []))) ⊛ raw (ensured 𝓤 H A (innerEnded ρ) (innerClauses 𝓤 ρ Says) κs (d .image, (d .fields, tt)) tt s)))) (id⊢ 𝓤 _) $ await ! tt $ pick ! (λ s.

@@ -41,9 +41,15 @@ pub struct Part {
     pub present: bool,
 }
 
+/// The kinds of a record.
+pub const PLAIN: u8 = 1;
+pub const ENCRYPTED: u8 = 2;
+pub const HEADER: u8 = 3;
+
+/// What was read, of an image or of its header alone.
 #[derive(Clone, Debug, Default, PartialEq, Eq)]
 pub struct Record {
-    pub encrypted: bool,
+    pub kind: u8,
     pub algorithm: u8,
     pub cipher: u8,
     pub kdf: u8,
@@ -58,6 +64,30 @@ pub struct Record {
     pub salt: Part,
     pub ciphertext: Part,
     pub tag: Part,
+    /// The place of the section's length field.
+    pub section: u64,
+}
+
+/// Everything that a read answers, in the C interface's order.
+pub type Numbers = [u64; 26];
+
+pub fn numbers(read: &Result<Record, Refusal>) -> Numbers {
+    let mut numbers = [0; 26];
+    match read {
+        Err(refusal) => numbers[..3].copy_from_slice(&[refusal.number, refusal.count, refusal.at]),
+        Ok(record) => {
+            numbers[3..7].copy_from_slice(&[record.kind, record.algorithm, record.cipher, record.kdf].map(u64::from));
+            numbers[7..9].copy_from_slice(&[record.rounds, record.checkint].map(u64::from));
+            numbers[9..11].copy_from_slice(&[record.padding, u64::from(record.form)]);
+            let Record { blob, point, scalar, comment, salt, ciphertext, tag, .. } = record;
+            let parts = [blob, point, scalar, comment, salt, ciphertext, tag];
+            for (part, two) in parts.iter().zip(numbers[11..].chunks_mut(2)) {
+                two.copy_from_slice(&[part.start, part.bytes.len() as u64]);
+            }
+            numbers[25] = record.section;
+        }
+    }
+    numbers
 }
 
 fn refuse<T>(number: u64, at: usize) -> Result<T, Refusal> {
@@ -217,7 +247,7 @@ fn read_scalar(reader: &mut Reader, size: usize) -> Result<Part, Refusal> {
     Ok(reader.fixed(size)?.part())
 }
 
-fn read_section(section: &mut Reader, header: &Public, record: &mut Record) -> Result<(), Refusal> {
+fn read_plain_section(section: &mut Reader, record: &mut Record) -> Result<(), Refusal> {
     if section.left() % 8 != 0 {
         return refuse(1, section.at);
     }
@@ -232,7 +262,7 @@ fn read_section(section: &mut Reader, header: &Public, record: &mut Record) -> R
         Some(_) => read_scalar(section, public.size)?,
     };
     public.check_curve()?;
-    if public.algorithm != header.algorithm || public.point.bytes != header.point.bytes {
+    if public.algorithm != record.algorithm || public.point.bytes != record.point.bytes {
         return refuse(5, public.name);
     }
     let comment = section.at;
@@ -275,8 +305,8 @@ fn read_ciphertext(reader: &mut Reader, record: &mut Record) -> Result<(), Refus
     Ok(())
 }
 
-/// Reads an image: the record, or the first refusal in the order of reading.
-pub fn read(image: &[u8]) -> Result<Record, Refusal> {
+/// Reads an image up to its blob's end: what the header says, or the first refusal in the order of reading.
+pub fn read_header(image: &[u8]) -> Result<Record, Refusal> {
     if image.len() > LIMIT {
         return refuse(11, 0);
     }
@@ -286,11 +316,9 @@ pub fn read(image: &[u8]) -> Result<Record, Refusal> {
     if !image.starts_with(MAGIC) {
         return refuse(2, 0);
     }
-    let mut record = Record::default();
+    let mut record = Record { kind: HEADER, ..Record::default() };
     let mut reader = Reader { image, at: MAGIC.len(), end: image.len() };
     record.cipher = reader.name(CIPHERS.iter().map(|row| row.0))? as u8;
-    record.encrypted = record.cipher != 0;
-    let kdf = reader.at;
     read_kdf(&mut reader, &mut record)?;
     let count = reader.at;
     if reader.uint32()? != 1 {
@@ -300,17 +328,40 @@ pub fn read(image: &[u8]) -> Result<Record, Refusal> {
     record.blob = blob.part();
     let public = read_blob(&mut blob)?;
     record.algorithm = public.algorithm;
-    record.point = public.point.clone();
-    if record.encrypted {
+    record.point = public.point;
+    record.section = reader.at as u64;
+    Ok(record)
+}
+
+/// Reads what follows a header that was read of this image.
+fn go_on(image: &[u8], mut record: Record) -> Result<Record, Refusal> {
+    let mut reader = Reader { image, at: record.section as usize, end: image.len() };
+    if record.cipher != 0 {
+        record.kind = ENCRYPTED;
         read_ciphertext(&mut reader, &mut record)?;
     } else if record.kdf != 0 {
-        return refuse(3, kdf);
+        return refuse(3, MAGIC.len() + 4 + "none".len());
     } else {
-        read_section(&mut reader.string()?, &public, &mut record)?;
+        record.kind = PLAIN;
+        read_plain_section(&mut reader.string()?, &mut record)?;
     }
     reader.finish()?;
     record.form = written(&record) == image;
     Ok(record)
+}
+
+/// Reads what follows a header that is handed in: it must be, number for number, one that was read of this image.
+pub fn read_section(image: &[u8], header: &Numbers) -> Result<Record, Refusal> {
+    let read = read_header(image);
+    if read.is_err() || numbers(&read) != *header {
+        return refuse(1, 0);
+    }
+    go_on(image, read?)
+}
+
+/// Reads an image: the record, or the first refusal in the order of reading.
+pub fn read(image: &[u8]) -> Result<Record, Refusal> {
+    go_on(image, read_header(image)?)
 }
 
 fn put_uint32(image: &mut Vec<u8>, number: u32) {
@@ -391,7 +442,7 @@ fn encrypted_image(
 
 /// The image that the writer makes of a record, however long it gets.
 fn written(record: &Record) -> Vec<u8> {
-    if record.encrypted {
+    if record.kind == ENCRYPTED {
         let codes = (record.cipher, record.kdf);
         let options = (&record.salt.bytes[..], record.rounds);
         return encrypted_image(codes, options, &record.blob.bytes, &record.ciphertext.bytes, &record.tag.bytes);
@@ -501,7 +552,7 @@ pub fn change_comment(buffer: &mut [u8], n: usize, comment: &[u8]) -> Result<usi
         return refuse(1, 0);
     }
     let record = read(&buffer[..n])?;
-    if record.encrypted {
+    if record.kind == ENCRYPTED {
         return refuse(8, 0);
     }
     if !record.form {

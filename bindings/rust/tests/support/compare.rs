@@ -1,14 +1,15 @@
 //! The comparison of library and model: every number of the C interface, every part, every byte of the lent buffers.
 
-use super::model::{self, Part, Record, Refusal};
+use super::model::{self, Numbers, Part, Record, Refusal};
 use super::{hex, seed};
 use saltorchard::raw;
-use saltorchard::{Algorithm, Checkint, Cipher, EcdsaCurve, EncryptedKey, Error, Image, KdfAlg, PlainKey};
+use saltorchard::{Algorithm, Checkint, Cipher, EcdsaCurve, EncryptedKey, Error, Header, Image, KdfAlg, PlainKey};
 
-const FIELDS: [&str; 25] = [
+const FIELDS: [&str; 26] = [
     "number", "count", "at", "kind", "algorithm", "cipher", "kdf", "rounds", "checkint", "padding", "form",
     "blob start", "blob length", "point start", "point length", "scalar start", "scalar length", "comment start",
     "comment length", "salt start", "salt length", "ciphertext start", "ciphertext length", "tag start", "tag length",
+    "section",
 ];
 
 pub const ALGORITHMS: [Algorithm; 4] = [
@@ -97,67 +98,64 @@ fn refusal_of(error: Error) -> Refusal {
     Refusal { number: error.number(), count: error.count() as u64, at: error.place() as u64 }
 }
 
-fn numbers_of(image: &raw::Image) -> [u64; 25] {
+pub fn numbers_of(image: &raw::Image) -> Numbers {
     [
         image.number, image.count, image.at, image.kind, image.algorithm, image.cipher, image.kdf, image.rounds,
         image.checkint, image.padding, image.form, image.blob.start, image.blob.length, image.point.start,
         image.point.length, image.scalar.start, image.scalar.length, image.comment.start, image.comment.length,
         image.salt.start, image.salt.length, image.ciphertext.start, image.ciphertext.length, image.tag.start,
-        image.tag.length,
+        image.tag.length, image.section,
     ]
 }
 
-fn parts_of(record: &Record) -> [&Part; 7] {
-    let Record { blob, point, scalar, comment, salt, ciphertext, tag, .. } = record;
-    [blob, point, scalar, comment, salt, ciphertext, tag]
-}
-
-fn numbers_of_model(read: &Result<Record, Refusal>) -> [u64; 25] {
-    let mut numbers = [0; 25];
-    match read {
-        Err(refusal) => numbers[..3].copy_from_slice(&[refusal.number, refusal.count, refusal.at]),
-        Ok(record) => {
-            numbers[3] = if record.encrypted { 2 } else { 1 };
-            numbers[4..7].copy_from_slice(&[record.algorithm, record.cipher, record.kdf].map(u64::from));
-            numbers[7..9].copy_from_slice(&[record.rounds, record.checkint].map(u64::from));
-            numbers[9] = record.padding;
-            numbers[10] = u64::from(record.form);
-            for (part, two) in parts_of(record).iter().zip(numbers[11..].chunks_mut(2)) {
-                two.copy_from_slice(&[part.start, part.bytes.len() as u64]);
-            }
-        }
+/// The C interface's answer that has these numbers, whatever they are.
+pub fn raw_of(numbers: Numbers) -> raw::Image {
+    let part = |place: usize| raw::Part { start: numbers[place], length: numbers[place + 1] };
+    raw::Image {
+        number: numbers[0],
+        count: numbers[1],
+        at: numbers[2],
+        kind: numbers[3],
+        algorithm: numbers[4],
+        cipher: numbers[5],
+        kdf: numbers[6],
+        rounds: numbers[7],
+        checkint: numbers[8],
+        padding: numbers[9],
+        form: numbers[10],
+        blob: part(11),
+        point: part(13),
+        scalar: part(15),
+        comment: part(17),
+        salt: part(19),
+        ciphertext: part(21),
+        tag: part(23),
+        section: numbers[25],
     }
-    numbers
 }
 
-/// The first accessor that doesn't answer as the model does.
-fn accessor_unlike(image: &Image, record: &Record) -> Option<&'static str> {
-    let checkint = if record.encrypted { None } else { Some(record.checkint) };
-    let same = [
-        ("algorithm", image.algorithm() == ALGORITHMS[usize::from(record.algorithm)]),
-        ("cipher", image.cipher() == CIPHERS[usize::from(record.cipher)]),
-        ("kdf", image.kdf() == KDFS[usize::from(record.kdf)]),
-        ("is_encrypted", image.is_encrypted() == record.encrypted),
-        ("rounds", image.rounds() == record.rounds),
-        ("checkint", image.checkint() == checkint),
-        ("padding_len", image.padding_len() as u64 == record.padding),
-        ("is_in_form", image.is_in_form() == record.form),
-    ];
+/// The first name with `false` beside it.
+fn first_unlike(same: &[(&'static str, bool)]) -> Option<&'static str> {
     same.iter().find(|(_, same)| !same).map(|(name, _)| *name)
 }
 
+/// The first accessor that doesn't answer as the model does; for a header and for an image.
+macro_rules! accessor_unlike {
+    ($read:expr, $record:expr) => {
+        first_unlike(&[
+            ("algorithm", $read.algorithm() == ALGORITHMS[usize::from($record.algorithm)]),
+            ("cipher", $read.cipher() == CIPHERS[usize::from($record.cipher)]),
+            ("kdf", $read.kdf() == KDFS[usize::from($record.kdf)]),
+            ("is_encrypted", $read.is_encrypted() == ($record.cipher != 0)),
+            ("rounds", $read.rounds() == $record.rounds),
+            ("section_start", $read.section_start() as u64 == $record.section),
+        ])
+    };
+}
+
 /// The first view that isn't the model's part, or isn't that place of the caller's own bytes.
-fn view_unlike(image: &Image, record: &Record, bytes: &[u8]) -> Option<&'static str> {
-    let views = [
-        ("public_blob", image.public_blob()),
-        ("point", image.point()),
-        ("scalar", image.scalar()),
-        ("comment", image.comment().as_bytes()),
-        ("salt", image.salt()),
-        ("ciphertext", image.ciphertext()),
-        ("tag", image.tag()),
-    ];
-    for ((name, view), part) in views.iter().zip(parts_of(record)) {
+fn view_unlike(views: &[(&'static str, &[u8], &Part)], bytes: &[u8]) -> Option<&'static str> {
+    for (name, view, part) in views {
         let place = (view.as_ptr() as usize).wrapping_sub(bytes.as_ptr() as usize);
         if *view != part.bytes || place as u64 != part.start {
             return Some(name);
@@ -166,28 +164,85 @@ fn view_unlike(image: &Image, record: &Record, bytes: &[u8]) -> Option<&'static 
     None
 }
 
+fn header_unlike(header: &Header, record: &Record, bytes: &[u8]) -> Option<&'static str> {
+    let views = [
+        ("public_blob", header.public_blob(), &record.blob),
+        ("point", header.point(), &record.point),
+        ("salt", header.salt(), &record.salt),
+    ];
+    accessor_unlike!(header, record).or_else(|| view_unlike(&views, bytes))
+}
+
+fn image_unlike(image: &Image, record: &Record, bytes: &[u8]) -> Option<&'static str> {
+    let checkint = if image.is_encrypted() { None } else { Some(record.checkint) };
+    let of_the_section = [
+        ("as_bytes", std::ptr::eq(image.as_bytes(), bytes)),
+        ("checkint", image.checkint() == checkint),
+        ("padding_len", image.padding_len() as u64 == record.padding),
+        ("is_in_form", image.is_in_form() == record.form),
+    ];
+    let views = [
+        ("public_blob", image.public_blob(), &record.blob),
+        ("point", image.point(), &record.point),
+        ("scalar", image.scalar(), &record.scalar),
+        ("comment", image.comment().as_bytes(), &record.comment),
+        ("salt", image.salt(), &record.salt),
+        ("ciphertext", image.ciphertext(), &record.ciphertext),
+        ("tag", image.tag(), &record.tag),
+    ];
+    accessor_unlike!(image, record).or_else(|| first_unlike(&of_the_section)).or_else(|| view_unlike(&views, bytes))
+}
+
 /// Compares, counts, and at the end says how often.
 pub struct Tally {
     entry: &'static str,
     made: u64,
+    /// How often each number was the reply: of whole calls, of headers' reads, of sections' reads.
     numbers: [u64; 12],
+    headers: [u64; 12],
+    sections: [u64; 12],
 }
 
 impl Tally {
     pub fn new(entry: &'static str) -> Self {
-        Self { entry, made: 0, numbers: [0; 12] }
+        Self { entry, made: 0, numbers: [0; 12], headers: [0; 12], sections: [0; 12] }
     }
 
     /// Says how many comparisons there were; fails where there were fewer than `least`.
     pub fn end(self, least: u64) {
-        println!("{}: {} comparisons, seed {}, by reply {:?}", self.entry, self.made, seed(), self.numbers);
+        println!("{}: {} comparisons, seed {}{}", self.entry, self.made, seed(), self.replies());
         assert!(self.made >= least, "{}: only {} comparisons of {}", self.entry, self.made, least);
     }
 
-    /// Fails where one of these replies came less than `least` times.
+    fn replies(&self) -> String {
+        let mut text = String::new();
+        let all = [("by reply", self.numbers), ("of headers", self.headers), ("of sections", self.sections)];
+        for (of, numbers) in all {
+            if numbers != [0; 12] {
+                text += &format!(", {} {:?}", of, numbers);
+            }
+        }
+        text
+    }
+
+    /// Fails where one of these replies of whole calls came less than `least` times.
     pub fn expect_replies(&self, numbers: &[usize], least: u64) {
+        self.expect(&self.numbers, numbers, least);
+    }
+
+    /// The same for headers' reads.
+    pub fn expect_of_headers(&self, numbers: &[usize], least: u64) {
+        self.expect(&self.headers, numbers, least);
+    }
+
+    /// The same for sections' reads.
+    pub fn expect_of_sections(&self, numbers: &[usize], least: u64) {
+        self.expect(&self.sections, numbers, least);
+    }
+
+    fn expect(&self, replies: &[u64; 12], numbers: &[usize], least: u64) {
         for number in numbers {
-            let seen = self.numbers[*number];
+            let seen = replies[*number];
             assert!(seen >= least, "{}: reply {} came only {} times", self.entry, number, seen);
         }
     }
@@ -201,30 +256,76 @@ impl Tally {
         panic!("{}: comparison {}, seed {}: {}\ninput: {}", self.entry, self.made, seed(), what, input)
     }
 
-    /// Reads with both. Answers whether the image was accepted.
+    /// Reads with both, whole and in halves: three comparisons. Answers whether the image was accepted.
     pub fn read(&mut self, bytes: &[u8]) -> bool {
-        let read = model::read(bytes);
-        let (library, right) = (numbers_of(&raw::read(bytes)), numbers_of_model(&read));
-        for ((name, library), right) in FIELDS.iter().zip(library).zip(right) {
-            if library != right {
-                self.fail(&format!("read: {}: library {}, model {}", name, library, right), &hex(bytes));
-            }
+        let (library, right) = (raw::read(bytes), model::read(bytes));
+        self.same_numbers("read", &library, &right, &|| hex(bytes));
+        self.same_image("Image::read", Image::read(bytes), &right, bytes);
+        self.count(library.number);
+        let header = self.header(bytes);
+        let section = self.section(bytes, header);
+        let in_halves = if header.number == 0 { section } else { header };
+        if in_halves != library {
+            self.fail("the header's read and the section's aren't the whole read", &hex(bytes));
         }
-        self.read_by_crate(bytes, &read);
-        self.count(right[0]);
-        read.is_ok()
+        if let Ok(header) = Header::read(bytes) {
+            self.same_image("Header::section", header.section(), &right, bytes);
+        }
+        right.is_ok()
     }
 
-    fn read_by_crate(&self, bytes: &[u8], read: &Result<Record, Refusal>) {
-        let unlike = match (Image::read(bytes), read) {
+    /// Reads the header with both. Answers what the library did.
+    pub fn header(&mut self, bytes: &[u8]) -> raw::Image {
+        let (library, right) = (raw::read_header(bytes), model::read_header(bytes));
+        self.same_numbers("read_header", &library, &right, &|| hex(bytes));
+        let unlike = match (Header::read(bytes), &right) {
             (Err(error), Err(refusal)) if refusal_of(error) == *refusal => None,
-            (Ok(image), Ok(record)) if std::ptr::eq(image.as_bytes(), bytes) => {
-                accessor_unlike(&image, record).or_else(|| view_unlike(&image, record, bytes))
-            }
+            (Ok(header), Ok(record)) => header_unlike(&header, record, bytes),
             _ => Some("answer"),
         };
+        self.hold_alike("Header::read", unlike, &right, bytes);
+        self.made += 1;
+        self.headers[library.number as usize] += 1;
+        library
+    }
+
+    /// Reads the section with both, from this half, be it the image's header or not. Answers what the library did.
+    pub fn section(&mut self, bytes: &[u8], half: raw::Image) -> raw::Image {
+        let numbers = numbers_of(&half);
+        let (library, right) = (raw::read_section(bytes, half), model::read_section(bytes, &numbers));
+        self.same_numbers("read_section", &library, &right, &|| format!("{} from {:?}", hex(bytes), numbers));
+        self.made += 1;
+        self.sections[library.number as usize] += 1;
+        library
+    }
+
+    fn same_numbers(
+        &self,
+        what: &str,
+        library: &raw::Image,
+        right: &Result<Record, Refusal>,
+        input: &dyn Fn() -> String,
+    ) {
+        let (library, right) = (numbers_of(library), model::numbers(right));
+        for ((name, library), right) in FIELDS.iter().zip(library).zip(right) {
+            if library != right {
+                self.fail(&format!("{}: {}: library {}, model {}", what, name, library, right), &input());
+            }
+        }
+    }
+
+    fn same_image(&self, what: &str, answer: Result<Image, Error>, right: &Result<Record, Refusal>, bytes: &[u8]) {
+        let unlike = match (answer, right) {
+            (Err(error), Err(refusal)) if refusal_of(error) == *refusal => None,
+            (Ok(image), Ok(record)) => image_unlike(&image, record, bytes),
+            _ => Some("answer"),
+        };
+        self.hold_alike(what, unlike, right, bytes);
+    }
+
+    fn hold_alike(&self, what: &str, unlike: Option<&str>, right: &Result<Record, Refusal>, bytes: &[u8]) {
         if let Some(name) = unlike {
-            self.fail(&format!("Image::read: {} unlike the model's {:?}", name, read), &hex(bytes));
+            self.fail(&format!("{}: {} unlike the model's {:?}", what, name, right), &hex(bytes));
         }
     }
 

@@ -151,7 +151,7 @@ module _ {M : Type 1} (𝓤 : URA M) (H : Heap 𝓤) (A : Atoms 𝓤) (W : Given
         use1 W (given (u ∷ [] ≡ vstruct (spelled (P.the-type α .parts) (P′.the-laws α) (vd r)) ∷ []) (‵ (all-own (P.the-type α .parts) (P′.the-laws α) (vd r)))) (own-open 𝓤 H A W (P.the-type α) (P′.the-laws α) (vd r) u) $ learn ! (λ _.
         use1 W (‵ (ownAt (P.the-type α .parts) (P′.the-laws α) 3 (r .held)) ⊛ ‵ (rest (P.the-type α .parts) (P′.the-laws α) 3 (vd r))) (own-out 𝓤 H A W (P.the-type α .parts) (P′.the-laws α) 3 (vd r)) $ split ! $ move ! (1 ∷ []) $ drop ! $
         -- [what the record owns; the token; what s owns; room for _3; …; _2; …; _1; …; room for _0; …]
-        assigns ! (of-opd ! (load ! (from ! (fld ! refl (stop !))) (look-in ! 5 (sub ! 3 refl (whole !))))) (from ! (stop !))
+        assigns ! (of-opd ! (load ! (from ! (fld ! {τ = T′.mir erased} {d = 24} refl (stop !))) (look-in ! 5 {τ = T′.mir erased} (sub ! 3 {τ = T′.mir erased} {d = 24} refl (whole !))))) (from ! (stop !))
         (init ! 3 refl (LL.lawful (T.the-type αᵉ) (T′.the-laws αᵉ) 𝓤 H A W .typed (r .held) _ (LL.owed (P.the-type α) (P′.the-laws α) r _ is .1 .1 .1 .0) .0)) $
         use2 W (raw (Comment 𝓤 H A mem run .pre (to-comment r))) (goes-comment r) $
         calls-at ! fm (Comment 𝓤 H A mem run) known-comment (to-comment r) (and-then ! (load ! (from ! (stop !)) (look ! 2 refl)) (no-more !)) (λ w.

@@ -1,6 +1,6 @@
--- `container::read` meets its contract: each return is the case of `readAt` that the two halves pick. Assumes nothing.
-use mathlib.Core.Path.{refl}
-use Rattle.container.specs.Container.{readAt}
+-- `container::read` meets its contract: what the header read answered picks the case of `readAt`. Assumes nothing.
+use mathlib.Core.Path.{refl, ap}
+use Rattle.container.specs.Container.{readAt, toldRead}
 use borrow.Author.Needs.{needs}
 use Rattle.container.proofs.read.Statement.{statement}
 use Rattle.container.proofs.read.Tie as tie
@@ -14,37 +14,18 @@ enum-known-f c = search needs
 enum-known-h : tie.Need-enum-known-h
 enum-known-h c = search needs
 
-read-section-requires : tie.Need-read-section-requires
-read-section-requires c κs = search needs
-
-enum-known-f-2 : tie.Need-enum-known-f-2
-enum-known-f-2 c = search needs
-
-enum-known-x : tie.Need-enum-known-x
-enum-known-x c = search needs
+go-on-requires : tie.Need-go-on-requires
+go-on-requires c κs = search needs
 
 returns : tie.Need-returns
 unfolding readAt
-returns c = rw (← c .before .before .before .read-header .ensures, c .before .f .given .1) (refl, refl)
+returns c = rw (← c .before .before .before .read-header .ensures .0, c .before .f .given .1) (refl, refl)
 
 returns-2 : tie.Need-returns-2
 unfolding readAt
-returns-2 c = rw (← c .before .before .before .before .before .before .before .read-header .ensures, c .before .before .before .before .before .h .given .1, ← c .before .before .before .read-section .ensures, c .before .f2 .given .1) (refl, refl)
-
-returns-3 : tie.Need-returns-3
-unfolding readAt
-returns-3 c = rw (← c .before .before .before .before .before .before .before .read-header .ensures, c .before .before .before .before .before .h .given .1, ← c .before .before .before .read-section .ensures, c .before .x .given .1) (refl, refl)
+returns-2 c = rw (← c .before .before .before .before .read-header .ensures .0, c .before .before .h .given .1) (c .go-on .ensures, ap toldRead (c .go-on .ensures))
 
 pub read-spec : {M : Type 1} → statement M
 read-spec =
     tie.close
-    (tie.spec
-    read-header-requires
-    enum-known-f
-    enum-known-h
-    read-section-requires
-    enum-known-f-2
-    enum-known-x
-    returns
-    returns-2
-    returns-3)
+    (tie.spec read-header-requires enum-known-f enum-known-h go-on-requires returns returns-2)

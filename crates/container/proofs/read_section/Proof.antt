@@ -1,47 +1,23 @@
--- `container::read_section` meets its contract: cipher and KDF pick the case of `sectionAt`. Assumes nothing.
-use Rattle.container.specs.Container.{sectionAt}
-use Rattle.fields.specs.Bytes.{uint32, string}
-use Rattle.format.specs.Format.{magic}
+-- `container::read_section` meets its contract: the judgement picks the case of `sectionReadAt`. Assumes nothing.
+use mathlib.Core.Path.{refl, ap}
+use Rattle.container.specs.Container.{sectionReadAt, toldRead}
 use borrow.Author.Needs.{needs}
 use Rattle.container.proofs.read_section.Statement.{statement}
 use Rattle.container.proofs.read_section.Tie as tie
 
-is-none-requires : tie.Need-is-none-requires
-is-none-requires c κs = search needs
+is-header-requires : tie.Need-is-header-requires
+is-header-requires c κs = search needs
 
-enum-told : tie.Need-enum-told
-enum-told c = search needs
-
-read-plain-requires : tie.Need-read-plain-requires
-read-plain-requires c κs = search needs
+go-on-requires : tie.Need-go-on-requires
+go-on-requires c κs = search needs
 
 returns : tie.Need-returns
-unfolding sectionAt
-returns c = rw (← c .before .before .before .before .is-none .ensures, c .before .before .before .if1 .taken, c .before .enum-told .given .1) (c .read-plain .ensures)
-
-enum-told-2 : tie.Need-enum-told-2
-enum-told-2 c = search needs
+unfolding sectionReadAt
+returns c = rw (← c .before .before .is-header .ensures, c .before .if1 .taken) (c .go-on .ensures, ap toldRead (c .go-on .ensures))
 
 returns-2 : tie.Need-returns-2
-unfolding sectionAt magic string uint32
-returns-2 c = rw (← c .before .before .before .is-none .ensures, c .before .before .if1 .taken, c .enum-told2 .given .1)
-
-read-encrypted-requires : tie.Need-read-encrypted-requires
-read-encrypted-requires c κs = search needs
-
-returns-3 : tie.Need-returns-3
-unfolding sectionAt
-returns-3 c = rw (← c .before .before .is-none .ensures, c .before .if1 .left) (c .read-encrypted .ensures)
+unfolding sectionReadAt
+returns-2 c = rw (← c .before .is-header .ensures, c .if1 .left) (refl, refl)
 
 pub read-section-spec : {M : Type 1} → statement M
-read-section-spec =
-    tie.close
-    (tie.spec
-    is-none-requires
-    enum-told
-    read-plain-requires
-    returns
-    enum-told-2
-    returns-2
-    read-encrypted-requires
-    returns-3)
+read-section-spec = tie.close (tie.spec is-header-requires go-on-requires returns returns-2)

@@ -1,4 +1,4 @@
--- `found::no_fields` meets its contract: each place is absent. Rests on the callee's contract.
+-- `found::no_fields` meets its contract: each place is absent, and so is the half. Rests on the callees' contracts.
 use borrow.Author.Needs.{needs}
 use Rattle.found.proofs.no_fields.Statement.{statement}
 use Rattle.found.proofs.no_fields.Tie as tie
@@ -15,17 +15,11 @@ nowhere-requires-3 c κs = search needs
 nowhere-requires-4 : tie.Need-nowhere-requires-4
 nowhere-requires-4 c κs = search needs
 
-nowhere-requires-5 : tie.Need-nowhere-requires-5
-nowhere-requires-5 c κs = search needs
-
-nowhere-requires-6 : tie.Need-nowhere-requires-6
-nowhere-requires-6 c κs = search needs
-
-nowhere-requires-7 : tie.Need-nowhere-requires-7
-nowhere-requires-7 c κs = search needs
+no-header-requires : tie.Need-no-header-requires
+no-header-requires c κs = search needs
 
 returns : tie.Need-returns
-returns c = rw (c .before .before .before .before .before .before .nowhere .ensures, c .before .before .before .before .before .nowhere2 .ensures, c .before .before .before .before .nowhere3 .ensures, c .before .before .before .nowhere4 .ensures, c .before .before .nowhere5 .ensures, c .before .nowhere6 .ensures, c .nowhere7 .ensures)
+returns c = rw (c .before .before .before .before .nowhere .ensures, c .before .before .before .nowhere2 .ensures, c .before .before .nowhere3 .ensures, c .before .nowhere4 .ensures, c .no-header .ensures)
 
 pub no-fields-spec : {M : Type 1} → statement M
 no-fields-spec =
@@ -35,7 +29,5 @@ no-fields-spec =
     nowhere-requires-2
     nowhere-requires-3
     nowhere-requires-4
-    nowhere-requires-5
-    nowhere-requires-6
-    nowhere-requires-7
+    no-header-requires
     returns)

@@ -1,4 +1,5 @@
 -- `header::read_header` meets its contract: each return is the case of `headerAt` that the four answers pick. Assumes nothing.
+use mathlib.Core.Path.{refl}
 use Rattle.header.specs.Header.{headerAt}
 use borrow.Author.Needs.{needs}
 use Rattle.header.proofs.read_header.Statement.{statement}
@@ -42,23 +43,23 @@ enum-known-a c = search needs
 
 returns : tie.Need-returns
 unfolding headerAt
-returns c = rw (← c .before .before .before .read-cipher .ensures, c .before .f .given .1)
+returns c = rw (← c .before .before .before .read-cipher .ensures, c .before .f .given .1) (refl, refl)
 
 returns-2 : tie.Need-returns-2
 unfolding headerAt
-returns-2 c = rw (← c .before .before .before .before .before .before .before .read-cipher .ensures, c .before .before .before .before .before .cipher .given .1, ← c .before .before .before .read-kdf .ensures, c .before .f2 .given .1)
+returns-2 c = rw (← c .before .before .before .before .before .before .before .read-cipher .ensures, c .before .before .before .before .before .cipher .given .1, ← c .before .before .before .read-kdf .ensures, c .before .f2 .given .1) (refl, refl)
 
 returns-3 : tie.Need-returns-3
 unfolding headerAt
-returns-3 c = rw (← c .before .before .before .before .before .before .before .before .before .before .before .read-cipher .ensures, c .before .before .before .before .before .before .before .before .before .cipher .given .1, ← c .before .before .before .before .before .before .before .read-kdf .ensures, c .before .before .before .before .before .kdf .given .1, ← c .before .before .before .read-count .ensures, c .before .f3 .given .1)
+returns-3 c = rw (← c .before .before .before .before .before .before .before .before .before .before .before .read-cipher .ensures, c .before .before .before .before .before .before .before .before .before .cipher .given .1, ← c .before .before .before .before .before .before .before .read-kdf .ensures, c .before .before .before .before .before .kdf .given .1, ← c .before .before .before .read-count .ensures, c .before .f3 .given .1) (refl, refl)
 
 returns-4 : tie.Need-returns-4
 unfolding headerAt
-returns-4 c = rw (← c .before .before .before .before .before .before .before .before .before .before .before .before .before .before .before .read-cipher .ensures, c .before .before .before .before .before .before .before .before .before .before .before .before .before .cipher .given .1, ← c .before .before .before .before .before .before .before .before .before .before .before .read-kdf .ensures, c .before .before .before .before .before .before .before .before .before .kdf .given .1, ← c .before .before .before .before .before .before .before .read-count .ensures, c .before .before .before .before .before .e .given .1, ← c .before .before .before .read-blob-field .ensures, c .before .f4 .given .1)
+returns-4 c = rw (← c .before .before .before .before .before .before .before .before .before .before .before .before .before .before .before .read-cipher .ensures, c .before .before .before .before .before .before .before .before .before .before .before .before .before .cipher .given .1, ← c .before .before .before .before .before .before .before .before .before .before .before .read-kdf .ensures, c .before .before .before .before .before .before .before .before .before .kdf .given .1, ← c .before .before .before .before .before .before .before .read-count .ensures, c .before .before .before .before .before .e .given .1, ← c .before .before .before .read-blob-field .ensures, c .before .f4 .given .1) (refl, refl)
 
 returns-5 : tie.Need-returns-5
 unfolding headerAt
-returns-5 c = rw (← c .before .before .before .before .before .before .before .before .before .before .before .before .before .before .before .read-cipher .ensures, c .before .before .before .before .before .before .before .before .before .before .before .before .before .cipher .given .1, ← c .before .before .before .before .before .before .before .before .before .before .before .read-kdf .ensures, c .before .before .before .before .before .before .before .before .before .kdf .given .1, ← c .before .before .before .before .before .before .before .read-count .ensures, c .before .before .before .before .before .e .given .1, ← c .before .before .before .read-blob-field .ensures, c .before .a .given .1)
+returns-5 c = rw (← c .before .before .before .before .before .before .before .before .before .before .before .before .before .before .before .read-cipher .ensures, c .before .before .before .before .before .before .before .before .before .before .before .before .before .cipher .given .1, ← c .before .before .before .before .before .before .before .before .before .before .before .read-kdf .ensures, c .before .before .before .before .before .before .before .before .before .kdf .given .1, ← c .before .before .before .before .before .before .before .read-count .ensures, c .before .before .before .before .before .e .given .1, ← c .before .before .before .read-blob-field .ensures, c .before .a .given .1) (refl, refl)
 
 pub read-header-spec : {M : Type 1} → statement M
 read-header-spec =

@@ -19,16 +19,13 @@ same-header-requires c κs = search needs
 same-section-requires : tie.Need-same-section-requires
 same-section-requires c κs = search needs
 
-both-requires : tie.Need-both-requires
-both-requires c κs = search needs
-
 returns : tie.Need-returns
 unfolding isRead
 returns c = rw (← c .before .before .read .ensures .0, c .enum-told .given .1)
 
 returns-2 : tie.Need-returns-2
 unfolding isRead
-returns-2 c = rw (← c .before .before .before .before .before .before .read .ensures .0, c .before .before .before .before .g .given .1, ← c .before .before .same-header .ensures, ← c .before .same-section .ensures) (c .both .ensures)
+returns-2 c = rw (← c .before .before .before .before .before .read .ensures .0, c .before .before .before .g .given .1, ← c .before .same-header .ensures, ← c .same-section .ensures)
 
 pub is-read-spec : {M : Type 1} → statement M
 is-read-spec =
@@ -39,6 +36,5 @@ is-read-spec =
     enum-known-g
     same-header-requires
     same-section-requires
-    both-requires
     returns
     returns-2)

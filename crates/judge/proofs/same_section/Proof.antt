@@ -1,4 +1,4 @@
--- `judge::same_section` meets its contract: each field's comparison is joined to those before it. Rests on the callees' contracts.
+-- `judge::same_section` meets its contract: it is the comparison of every field. Rests on the callees' contracts.
 use Rattle.judge.specs.Judge.{sameSection}
 use borrow.Author.Needs.{needs}
 use Rattle.judge.proofs.same_section.Statement.{statement}
@@ -10,39 +10,21 @@ kind-code-requires c κs = search needs
 kind-code-requires-2 : tie.Need-kind-code-requires-2
 kind-code-requires-2 c κs = search needs
 
-both-requires : tie.Need-both-requires
-both-requires c κs = search needs
-
-both-requires-2 : tie.Need-both-requires-2
-both-requires-2 c κs = search needs
-
 same-part-requires : tie.Need-same-part-requires
 same-part-requires c κs = search needs
-
-both-requires-3 : tie.Need-both-requires-3
-both-requires-3 c κs = search needs
 
 same-part-requires-2 : tie.Need-same-part-requires-2
 same-part-requires-2 c κs = search needs
 
-both-requires-4 : tie.Need-both-requires-4
-both-requires-4 c κs = search needs
-
 same-part-requires-3 : tie.Need-same-part-requires-3
 same-part-requires-3 c κs = search needs
-
-both-requires-5 : tie.Need-both-requires-5
-both-requires-5 c κs = search needs
 
 same-part-requires-4 : tie.Need-same-part-requires-4
 same-part-requires-4 c κs = search needs
 
-both-requires-6 : tie.Need-both-requires-6
-both-requires-6 c κs = search needs
-
 returns : tie.Need-returns
 unfolding sameSection
-returns c = rw (← c .before .before .before .before .before .before .before .before .before .before .before .before .before .before .before .kind-code .ensures, ← c .before .before .before .before .before .before .before .before .before .before .before .before .before .before .kind-code2 .ensures, ← c .before .before .before .before .before .before .before .before .before .before .before .both .ensures, ← c .before .before .before .before .before .before .before .before .both2 .ensures, ← c .before .before .before .before .before .before .before .same-part .ensures, ← c .before .before .before .before .before .before .both3 .ensures, ← c .before .before .before .before .before .same-part2 .ensures, ← c .before .before .before .before .both4 .ensures, ← c .before .before .before .same-part3 .ensures, ← c .before .before .both5 .ensures, ← c .before .same-part4 .ensures) (c .both6 .ensures)
+returns c = rw (← c .before .before .before .before .before .before .before .before .before .kind-code .ensures, ← c .before .before .before .before .before .before .before .before .kind-code2 .ensures, ← c .before .before .before .same-part .ensures, ← c .before .before .same-part2 .ensures, ← c .before .same-part3 .ensures, ← c .same-part4 .ensures)
 
 pub same-section-spec : {M : Type 1} → statement M
 same-section-spec =
@@ -50,14 +32,8 @@ same-section-spec =
     (tie.spec
     kind-code-requires
     kind-code-requires-2
-    both-requires
-    both-requires-2
     same-part-requires
-    both-requires-3
     same-part-requires-2
-    both-requires-4
     same-part-requires-3
-    both-requires-5
     same-part-requires-4
-    both-requires-6
     returns)

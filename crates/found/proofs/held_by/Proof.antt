@@ -1,9 +1,9 @@
--- `found::held` meets its contract: the number picks the part. Rests on the contract of `view`.
+-- `found::held_by` meets its contract: the number picks the part. Rests on the contract of `view`.
 use borrow.Author.Tests.{eq-eqb, ne-eqb}
 use Rattle.found.specs.Found.{heldPart}
 use borrow.Author.Needs.{needs}
-use Rattle.found.proofs.held.Statement.{statement}
-use Rattle.found.proofs.held.Tie as tie
+use Rattle.found.proofs.held_by.Statement.{statement}
+use Rattle.found.proofs.held_by.Tie as tie
 
 view-requires : tie.Need-view-requires
 view-requires c κs = search needs
@@ -22,5 +22,5 @@ returns-2 : tie.Need-returns-2
 unfolding heldPart
 returns-2 c = rw (ne-eqb _ _ (c .before .before .if1 .left), ← c .before .nowhere .ensures) (c .view2 .ensures)
 
-pub held-spec : {M : Type 1} → statement M
-held-spec = tie.close (tie.spec view-requires returns nowhere-requires view-requires-2 returns-2)
+pub held-by-spec : {M : Type 1} → statement M
+held-by-spec = tie.close (tie.spec view-requires returns nowhere-requires view-requires-2 returns-2)

@@ -1,0 +1,85 @@
+//! What a header and a whole image have in common.
+
+use crate::c;
+use crate::{Algorithm, Cipher, Error, KdfAlg};
+
+/// The bytes of an accepted read, the C interface's numbers for them, and the codes among these by name.
+#[derive(Clone, Copy)]
+pub(crate) struct Accepted<'a> {
+    pub bytes: &'a [u8],
+    pub fields: c::Image,
+    pub algorithm: Algorithm,
+    pub cipher: Cipher,
+    pub kdf: KdfAlg,
+}
+
+impl<'a> Accepted<'a> {
+    /// What a read of `bytes` answered, or its refusal.
+    pub fn new(bytes: &'a [u8], fields: c::Image) -> Result<Self, Error> {
+        if let Some(refusal) = Error::refused(&fields) {
+            return Err(refusal);
+        }
+        Ok(Self {
+            bytes,
+            fields,
+            algorithm: Algorithm::from_code(fields.algorithm).ok_or_else(Error::unknown_code)?,
+            cipher: Cipher::from_code(fields.cipher).ok_or_else(Error::unknown_code)?,
+            kdf: KdfAlg::from_code(fields.kdf).ok_or_else(Error::unknown_code)?,
+        })
+    }
+
+    pub fn part(&self, part: c::Part) -> &'a [u8] {
+        let start = part.start as usize;
+        &self.bytes[start..start + part.length as usize]
+    }
+}
+
+/// The functions that answer from the header, for a type that has an [`Accepted`] named `read`.
+macro_rules! what_a_header_says {
+    () => {
+        /// The key's algorithm.
+        pub fn algorithm(&self) -> Algorithm {
+            self.read.algorithm
+        }
+
+        /// The section's cipher.
+        pub fn cipher(&self) -> Cipher {
+            self.read.cipher
+        }
+
+        /// The KDF's kind; its options are [`salt`](Self::salt) and [`rounds`](Self::rounds).
+        pub fn kdf(&self) -> KdfAlg {
+            self.read.kdf
+        }
+
+        /// Is the section encrypted?
+        pub fn is_encrypted(&self) -> bool {
+            self.read.cipher.is_some()
+        }
+
+        /// The public key as it is encoded in the header, without the length before it.
+        pub fn public_blob(&self) -> &'a [u8] {
+            self.read.part(self.read.fields.blob)
+        }
+
+        /// The public point in the header; for Ed25519 the 32 public bytes.
+        pub fn point(&self) -> &'a [u8] {
+            self.read.part(self.read.fields.point)
+        }
+
+        /// The KDF's salt; empty for KDF `none`.
+        pub fn salt(&self) -> &'a [u8] {
+            self.read.part(self.read.fields.salt)
+        }
+
+        /// The KDF's rounds; 0 for KDF `none`.
+        pub fn rounds(&self) -> u32 {
+            self.read.fields.rounds as u32
+        }
+
+        /// The place of the section's length field: the byte after the public key.
+        pub fn section_start(&self) -> usize {
+            self.read.fields.section as usize
+        }
+    };
+}
