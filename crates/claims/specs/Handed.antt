@@ -19,7 +19,7 @@ pub handed-read :
 unfolding handedReply handedLeft rewriteReply rewriteLeft
 handed-read s f room old e = rw (read-passes s f e, e) (refl, refl)
 
-fails : (b : Bool) → (b ≡ true → ⊥) → b ≡ false
+pub fails : (b : Bool) → (b ≡ true → ⊥) → b ≡ false
 fails true h = absurd (h refl)
 fails false h = refl
 

@@ -1,4 +1,4 @@
--- Demand 1: Refusals, Ordered. Demand 2: Reading, Sealed, Form. Demand 3: Change, Front, Sequence. Records handed in: Handed. What is printed: Printed.
+-- Demand 1: Refusals, Ordered. Demand 2: Reading, Sealed, Form. Demand 3: Change, Front, Sequence. Records and halves handed in: Handed, Halves. What a header says: HeaderAlone. What is printed: Printed.
 -- The marked examples: Marked. The paper's wrong programs: ShutOut. The others hold what these rest on.
 pub mod Reading
 pub mod Sealed
@@ -11,6 +11,8 @@ pub mod Again
 pub mod Kept
 pub mod Sequence
 pub mod Handed
+pub mod Halves
+pub mod HeaderAlone
 pub mod Refusals
 pub mod Ordered
 pub mod Sizes

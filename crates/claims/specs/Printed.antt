@@ -34,6 +34,7 @@ use Rattle.container.specs.Read.{ImageText, plain-text, encrypted-text, image-t
 use Rattle.container.specs.FormLaws.{agree, form-back, plain-of}
 use Rattle.report.specs.Report.{Plain, Encrypted, Refused, accepted, summaryOf, lines, reportOf}
 use Rattle.report.specs.Examples.{printed, oven7}
+use Rattle.claims.specs.Form.{Stands}
 
 -- ---- plain images
 
@@ -128,10 +129,11 @@ report-encrypted c k salt rounds a point ciphertext tag fits limit =
 
 -- ---- every image
 
--- accepted, plain: the lengths of the fields, and whether a zero stands before the scalar, decide
+-- accepted, plain: the lengths of the fields, and whether a zero stands before the scalar in the image, decide
 pub report-accepted :
     (s : List ℕ) (all : AllBytes s) (f : Fields) → readAt s ≡ read.Record f → f .section .kind ≡ kind.Plain
     → (zero : Bool)
+    × Stands s f zero
     × (reportOf s
     ≡ lines
     (Plain (f .header .algorithm) cipher.None kdf.None (length (viewOf s (f .section .comment)))
@@ -146,6 +148,7 @@ report-accepted s all f e plain =
     (viewOf s (f .section .comment)) in
     let limit : length image ≤ 65535 = omega (arith, ap length (p .text), p .fits) in (
       p .zero,
+      p .text,
       ap reportOf (p .text)
           ∙ report-plain (f .section .checkint) (f .header .algorithm) (p .zero) (viewOf s (f .header .point)) (viewOf s (f .section .scalar))
           (viewOf s (f .section .comment)) (p .checkint-fits) (p .key-fits) limit,

@@ -1,14 +1,15 @@
--- Inversion: an image whose header was read begins with that header as the format writes it.
-use Prim.Native.Nat.{ℕ, _≤_}
+-- Inversion: an image whose header was read begins with that header as the format writes it, and the places of its parts follow from what they
+-- hold.
+use Prim.Native.Nat.{ℕ, _+_, _≤_}
 use native.Mathlib.Omega.{arith}
-use mathlib.Core.Path.{_≡_, refl, sym, _∙_, ap}
+use mathlib.Core.Path.{_≡_, refl, sym, _∙_, ap, ap₂}
 use mathlib.Core.Bool.{true}
 use mathlib.Core.List.{List, [], _++_, append-nil}
 use lib.ListN.{length}
 use lib.Seq.{slice}
 use Rattle.fields.specs.Bytes.{uint32, string, AllBytes, length-zero}
-use Rattle.fields.specs.Fields.{whole, within, viewOf}
-use Rattle.fields.specs.Place.{clash, by-uint32}
+use Rattle.fields.specs.Fields.{absent, part, whole, within, viewOf}
+use Rattle.fields.specs.Place.{clash, by-uint32, bytes-place}
 use Rattle.fields.specs.Rest.{rest, rest-whole, rest-within, view-absent}
 use Rattle.fields.specs.Read.{bytes-read, string-read, uint32-read, end-read}
 use Rattle.fields.specs.declared.Cursor.{Cursor}
@@ -52,23 +53,38 @@ by-blob-field :
 by-blob-field (blob-field.Refused f) refused read = refused f refl
 by-blob-field (blob-field.Key a b p c) refused read = read a b p c refl
 
+-- where the salt lies, of n bytes, if the KDF's name ends at i
+abbrev saltFrom : ℕ → Kdf → ℕ → Part
+saltFrom i kdf.None n = absent
+saltFrom i kdf.Bcrypt n = part (i + 8) n
+
+abbrev pub saltPlace : Cipher → Kdf → ℕ → Part
+saltPlace cipher k n = saltFrom (15 + 4 + length (cipherName cipher) + 4 + length (kdfName k)) k n
+
 module _ (s : List ℕ) (all : AllBytes s) where
-  cipher-text : (cipher : Cipher) (d : Cursor) → cipherAt s ≡ cipher-field.Cipher cipher d → s ≡ magic ++ (string (cipherName cipher) ++ rest s d)
+  cipher-text :
+      (cipher : Cipher) (d : Cursor) → cipherAt s ≡ cipher-field.Cipher cipher d
+      → (s ≡ magic ++ (string (cipherName cipher) ++ rest s d)) × (d .at ≡ 15 + 4 + length (cipherName cipher))
   cipher-text cipher d e =
       let p = cipher-place s cipher d e in
       let m = bytes-read s (whole s) 15 (p .start) (p .after) (p .magic-read) in
-      let n = string-read s all (p .after) (p .name) d (p .name-read) .text in
-      sym (rest-whole s) ∙ rw (p .magic-is) at m ∙ ap (λ (x : List ℕ). magic ++ x) (rw (p .name-is) at n)
+      let b = bytes-place s (whole s) 15 (p .start) (p .after) (p .magic-read) in
+      let n = string-read s all (p .after) (p .name) d (p .name-read) in
+      let size : length (cipherName cipher) ≡ p .name .length = ap length (sym (p .name-is)) ∙ n .size in (
+        sym (rest-whole s) ∙ rw (p .magic-is) at m ∙ ap (λ (x : List ℕ). magic ++ x) (rw (p .name-is) at (n .text)),
+        omega (arith, size, n .place .placed, b .0, b .1),
+      )
 
   -- the options' string, and what they must be
   options-text :
       (k : Kdf) (c : Cursor) (salt : Part) (rounds : ℕ) (d : Cursor) → onKdf k (noneAt s c) (bcryptAt s c) ≡ kdf-field.Options k salt rounds d
       → (rest s c ≡ string (options k (viewOf s salt) rounds) ++ rest s d) × OptionsFit k (viewOf s salt) rounds
+      × (salt ≡ saltFrom (c .at) k (length (viewOf s salt)))
   options-text kdf.None c salt rounds d e =
       let p = none-place s c kdf.None salt rounds d e in
       let r = string-read s all c (p .0) d (p .1) in
       let none : viewOf s (p .0) ≡ [] = length-zero (viewOf s (p .0)) (r .size ∙ p .2) in
-      (rw none at (r .text), (ap (viewOf s) (sym (p .4)) ∙ view-absent s, sym (p .5)))
+      (rw none at (r .text), (ap (viewOf s) (sym (p .4)) ∙ view-absent s, sym (p .5)), sym (p .4))
   options-text kdf.Bcrypt c salt rounds d e =
       let p = bcrypt-place s c kdf.Bcrypt salt rounds d e in
       let r = string-read s all c (p .inside) d (p .read) in
@@ -78,16 +94,20 @@ module _ (s : List ℕ) (all : AllBytes s) where
       let inner : viewOf s (p .inside) ≡ string (viewOf s salt) ++ uint32 rounds =
       sym (rest-within s (p .inside) (omega (arith, r .place .placed))) ∙ a .text
       ∙ ap (λ (x : List ℕ). string (viewOf s salt) ++ x) (b .0 ∙ ap (λ (x : List ℕ). uint32 rounds ++ x) z ∙ append-nil (uint32 rounds)) in
-      (rw inner at (r .text), b .1)
+      let start : salt .start ≡ c .at + 8 = omega (arith, a .place .placed, r .place .placed) in
+      (rw inner at (r .text), b .1, ap₂ part start (sym (a .size)))
 
   kdf-text :
       (c : Cursor) (k : Kdf) (salt : Part) (rounds : ℕ) (d : Cursor) → kdfAt s c ≡ kdf-field.Options k salt rounds d
       → (rest s c ≡ string (kdfName k) ++ (string (options k (viewOf s salt) rounds) ++ rest s d)) × OptionsFit k (viewOf s salt) rounds
+      × (salt ≡ saltFrom (c .at + 4 + length (kdfName k)) k (length (viewOf s salt)))
   kdf-text c k salt rounds d e =
       let p = kdf-place s c k salt rounds d e in
-      let n = string-read s all c (p .name) (p .after) (p .name-read) .text in
+      let n = string-read s all c (p .name) (p .after) (p .name-read) in
       let o = options-text k (p .after) salt rounds d (p .options-are) in
-      (rw (p .name-is) at n ∙ ap (λ (x : List ℕ). string (kdfName k) ++ x) (o .0), o .1)
+      let size : length (kdfName k) ≡ p .name .length = ap length (sym (p .name-is)) ∙ n .size in
+      let after : p .after .at ≡ c .at + 4 + length (kdfName k) = omega (arith, size, n .place .placed) in
+      (rw (p .name-is) at (n .text) ∙ ap (λ (x : List ℕ). string (kdfName k) ++ x) (o .0), o .1, o .2 ∙ ap (λ (i : ℕ). saltFrom i k (length (viewOf s salt))) after)
 
   -- an accepted public blob
   record BlobText (c : Cursor) (a : Algorithm) (b point : Part) (d : Cursor) : Type 0 where
@@ -97,6 +117,10 @@ module _ (s : List ℕ) (all : AllBytes s) where
     pub tag : pointTag a (viewOf s point) ≡ true
     pub good : d .at ≤ length s
     pub end : d .end ≡ c .end
+    pub size : length (viewOf s b) ≡ b .length
+    pub ends : b .start + b .length ≡ d .at
+    pub point-size : length (viewOf s point) ≡ point .length
+    pub point-ends : point .start + point .length ≡ d .at
 
   blob-text : (c : Cursor) (a : Algorithm) (b point : Part) (d : Cursor) → blobFieldAt s c ≡ blob-field.Key a b point d → BlobText c a b point d
   blob-text c a b point d e =
@@ -111,6 +135,10 @@ module _ (s : List ℕ) (all : AllBytes s) where
         tag = k .2;
         good = omega (arith, r .place .placed);
         end = r .place .placed .end;
+        size = r .size;
+        ends = sym (r .place .placed .after);
+        point-size = k .4;
+        point-ends = k .3 ∙ sym (r .place .placed .after);
       }
 
   -- an accepted header
@@ -123,6 +151,11 @@ module _ (s : List ℕ) (all : AllBytes s) where
     pub long : length (viewOf s (h .point)) ≡ publicLength (h .algorithm)
     pub tag : pointTag (h .algorithm) (viewOf s (h .point)) ≡ true
     pub good : h .section ≤ length s
+    pub salt-lies : h .salt ≡ saltPlace (h .cipher) (h .kdf) (length (viewOf s (h .salt)))
+    pub blob-size : length (viewOf s (h .blob)) ≡ h .blob .length
+    pub blob-ends : h .blob .start + h .blob .length ≡ h .section
+    pub point-size : length (viewOf s (h .point)) ≡ h .point .length
+    pub point-ends : h .point .start + h .point .length ≡ h .section
 
   -- the four reads, one after the other
   joined :
@@ -142,7 +175,7 @@ module _ (s : List ℕ) (all : AllBytes s) where
       record {
         fits = cipher-place s cipher c p₁ .fits;
         text =
-            t₁
+            t₁ .0
             ∙ ap (λ (x : List ℕ). magic ++ (string (cipherName cipher) ++ x))
             (t₂ .0
             ∙ ap (λ (x : List ℕ). string (kdfName k) ++ (string (options k (viewOf s salt) rounds) ++ x))
@@ -153,6 +186,11 @@ module _ (s : List ℕ) (all : AllBytes s) where
         long = t₄ .long;
         tag = t₄ .tag;
         good = t₄ .good;
+        salt-lies = t₂ .2 ∙ ap (λ (i : ℕ). saltFrom (i + 4 + length (kdfName k)) k (length (viewOf s salt))) (t₁ .1);
+        blob-size = t₄ .size;
+        blob-ends = t₄ .ends;
+        point-size = t₄ .point-size;
+        point-ends = t₄ .point-ends;
       }
 
   pub header-text : (h : Header) → headerAt s ≡ header-read.Header h → HeaderText h

@@ -1,5 +1,5 @@
 -- Inversion: a public key or a blob that was read stands at its place as the format writes it.
-use Prim.Native.Nat.{ℕ, _+_, _-_, _*_}
+use Prim.Native.Nat.{ℕ, _+_, _-_, _*_, _≤_}
 use native.Mathlib.Nat.{add-zero}
 use native.Mathlib.Omega.{arith}
 use mathlib.Core.Path.{_≡_, refl, sym, _∙_, ap}
@@ -10,7 +10,7 @@ use lib.Dec.{eqb}
 use lib.ListN.{length, getD}
 use Rattle.fields.specs.Bytes.{string, AllBytes}
 use Rattle.fields.specs.Fields.{onField, stringAt, fixedAt, endAt, viewOf}
-use Rattle.fields.specs.Place.{clash, by-field, by-bool, by-ending, fixed-place}
+use Rattle.fields.specs.Place.{clash, by-field, by-bool, by-ending, fixed-place, string-place}
 use Rattle.fields.specs.Rest.{rest, view-byte}
 use Rattle.fields.specs.Read.{StringRead, string-read, end-read}
 use Rattle.fields.specs.declared.Cursor.{Cursor}
@@ -52,6 +52,13 @@ by-public (public.Refused f) refused key′ = refused f refl
 by-public (public.Key a p c) refused key′ = key′ a p c refl
 
 module _ (s : List ℕ) (all : AllBytes s) where
+  -- the place after a part is its end, within what encloses it, and the part is as long as it looks
+  abbrev pub Lies : Part → Cursor → Type 0
+  Lies p d = (d .at ≡ p .start + p .length) × (d .at ≤ d .end) × (length (viewOf s p) ≡ p .length)
+
+  lies : (c : Cursor) (p : Part) (d : Cursor) → StringRead s c p d → Lies p d
+  lies c p d r = (r .place .placed .after, r .place .placed .inside, r .size)
+
   -- a point is a string of its length that begins with 4
   point-read :
       (c : Cursor) (k : Curve) (p : Part) (d : Cursor) → pointAt s c k ≡ field.Part p d
@@ -77,7 +84,7 @@ module _ (s : List ℕ) (all : AllBytes s) where
   pub ecdsa-public-read :
       (c : Cursor) (k : Curve) (p : Part) (d : Cursor) → ecdsaPublicAt s c ≡ ecdsa.Point k p d
       → (rest s c ≡ string (curveName k) ++ (string (viewOf s p) ++ rest s d)) × (length (viewOf s p) ≡ 1 + 2 * sizeOf k)
-      × (pointTag (Ecdsa k) (viewOf s p) ≡ true) × (d .end ≡ c .end)
+      × (pointTag (Ecdsa k) (viewOf s p) ≡ true) × (d .end ≡ c .end) × Lies p d
   unfolding ecdsaPublicAt
   ecdsa-public-read c k p d e =
       by-field (stringAt s c)
@@ -102,13 +109,14 @@ module _ (s : List ℕ) (all : AllBytes s) where
         t .1,
         t .2,
         t .0 .place .placed .end ∙ r .place .placed .end,
+        lies b p d (t .0),
       ))))
 
   -- the fields after the name: Ed25519's public string, or curve and point
   ecdsa-key-read :
       (c : Cursor) (named : Curve) (a : Algorithm) (p : Part) (d : Cursor) → ecdsaKeyAt s c named ≡ public.Key a p d
       → (a ≡ Ecdsa named) × (rest s c ≡ string (curveName named) ++ (string (viewOf s p) ++ rest s d))
-      × (length (viewOf s p) ≡ 1 + 2 * sizeOf named) × (pointTag (Ecdsa named) (viewOf s p) ≡ true)
+      × (length (viewOf s p) ≡ 1 + 2 * sizeOf named) × (pointTag (Ecdsa named) (viewOf s p) ≡ true) × (d .end ≡ c .end) × Lies p d
   unfolding ecdsaKeyAt
   ecdsa-key-read c named a p d e =
       by-ecdsa (ecdsaPublicAt s c)
@@ -123,7 +131,7 @@ module _ (s : List ℕ) (all : AllBytes s) where
       let o : q ≡ p = cc in
       let m : x ≡ d = cc in
       let r = ecdsa-public-read c named p d (rw (j, o, m) at w) in
-      (cc, r .0, r .1, r .2))
+      (cc, r .0, r .1, r .2, r .3, r .4))
       (λ v. let h = rw v at g in clash cc))
 
   -- an accepted public key
@@ -131,6 +139,8 @@ module _ (s : List ℕ) (all : AllBytes s) where
     pub text : rest s c ≡ blob a (viewOf s p) ++ rest s d
     pub long : length (viewOf s p) ≡ publicLength a
     pub tag : pointTag a (viewOf s p) ≡ true
+    pub end : d .end ≡ c .end
+    pub lies : Lies p d
 
   -- the name, then the fields that it asks for
   pub named-text : (c : Cursor) (n : Part) (b : Cursor) (a : Algorithm) → stringAt s c ≡ field.Part n b → algorithmNamed (viewOf s n) ≡ algorithm-name.Known a
@@ -167,6 +177,8 @@ module _ (s : List ℕ) (all : AllBytes s) where
             text = named-text c n b Ed25519 w v ∙ ap (λ (y : List ℕ). string (algorithmName Ed25519) ++ y) (r .text) ∙ sym (blob-then Ed25519 (viewOf s p) (rest s d));
             long = r .size ∙ f .1;
             tag = refl;
+            end = r .place .placed .end ∙ string-place s c n b w .placed .end;
+            lies = lies b p d r;
           }))
       go n b w (Ecdsa named) v h =
           let r = ecdsa-key-read b named a p d h in
@@ -177,12 +189,15 @@ module _ (s : List ℕ) (all : AllBytes s) where
                 ∙ sym (blob-then (Ecdsa named) (viewOf s p) (rest s d));
             long = r .2;
             tag = r .3;
+            end = r .4 ∙ string-place s c n b w .placed .end;
+            lies = r .5;
           })
 
   -- an accepted blob
   pub blob-read :
       (c : Cursor) (a : Algorithm) (p : Part) → blobAt s c ≡ key.Key a p
       → (rest s c ≡ blob a (viewOf s p)) × (length (viewOf s p) ≡ publicLength a) × (pointTag a (viewOf s p) ≡ true)
+      × (p .start + p .length ≡ c .end) × (length (viewOf s p) ≡ p .length)
   unfolding blobAt
   blob-read c a p e =
       by-public (publicKeyAt s c)
@@ -196,4 +211,6 @@ module _ (s : List ℕ) (all : AllBytes s) where
       let i : j ≡ a = cc in
       let o : q ≡ p = cc in
       let r = public-key-read c a p d (rw (i, o) at w) in
-      (r .text ∙ ap (λ (y : List ℕ). blob a (viewOf s p) ++ y) (end-read s d v .0) ∙ append-nil (blob a (viewOf s p)), r .long, r .tag)))
+      let z = end-read s d v in
+      let closes : p .start + p .length ≡ c .end = omega (arith, r .lies .0, r .lies .1, r .end, z .1) in
+      (r .text ∙ ap (λ (y : List ℕ). blob a (viewOf s p) ++ y) (z .0) ∙ append-nil (blob a (viewOf s p)), r .long, r .tag, closes, r .lies .2)))
