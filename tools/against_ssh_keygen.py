@@ -6,6 +6,7 @@
 Nothing is stored. Without ssh-keygen it says so and succeeds.
 """
 import base64
+import hashlib
 import pathlib
 import shutil
 import subprocess
@@ -25,15 +26,25 @@ def armour(image):
     return b"\n".join([BEGIN, *lines, END, b""])
 
 
-def blob_by_ssh_keygen(image, passphrase=""):
-    """The public blob that ssh-keygen finds in an image, which it decrypts with the passphrase."""
+def word_by_ssh_keygen(image, options):
+    """The second word that ssh-keygen prints of an image, None where it refuses it."""
     with tempfile.TemporaryDirectory() as folder:
         path = pathlib.Path(folder) / "key"
         path.touch(mode=0o600)
         path.write_bytes(armour(image))
-        words = ["ssh-keygen", "-y", "-P", passphrase, "-f", path]
+        words = ["ssh-keygen", *options, "-f", path]
         run = subprocess.run(words, stdin=subprocess.DEVNULL, capture_output=True)
-    return base64.b64decode(run.stdout.split()[1]) if run.returncode == 0 else None
+    return run.stdout.split()[1] if run.returncode == 0 else None
+
+
+def blob_by_ssh_keygen(image, passphrase=""):
+    """The public blob that ssh-keygen finds in an image, which it decrypts with the passphrase."""
+    word = word_by_ssh_keygen(image, ["-y", "-P", passphrase])
+    return None if word is None else base64.b64decode(word)
+
+
+def fingerprint(blob):
+    return b"SHA256:" + base64.b64encode(hashlib.sha256(blob).digest()).rstrip(b"=")
 
 
 def hold(title, good):
@@ -62,6 +73,23 @@ def hold_corpus():
                     hold(f"{path.name} written", blob_by_ssh_keygen(written_again(image, comment)) == blob)
 
 
+def with_sections(image, at):
+    """The image whole, and with its section, which begins at that place, missing, short, damaged and too long."""
+    yield from (image, image[:at], image[: at + 1], image[: (at + len(image)) // 2])
+    yield from (image[:at] + bytes(len(image) - at), image + b"xx")
+
+
+def hold_headers():
+    """ssh-keygen -l goes by the header alone: every accepted header, whatever its section, gives the same public key."""
+    for path in sorted(CORPUS.glob("*.bin")):
+        image = path.read_bytes()
+        half = model.read_header(image)
+        if half.number == 0:
+            for other in with_sections(image, half.section):
+                hold(f"{path.name} by its header", model.read_header(other) == half)
+                hold(f"{path.name} by -l", word_by_ssh_keygen(other, ["-l"]) == fingerprint(content(image, half.blob)))
+
+
 def hold_new_keys(times):
     """New keys of ssh-keygen: accepted and in the form, but for scalars that it shortened."""
     for kind, words in KINDS * times:
@@ -75,6 +103,7 @@ def main():
         print("skipped: no ssh-keygen here")
         return
     hold_corpus()
+    hold_headers()
     hold_new_keys(5)
     print("the model and ssh-keygen agree")
 

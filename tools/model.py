@@ -1,6 +1,6 @@
-"""Document 01's reading rules once more, in plain Python: a second opinion.
+"""The reading rules of document 01, and of document 02's request One, once more, in plain Python: a second opinion.
 
-This file was written from document 01 and from the readings recorded in docs/DECISIONS.md, and from no other code of
+This file was written from these and from the readings recorded in docs/DECISIONS.md, and from no other code of
 this project. Nothing is proved here. It says what the reader, the form and the inspection program should answer, so
 that the two can be held against each other (make_vectors.py stores its answers).
 

@@ -11,7 +11,7 @@ For each vector there are in stdout
     part goes by its place alone, and is empty where that isn't within the image,
   - `section` and 14 numbers, what the section read says of the image and of the record's header half alone: number, count,
     at, kind, checkint, padding, then start and length of scalar, comment, ciphertext and tag; all 0 after `at` where it is
-    refused.
+    refused. The half itself, which the answer hands back, isn't printed again.
 """
 from typing import NamedTuple
 

@@ -24,7 +24,7 @@ extern "C" {
 /* The number of a reply. The first condition that holds, in the order of reading or writing, gives it. */
 enum {
     SALTORCHARD_ACCEPTED = 0,
-    SALTORCHARD_LENGTH = 1,          /* a field runs past its end, or has a wrong length or key count; not the image's header */
+    SALTORCHARD_LENGTH = 1,          /* a field runs past its end, or has a wrong length or key count; a header that isn't this image's */
     SALTORCHARD_FORMAT = 2,          /* wrong magic, padding byte, point tag or leading scalar byte */
     SALTORCHARD_CRYPTO = 3,          /* checkints, KDF use, ciphertext length, Ed25519 halves */
     SALTORCHARD_UNKNOWN = 4,         /* unknown name or code, or curve unlike its algorithm */

@@ -78,22 +78,29 @@ static int in_header(const bytes *image, saltorchard_image refused)
     return refused.at < end_of(blob_of(image)) && !kdf_without_cipher;
 }
 
-/* Reads an image whole and in halves. After a refused header there is nothing to go on from. */
-static void reads_at(int line, const bytes *image, saltorchard_image want)
+/* Reads an image in halves, whose whole read gives `want`. After a refused header there is nothing to go on from. */
+static void halves_at(int line, const bytes *image, saltorchard_image want)
 {
     static bytes before;
     int refused = want.number != 0 && in_header(image, want);
     saltorchard_image header = refused ? want : header_record(image);
     before = *image;
-    image_at(line, saltorchard_read(image->at, image->length), want);
     image_at(line, saltorchard_read_header(image->at, image->length), header);
     image_at(line, saltorchard_read_section(image->at, image->length, header), refused ? refusal(1, 0, 0) : want);
     true_at(line, memcmp(&before, image, sizeof before) == 0, "the image stays");
 }
 
+/* Reads an image whole and in halves. */
+static void reads_at(int line, const bytes *image, saltorchard_image want)
+{
+    image_at(line, saltorchard_read(image->at, image->length), want);
+    halves_at(line, image, want);
+}
+
 #define CHECK(ok) true_at(__LINE__, (ok), #ok)
 #define REPLY(got, number, count, at, length) reply_at(__LINE__, (got), (number), (count), (at), (length))
 #define READS(image, want) reads_at(__LINE__, (image), (want))
+#define HALVES(image, want) halves_at(__LINE__, (image), (want))
 
 /* ---- the lent buffer: junk before, in and after it, and what all of it must be after a call */
 
@@ -464,7 +471,7 @@ static void cut_or_longer(void)
         other.length = n;
         saltorchard_image r = saltorchard_read(other.at, n);
         CHECK(r.number == 1 && r.count == 0 && r.kind == 0 && r.at <= n);
-        READS(&other, r);
+        HALVES(&other, r);
         other.length = 242;
     }
     for (size_t n = 1; n < 9; n++) {
@@ -988,7 +995,7 @@ static void halves_damaged(void)
             for (size_t c = 0; c < 3; c++) {
                 now("halves, damage of byte", i);
                 image.at[i] ^= CHANGES[c];
-                READS(&image, saltorchard_read(image.at, image.length));
+                HALVES(&image, saltorchard_read(image.at, image.length));
                 image.at[i] ^= CHANGES[c];
             }
         }

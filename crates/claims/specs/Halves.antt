@@ -1,6 +1,7 @@
--- Document 02, request One. The full read is the header read followed by the section read, with the same replies, for every input: as records, with
--- the form, and in C's numbers. A half that isn't what an accepted header read of its image gives is 1, at 0. Step 7's 3 is the section's.
+-- Document 02, request One. The full read is the header read followed by the section read, with the same replies, for every input: as fields or
+-- refusal, with the form, and in C's numbers. A half that isn't what an accepted header read of its image gives is 1, at 0. Step 7's 3 is the section's.
 use Prim.Native.Nat.{ℕ}
+use native.Mathlib.Omega.{arith}
 use mathlib.Core.Path.{_≡_, sym, _∙_, ap}
 use mathlib.Core.List.{List}
 use Rattle.fields.specs.Bytes.{uint32, string}
@@ -20,8 +21,12 @@ use Rattle.header.specs.declared.HeaderRead.{HeaderRead}
 use Rattle.header.specs.declared.HeaderRead.the-variants as header-read
 use Rattle.header.specs.Header.{onHeaderRead, headerAt, answersHeader}
 use Rattle.halves.specs.Halves.{isHeader, by-header, header-passes, passes-header}
+use Rattle.section.specs.declared.Kind.{Kind}
+use Rattle.section.specs.declared.Kind.the-variants.{Plain, Encrypted}
+use Rattle.judge.specs.Judge.{kindCode}
 use Rattle.container.specs.declared.ImageRead.{ImageRead}
 use Rattle.container.specs.declared.ImageRead.the-variants as read
+use Rattle.container.specs.declared.FormRead.{FormRead}
 use Rattle.container.specs.declared.FormRead.the-variants as form-read
 use Rattle.container.specs.Container.{noFields, sectionAt, readAt, sectionReadAt, toldRead, answersRead, answersSection}
 use Rattle.container.specs.Form.{withForm, formReadAt, sectionFormAt}
@@ -82,9 +87,21 @@ half-forged-c s x forged =
     (λ f e. rw e)
     (λ h e. rw (e, fails (sameImage x (halfImage h)) (λ same. forged h e (image-same x (halfImage h) same))))
 
--- so a full read's answer, or any whose kind isn't 3
+-- so any whose kind isn't 3, as a full read's answer never is
 pub other-kind : (s : List ℕ) (x : Image) → (x .kind ≡ 3 → ⊥) → sectionC s x ≡ forgedHalf
 other-kind s x unlike = half-forged-c s x (λ h e same. unlike (ap (λ (y : Image). y .kind) same))
+
+never-three : (r : FormRead) → imageOf r .kind ≡ 3 → ⊥
+unfolding imageOf
+never-three (form-read.Refused f) e = clash (let z : _≡_ {A = ℕ} 0 3 = e in omega arith)
+never-three (form-read.Record f form) e = accepted (f .section .kind) e
+  where
+    accepted : (k : Kind) → kindCode k ≡ 3 → ⊥
+    accepted Plain z = clash (let y : _≡_ {A = ℕ} 1 3 = z in omega arith)
+    accepted Encrypted z = clash (let y : _≡_ {A = ℕ} 2 3 = z in omega arith)
+
+pub full-forged : (s t : List ℕ) → sectionC s (imageOf (formReadAt t)) ≡ forgedHalf
+full-forged s t = other-kind s (imageOf (formReadAt t)) (never-three (formReadAt t))
 
 -- and any with a code that names nothing
 pub no-cipher : (s : List ℕ) (x : Image) → cipherCoded (x .cipher) ≡ cipher-name.Unknown → sectionC s x ≡ forgedHalf

@@ -1,4 +1,5 @@
--- Demand 1: Refusals, Ordered. Demand 2: Reading, Sealed, Form. Demand 3: Change, Front, Sequence. Records and halves handed in: Handed, Halves. What a header says: HeaderAlone. What is printed: Printed.
+-- Demand 1: Refusals, Ordered. Demand 2: Reading, Sealed, Form. Demand 3: Change, Front, Sequence. The two halves of a read:
+-- Halves, HeaderAlone. Records handed in: Handed. What is printed: Printed.
 -- The marked examples: Marked. The paper's wrong programs: ShutOut. The others hold what these rest on.
 pub mod Reading
 pub mod Sealed

@@ -25,6 +25,7 @@ use Rattle.header.specs.declared.HeaderRead.{HeaderRead}
 use Rattle.header.specs.declared.HeaderRead.the-variants as header-read
 use Rattle.header.specs.Header.{onKdf, headerAt}
 use Rattle.header.specs.Read.{HeaderText, header-text}
+use Rattle.halves.specs.Halves.{by-header}
 use Rattle.section.specs.declared.Kind.the-variants.{Plain, Encrypted}
 use Rattle.section.specs.declared.Section.{Section}
 use Rattle.section.specs.declared.SectionRead.the-variants as section-read
@@ -36,11 +37,6 @@ use Rattle.container.specs.declared.Fields.{Fields}
 use Rattle.container.specs.declared.ImageRead.the-variants as read
 use Rattle.container.specs.Container.{kdfNamePlace, sectionAt, readAt}
 use Rattle.container.specs.Back.{SealFits}
-
--- by cases, with the equation in hand
-by-header : {P : Type 0} (w : HeaderRead) → ((f : Fault) → w ≡ header-read.Refused f → P) → ((h : Header) → w ≡ header-read.Header h → P) → P
-by-header (header-read.Refused f) refused accepted = refused f refl
-by-header (header-read.Header h) refused accepted = accepted h refl
 
 -- the two reads of an accepted image
 pub halves : (s : List ℕ) (f : Fields) → readAt s ≡ read.Record f → (headerAt s ≡ header-read.Header (f .header)) × (sectionAt s (f .header) ≡ section-read.Section (f .section))

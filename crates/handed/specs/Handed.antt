@@ -8,7 +8,6 @@ use Rattle.fields.specs.declared.Part.{Part}
 use Rattle.names.specs.declared.Algorithm.{Algorithm}
 use Rattle.names.specs.declared.Cipher.{Cipher}
 use Rattle.names.specs.declared.Kdf.{Kdf}
-use Rattle.names.specs.declared.Kdf.the-variants as kdf
 use Rattle.codes.specs.Codes.{algorithmCoded, cipherCoded, kdfCoded}
 use Rattle.keys.specs.Keys.{onAlgorithmName}
 use Rattle.header.specs.declared.Header.{Header}

@@ -21,6 +21,7 @@ use Rattle.names.specs.declared.Kdf.{Kdf}
 use Rattle.names.specs.declared.Kdf.the-variants as kdf
 use Rattle.names.specs.declared.KdfName.the-variants as kdf-name
 use Rattle.codes.specs.Codes.{cipherCode, kdfCode, algorithmCoded, cipherCoded, kdfCoded, algorithm-coded, cipher-coded, kdf-coded}
+use Rattle.key_laws.specs.Read.{by-algorithm}
 use Rattle.header.specs.declared.Header.{Header}
 use Rattle.header.specs.Place.{by-cipher-name, by-kdf-name}
 use Rattle.halves.specs.Halves.{eqb-self}
@@ -141,14 +142,10 @@ placed-numbers x a c k h e =
     image-same x (halfImage (halfFrom x a c k)) w ∙ ap halfImage same)
     (λ w. let none = rw w at e in clash cc)
 
-by-algorithm-name : {P : Type 0} (w : AlgorithmName) → (w ≡ algorithm-name.Unknown → P) → ((a : Algorithm) → w ≡ algorithm-name.Known a → P) → P
-by-algorithm-name algorithm-name.Unknown unknown known = unknown refl
-by-algorithm-name (algorithm-name.Known a) unknown known = known a refl
-
 pub half-numbers : (x : Image) (h : Header) → halfOf x ≡ half.Header h → x ≡ halfImage h
 unfolding halfOf
 half-numbers x h e =
-    by-algorithm-name (algorithmCoded (codeOf (x .algorithm)))
+    by-algorithm (algorithmCoded (codeOf (x .algorithm)))
     (λ w. let none = rw w at e in clash cc)
     (λ a w.
     let e₁ = rw w at e in

@@ -26,7 +26,7 @@ fn same_place(a: Place, b: Place) -> bool
     (a.start == b.start) & (a.length == b.length)
 }
 
-pub fn same_image(a: Image, b: Image) -> bool
+fn same_image(a: Image, b: Image) -> bool
     ensures { λ r. ⌜ r ≡ sameImage a b ⌝ }
 {
     (a.number == b.number)

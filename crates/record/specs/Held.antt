@@ -3,7 +3,8 @@ use Prim.Native.Nat.{ℕ, _+_, _≤_}
 use native.Mathlib.Nat.{add-zero}
 use native.Mathlib.Omega.{arith}
 use mathlib.Core.Path.{_≡_, refl, sym, _∙_, ap, ap₂}
-use mathlib.Core.Bool.{false}
+use mathlib.Core.Bool.{true, false}
+use borrow.Author.Tests.{eq-eqb}
 use mathlib.Core.List.{List, []}
 use lib.Dec.{eqb}
 use lib.ListN.{length}
@@ -20,8 +21,15 @@ use Rattle.container.specs.declared.Fields.{Fields}
 use Rattle.container.specs.declared.ImageRead.the-variants as read
 use Rattle.container.specs.Container.{readAt, noFields, toldRead}
 use Rattle.container.specs.FormLaws.{by-read}
-use Rattle.found.specs.Found.{foundAt, heldPart}
-use Rattle.record.specs.Reply.{isReply}
+use Rattle.header.specs.declared.Header.{Header}
+use Rattle.header.specs.declared.HeaderRead.the-variants as header-read
+use Rattle.header.specs.Header.{headerAt, toldHeader}
+use Rattle.halves.specs.Halves.{by-header}
+use Rattle.container.specs.Halves.{section-own}
+use Rattle.found.specs.declared.Found.{Found}
+use Rattle.found.specs.Found.{foundOf, foundAt, sectionFoundAt, headerFoundAt, heldPart}
+use Rattle.fields.specs.Place.{clash}
+use Rattle.record.specs.Reply.{isReply, isSectionReply, isHeaderReply}
 
 -- the whole of an image is the image
 whole-view : (s : List ℕ) → viewOf s (part 0 (length s)) ≡ s
@@ -98,3 +106,37 @@ read-then-comment image over v number count at fields r w =
     let zero : number ≡ 0 = r .0 ∙ found-zero (now image) f e in
     let x : isView v image (fields .section .comment) = read-then-view image over v number count at fields (fields .section .comment) r zero w in
     rw (← r .3) x)
+
+-- ---- a header read, then the section read of the header that it gave, is the full read
+
+-- a header without a refusal was accepted
+found-header : (s : List ℕ) → headerFoundAt s .number ≡ 0 → headerAt s ≡ header-read.Header (headerFoundAt s .half)
+unfolding headerFoundAt toldHeader
+found-header s accepted =
+    by-header (headerAt s)
+    (λ f e. clash (let z : numberOf (f .why) ≡ 0 = rw e at accepted in let y : true ≡ false = sym (eq-eqb (numberOf (f .why)) 0 z) ∙ never-zero (f .why) in cc))
+    (λ h e. rw e)
+
+found-section : (s : List ℕ) (half : Header) → headerAt s ≡ header-read.Header half → sectionFoundAt s half ≡ foundAt s
+unfolding sectionFoundAt foundAt
+found-section s half e = ap foundOf (section-own s half e)
+
+pub header-then-section :
+    (image over v : RefT (List ℕ)) (n c a m d b : ℕ) (half : Header) (fields : Fields) → isHeaderReply n c a over half image → n ≡ 0
+    → isSectionReply m d b v fields over half → isReply m d b v fields image
+unfolding heldPart
+header-then-section image over v n c a m d b half fields h accepted r =
+    let zero : headerFoundAt (now image) .number ≡ 0 = sym (h .0) ∙ accepted in
+    let o : isView over image (part 0 (length (now image))) = rw zero at (h .4) in
+    let same : now over ≡ now image = o .0 ∙ whole-view (now image) in
+    let start : over .ptr .1 ≡ image .ptr .1 = o .2 ∙ ap (λ (i : ℕ). image .ptr .1 + i) (whole-start (now image)) ∙ add-zero (image .ptr .1) in
+    let read : headerAt (now image) ≡ header-read.Header half = found-header (now image) zero ∙ ap header-read.Header (sym (h .3)) in
+    let found : sectionFoundAt (now over) half ≡ foundAt (now image) = ap (λ (s : List ℕ). sectionFoundAt s half) same ∙ found-section (now image) half read in
+    let p : Part = heldPart (now image) (foundAt (now image) .number) in
+    let w : (now v ≡ viewOf (now image) p) × (v .ptr .0 ≡ over .ptr .0) × (v .ptr .1 ≡ over .ptr .1 + viewStart (now image) p) = rw (found, same) at (r .4) in (
+      r .0 ∙ ap (λ (f : Found). f .number) found,
+      r .1 ∙ ap (λ (f : Found). f .count) found,
+      r .2 ∙ ap (λ (f : Found). f .at) found,
+      r .3 ∙ ap (λ (f : Found). f .fields) found,
+      (w .0, w .1 ∙ o .1, w .2 ∙ ap (λ (i : ℕ). i + viewStart (now image) p) start),
+    )

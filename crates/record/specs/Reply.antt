@@ -11,7 +11,7 @@ use Rattle.header.specs.declared.Header.{Header}
 use Rattle.found.specs.declared.Found.{Found}
 use Rattle.found.specs.Found.{foundAt, sectionFoundAt, headerFoundAt, heldPart}
 
--- a reply's number, count and place, and what it holds, x over the image or over no bytes of it, are these
+-- n, c and a are the number, the count and the place, and what is held is x, over the image itself or over no bytes of it
 abbrev pub isHeld : {X : Type 0} → ℕ → ℕ → ℕ → X → ℕ → ℕ → ℕ → RefT (List ℕ) → X → RefT (List ℕ) → Type 0
 isHeld number count at x n c a over y image =
     (n ≡ number) × (c ≡ count) × (a ≡ at) × (y ≡ x) × isView over image (heldPart (now image) number)
@@ -29,9 +29,9 @@ isSectionReply number count at over fields image half = isFound (sectionFoundAt 
 
 -- a header and its half
 abbrev pub isHeaderReply : ℕ → ℕ → ℕ → RefT (List ℕ) → Header → RefT (List ℕ) → Type 0
-isHeaderReply n c a over half image =
+isHeaderReply number count at over half image =
     isHeld (headerFoundAt (now image) .number) (headerFoundAt (now image) .count) (headerFoundAt (now image) .at) (headerFoundAt (now image) .half)
-    n c a over half image
+    number count at over half image
 
 -- ---- any two such replies are alike: in their numbers, in what they hold, and in its bytes and place
 

@@ -113,13 +113,6 @@ fn say_later_views(image: &[u8], f: Fields) {
 
 // ---- what the section read says of its header half
 
-fn code_of(kind: Kind) -> usize {
-    match kind {
-        Kind::Plain => 1,
-        Kind::Encrypted => 2,
-    }
-}
-
 fn say_place(part: Part) {
     say_number(part.start);
     say_number(part.length);
@@ -128,7 +121,7 @@ fn say_place(part: Part) {
 fn say_section(section: Section) {
     let kind = section.kind;
     word(b" 0 0 0");
-    say_number(code_of(kind));
+    say_number(judge::kind_code(kind) as usize);
     say_number(section.checkint as usize);
     say_number(section.padding);
     say_place(section.scalar);

@@ -174,7 +174,7 @@ fn header_unlike(header: &Header, record: &Record, bytes: &[u8]) -> Option<&'sta
 }
 
 fn image_unlike(image: &Image, record: &Record, bytes: &[u8]) -> Option<&'static str> {
-    let checkint = if image.is_encrypted() { None } else { Some(record.checkint) };
+    let checkint = if record.kind == model::ENCRYPTED { None } else { Some(record.checkint) };
     let of_the_section = [
         ("as_bytes", std::ptr::eq(image.as_bytes(), bytes)),
         ("checkint", image.checkint() == checkint),

@@ -27,7 +27,7 @@ use denote.Builtin.{u8}
 use denote.Ref.{RefT, NamedLft, now}
 use denote.Signature.{namedLft}
 use denote.Slice.{sliceTy, sliceVal, ShrSlice, shr-slice-copy}
-use denote.Steps.{owned, peeks, heard, nothing}
+use denote.Steps.{peeks, heard, nothing}
 use denote.Struct.At.{spelled, valAt}
 use denote.Struct.Declared.{Declared}
 use denote.Struct.Laws as LL
