@@ -14,7 +14,7 @@ import sys
 import tempfile
 
 import model
-from fetch_corpus import BEGIN, COMMENTS, CORPUS, END, KINDS, PASSPHRASE, new_key
+from fetch_corpus import BEGIN, COMMENTS, CORPUS, END, KINDS, PASSPHRASE, RSA_KINDS, new_key
 from fields import content
 
 PASSPHRASES = {"keygen": PASSPHRASE, "openssh": "mekmitasdigoat", "cryptography": "password"}
@@ -54,9 +54,7 @@ def hold(title, good):
 
 def written_again(image, comment):
     """The image's key, written by the model with another comment and checkint."""
-    answer = model.read(image)
-    point, scalar = content(image, answer.point), content(image, answer.scalar)
-    return model.write_plain(answer.algorithm, point, scalar, 0xFEDCBA98, comment.encode())
+    return model.write_key(image, model.read(image), 0xFEDCBA98, comment.encode())
 
 
 def hold_corpus():
@@ -91,11 +89,15 @@ def hold_headers():
 
 
 def hold_new_keys(times):
-    """New keys of ssh-keygen: accepted and in the form, but for scalars that it shortened."""
+    """New keys of ssh-keygen: accepted and in the form, but for scalars that it shortened. Larger RSA keys take it long; the
+    corpus has some."""
     for kind, words in KINDS * times:
         image = new_key(words, "oven-7", ["-N", ""])
         if kind == "ed25519" or model.read(image).number != 1:
             hold(f"new {kind}", model.form(image))
+    for kind, words in RSA_KINDS[:2] * times:
+        image = new_key(words, "oven-7", ["-N", ""])
+        hold(f"new {kind}", model.form(image) and f"bits {words[-1]}\n" in model.report(image))
 
 
 def main():

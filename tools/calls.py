@@ -2,12 +2,14 @@
 after another. How they are stored for crates/replay_writing, and what it must print.
 
 In the file of calls every number is 4 bytes, big-endian. A row is how many calls it has, the buffer that is lent to them, the
-length of the image in it, and the calls. A call is its code, three numbers and four texts:
-  0 plain      algorithm, 1 to derive the checkint or 0, checkint; public, private, comment, nothing
+length of the image in it, and the calls. A call is its code, three numbers and seven texts, of which the last are empty where
+fewer are named:
+  0 plain      algorithm, 1 to derive the checkint or 0, checkint; public, private, comment
   1 encrypted  cipher, KDF, rounds; salt, blob, ciphertext, tag
-  2 rewrite    0, 0, 0; image, nothing, nothing, nothing
+  2 rewrite    0, 0, 0; image
   3 change     0 for the length that the last accepted call answered, the lent image's until one was, or 1 for the number
-               that follows, its upper half and its lower half; comment, nothing, nothing, nothing
+               that follows, its upper half and its lower half; comment
+  4 rsa        0, 1 to derive the checkint or 0, checkint; n, e, d, iqmp, p, q, comment
 A text is how many pieces it has, and each piece is the length of a unit, the length of the piece, and the unit, which is
 repeated over the piece. So 65,301 times one byte take 13 bytes.
 
@@ -21,12 +23,14 @@ from typing import NamedTuple
 import model_writing
 from images import point_of, scalar_of
 from model_writing import Reply
+from rsa import NUMBERS
 
-CODES = {"plain": 0, "encrypted": 1, "rewrite": 2, "change": 3}
+CODES = {"plain": 0, "encrypted": 1, "rewrite": 2, "change": 3, "rsa": 4}
 PRIME = 2**56 - 5
 SHORT = 256
 LARGE = 66000  # the longest buffer that the program takes: it has room for an image above the limit
 TEXTS = 70000  # what the texts of a call may have together
+MOST_TEXTS = 7
 FILL = b"\xa1\xb2\xc3\xd4\xe5\xf6\x97"  # no zeros, and no run of one byte
 REPEATED = re.compile(rb"(.{1,13}?)\1{11,}", re.DOTALL)
 
@@ -73,6 +77,11 @@ def plain(algorithm, public=None, private=None, checkint=0x01020304, comment=b"o
     public = point_of(algorithm) if public is None else public
     private = scalar_of(algorithm) if private is None else private
     return Call("plain", (algorithm, public, private, checkint, comment), reply, after)
+
+
+def rsa(key, checkint=0x01020304, comment=b"oven-12", reply=None, after=None):
+    """A call of the writer for RSA keys; the key is a dict of its six numbers. The checkint None is the derived one."""
+    return Call("rsa", (*(key[name] for name in NUMBERS), checkint, comment), reply, after)
 
 
 def encrypted(cipher, kdf, salt, rounds, blob, ciphertext, tag, reply=None, after=None):
@@ -140,6 +149,9 @@ def stored_arguments(entry, arguments):
     if entry == "plain":
         algorithm, public, private, checkint, comment = arguments
         return numbers(algorithm, checkint is None, checkint or 0), [public, private, comment]
+    if entry == "rsa":
+        *six, checkint, comment = arguments
+        return numbers(0, checkint is None, checkint or 0), [*six, comment]
     if entry == "encrypted":
         cipher, kdf, salt, rounds, *texts = arguments
         return numbers(cipher, kdf, rounds), [salt, *texts]
@@ -152,7 +164,7 @@ def stored_arguments(entry, arguments):
 def stored_call(call):
     head, texts = stored_arguments(call.entry, call.arguments)
     assert sum(map(len, texts)) <= TEXTS
-    texts += [b""] * (4 - len(texts))
+    texts += [b""] * (MOST_TEXTS - len(texts))
     return numbers(CODES[call.entry]) + head + b"".join(map(text, texts))
 
 

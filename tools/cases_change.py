@@ -195,6 +195,12 @@ def damaged_rows():
         yield Row(case.title, lent(case.image, turn % 9), calls, len(case.image))
 
 
+def size_with(record, c):
+    """The size of a plain record's image once its comment has c bytes: the section is a multiple of 8."""
+    start = record.section + 4
+    return start + (record.comment[0] + c - start + 7) // 8 * 8
+
+
 def corpus_rows():
     """Real files, their comments changed and changed back: then only what the longest had past the image is cleared."""
     for case in corpus():
@@ -203,8 +209,7 @@ def corpus_rows():
         calls = [change(b"oven"), change(own + b"!" * 9), change(b""), change(own)]
         buffer = lent(case.image, 30)
         if case.title.startswith("keygen-") and record.kind == model.PLAIN:
-            zero = zero_before(record.algorithm, case.image[record.scalar[0]])
-            longest = size_of(record.algorithm, zero, len(own) + 9)
+            longest = size_with(record, len(own) + 9)
             back = case.image + bytes(longest - size) + buffer[longest:]
             calls[-1] = change(own, writes(size), after=back)
         yield Row(case.title, buffer, calls, size)

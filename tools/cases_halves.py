@@ -136,7 +136,7 @@ def plain_cases(base):
     other = plain(algorithm, keypair=keypair_fields(algorithm, point_of(algorithm, "other")))
     zeros = bytes(len(inner(spot(fields, "section.padding").field)))
     yield refused("wrong checkints", put(fields, "section.checkint2", bytes(4)), 3, "section.checkint2")
-    yield refused("an unknown key", changed(fields, {"section.name": b"ssh-rsa"}), 4, "section.name")
+    yield refused("an unknown key", changed(fields, {"section.name": b"ssh-dss"}), 4, "section.name")
     yield refused("another key", other, 5, "section.name")
     yield refused("a long point", padded(longer(fields, "section.point", b"\0")), 6, "section.scalar", -1, 1)
     yield refused("a comment that isn't UTF-8", changed(fields, {"section.comment": b"\xff"}), 7, "section.comment")
@@ -231,7 +231,7 @@ def damaged_headers(base):
         yield refused("cipher", put(fields, "cipher", b"aes512-ctr"), 4, "cipher")
         yield refused("kdf", put(fields, "kdf", b"scrypt"), 4, "kdf")
         yield refused("count", put(fields, "count", b"\0\0\0\2"), 1, "count")
-        yield refused("blob name", put(fields, "blob.name", b"ssh-rsa"), 4, "blob.name")
+        yield refused("blob name", put(fields, "blob.name", b"ssh-dss"), 4, "blob.name")
         yield refused("blob left over", longer(fields, "blob", b"\0\0"), 6, "blob.extra", 0, 2)
         if base.half.kdf == NONE:
             yield refused("options", put(fields, "options", b"\0"), 3, "options")

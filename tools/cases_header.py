@@ -3,7 +3,7 @@ from fields import ALGORITHMS, CIPHER_NAMES, CIPHERS, CURVES, ED25519, KDFS, SIZ
 from images import Case, Field, accepted, bcrypt_options, curve_name, encrypted, join, longer, place, plain
 from images import other_curves, other_kinds, point_of, public_fields, put, put_all, put_length, refused, stream
 
-FOREIGN_NAMES = [b"", b"ssh-rsa", b"ssh-dss", b"ssh-ed448", b"sk-ssh-ed25519@openssh.com", b"ecdsa-sha2-nistp192",
+FOREIGN_NAMES = [b"", b"rsa-sha2-512", b"ssh-dss", b"ssh-ed448", b"sk-ssh-ed25519@openssh.com", b"ecdsa-sha2-nistp192",
                  b"sk-ecdsa-sha2-nistp256@openssh.com", b"ssh-ed25519-cert-v01@openssh.com", b"nistp256"]
 FOREIGN_CURVES = [b"", b"nistp192", b"nistp224", b"secp256r1", b"ecdsa-sha2-nistp256"]
 FOREIGN_CIPHERS = [b"chacha20-poly1305@openssh.com", b"blowfish-cbc", b"arcfour", b"aes128-ecb", b"aes256-gcm",
@@ -81,7 +81,7 @@ def key_count_cases():
     for fields in (plain(1), encrypted(ED25519, b"aes256-ctr")):
         for count in (0, 2, 256, 2**24, 2**31 + 1, 2**32 - 1):
             yield refused(f"key count {count}", put(fields, "count", count.to_bytes(4, "big")), 1, "count")
-        bad = put_all(fields, {"count": bytes(4), "blob.name": b"ssh-rsa"})
+        bad = put_all(fields, {"count": bytes(4), "blob.name": b"ssh-dss"})
         yield refused("key count before the blob", bad, 1, "count")
 
 
@@ -101,7 +101,7 @@ def blob_cases(algorithm, fields):
     for name in FOREIGN_NAMES + list(near_misses(ALGORITHMS[algorithm])):
         if name not in ALGORITHMS:
             yield refused(f"blob name {name}", put(fields, "blob.name", name), 4, "blob.name")
-    yield refused("unknown name alone", put(fields, "blob", [Field("name", b"ssh-rsa")]), 4, "blob.name")
+    yield refused("unknown name alone", put(fields, "blob", [Field("name", b"ssh-dss")]), 4, "blob.name")
     yield refused("name alone", put(fields, "blob", [Field("name", ALGORITHMS[algorithm])]), 1, "blob",
                   8 + len(ALGORITHMS[algorithm]))
     for extra in (1, 4, 8):

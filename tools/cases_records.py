@@ -9,7 +9,7 @@ from cases_plain import size_of
 from cases_rewrite import damaged
 from fields import ED25519, LIMIT, content
 from images import bcrypt_options, corpus, encrypted, join, plain, scalar_of, stream
-from records import CODES, NAMES, PARTS, WIDTHS, Handed, half_of, numbers_of, record_of
+from records import CODES, NAMES, OTHERS, PARTS, WIDTHS, Handed, half_of, index_of, numbers_of, record_of
 
 READ, UNLIKE = (0, 0, 0), (1, 0, 0)  # the section read's replies to a right half of an accepted image and to another
 EMPTY = model.Answer(kind=model.PLAIN)  # the record of a refusal; its kind is the first, since an enum always has one
@@ -110,7 +110,8 @@ def put(record, i, number):
 
 
 def single_cases(base):
-    for i, number in enumerate(numbers_of(base.record)):
+    """All but RSA's numbers, of which cases_rsa_records.py has the cases."""
+    for i, number in enumerate(numbers_of(base.record)[:OTHERS]):
         for value in wrong_values(i, number):
             yield base.handed(put(base.record, i, value), f"number {i} is {value}")
 
@@ -143,23 +144,23 @@ def wrong_places(start, length, end):
     yield from ((2**63, 2**63), (2**64 - 1, 1), (1, 2**64 - 1), (start + 2**32, length + 2**32))
 
 
-def place_cases(base):
-    for part in PARTS:
+def place_cases(base, parts=PARTS):
+    for part in parts:
         own = getattr(base.record, part)
         for start, length in wrong_places(*own, len(base.image)):
             place = (start % 2**64, length % 2**64)
             if place != own:
-                i = len(NAMES) + 2 * PARTS.index(part)
+                i = index_of(part)
                 yield base.handed(put(put(base.record, i, place[0]), i + 1, place[1]), f"{part} is {place}")
 
 
-def swapped_cases(base):
+def swapped_cases(base, pairs):
     """Two parts in each other's place."""
-    for one, other in itertools.combinations(PARTS, 2):
+    for one, other in pairs:
         places = getattr(base.record, one), getattr(base.record, other)
         if places[0] != places[1]:
             numbers = numbers_of(base.record)
-            i, j = (len(NAMES) + 2 * PARTS.index(part) for part in (one, other))
+            i, j = map(index_of, (one, other))
             numbers[i : i + 2], numbers[j : j + 2] = places[1], places[0]
             yield base.handed(record_of(numbers), f"{one} for {other}")
 
@@ -197,9 +198,8 @@ def refused_cases():
 def above(image, record):
     """The record that an encrypted image would have without the limit, given that of the one with a salt byte less."""
     numbers = numbers_of(record)
-    salt = len(NAMES) + 2 * PARTS.index("salt")
-    numbers[salt + 1] += 1
-    for i in (NAMES.index("section"), *(len(NAMES) + 2 * PARTS.index(p) for p in ("blob", "point", "ciphertext", "tag"))):
+    numbers[index_of("salt") + 1] += 1
+    for i in (NAMES.index("section"), *map(index_of, ("blob", "point", "ciphertext", "tag"))):
         numbers[i] += 1
     shifted = record_of(numbers)
     assert content(image, shifted.tag) == stream("tag", 16) and sum(shifted.tag) == len(image)
@@ -232,7 +232,7 @@ def record_cases():
             yield from flipped_cases(base)
         if base.title in CLOSELY:
             yield from place_cases(base)
-            yield from swapped_cases(base)
+            yield from swapped_cases(base, itertools.combinations(PARTS, 2))
     yield from same_record_cases()
     yield from refused_cases()
     yield from large_cases()

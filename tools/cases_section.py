@@ -28,7 +28,7 @@ def checkint_cases(algorithm):
     for second in (bytes(4), b"\x6b\x1d\xfa\xcf", b"\xeb\x1d\xfa\xce", b"\xce\xfa\x1d\x6b"):
         unequal = put(fields, "section.checkint2", second)
         yield refused("unequal checkints", unequal, 3, "section.checkint2")
-        bad = changed(unequal, {"section.name": b"ssh-rsa", "section.comment": b"\xff"})
+        bad = changed(unequal, {"section.name": b"ssh-dss", "section.comment": b"\xff"})
         yield refused("unequal checkints before all else", bad, 3, "section.checkint2")
     for equal in (bytes(4), b"\xff\xff\xff\xff", b"\0\0\0\1", b"\x80\0\0\0"):
         yield accepted("equal checkints", put_all(fields, {"section.checkint1": equal, "section.checkint2": equal}))

@@ -7,7 +7,7 @@
 Without OpenSSH 9.2 its half is left out, and the script says so: the document speaks of no other version. The images
 are the same each time. Their keys are throw-away ones: the Ed25519 pair is RFC 8032's first test, the ECDSA scalars
 come from images.py, and what OpenSSH must have written itself is the corpus's, but for the one file below that has a
-cipher of OpenSSH's which document 01 lacks.
+cipher of OpenSSH's which document 01 lacks. Those of RSA keys are in differences_rsa.py.
 """
 import base64
 import pathlib
@@ -18,6 +18,7 @@ from typing import NamedTuple
 
 import model
 from against_ssh_keygen import armour, blob_by_ssh_keygen
+from differences_rsa import rsa_differences
 from fetch_corpus import CORPUS, PASSPHRASE
 from fields import ED25519, SIZES
 from images import Field, bcrypt_options, changed, encrypted, join, keypair_fields, padded, plain, put
@@ -134,7 +135,7 @@ def crate_differences():
     fields = ed25519()
     yield "KDF none with options that fit", put(fields, "options", bytes(4)), "3 at 31", "reads"
     yield "KDF none with options that don't fit", put_length(fields, "options", 2**32 - 1), "1 at 31", "refuses"
-    yield "RSA", stored("openssh-sshkey-rsa_n"), "4 at 43", "reads"
+    yield "RSA", stored("openssh-sshkey-rsa_n"), "read", "reads"
     yield "DSA", stored("openssh-sshkey-dsa_n"), "4 at 43", "reads"
     yield "security key, ECDSA", stored("openssh-sshkey-ecdsa_sk1"), "4 at 43", "reads"
     yield "security key, Ed25519", stored("openssh-sshkey-ed25519_sk1"), "4 at 43", "reads"
@@ -190,7 +191,7 @@ def encryption_differences():
 
 
 def differences():
-    groups = [crate_differences(), scalar_differences(), section_differences(), encryption_differences()]
+    groups = [crate_differences(), scalar_differences(), section_differences(), encryption_differences(), rsa_differences()]
     rows = [row for group in groups for row in group]
     for number, (title, fields, *rest) in enumerate(rows, 1):
         image = fields if isinstance(fields, bytes) else join(fields)

@@ -1,10 +1,10 @@
-"""Names, and how a field is read: the ground that model.py stands on, from document 01's 'Bytes of the container'."""
+"""Names, and how a field is read and written: the ground that model.py stands on, from document 01's 'Bytes of the container'."""
 
 LIMIT = 65535
 MAGIC = b"openssh-key-v1\0"
 
 # Names in the order of their codes: the code is the place in the list.
-ALGORITHMS = [b"ssh-ed25519", b"ecdsa-sha2-nistp256", b"ecdsa-sha2-nistp384", b"ecdsa-sha2-nistp521"]
+ALGORITHMS = [b"ssh-ed25519", b"ecdsa-sha2-nistp256", b"ecdsa-sha2-nistp384", b"ecdsa-sha2-nistp521", b"ssh-rsa"]
 CURVES = {b"nistp256": 1, b"nistp384": 2, b"nistp521": 3}  # the algorithm that the curve belongs to
 SIZES = {1: 32, 2: 48, 3: 66}
 KDFS = [b"none", b"bcrypt"]
@@ -21,7 +21,7 @@ CIPHERS = [  # name, block size, tag length
     (b"aes256-gcm@openssh.com", 16, 16),
 ]
 CIPHER_NAMES = [name for name, _, _ in CIPHERS]
-ED25519, NONE = 0, 0
+ED25519, RSA, NONE = 0, 4, 0
 ABSENT = (0, 0)
 
 
@@ -83,3 +83,15 @@ def hold_to_length(k, length, field):
 def content(image, part):
     start, length = part
     return image[start : start + length]
+
+
+# ---- what is written
+
+
+def uint32(number):
+    return number.to_bytes(4, "big")
+
+
+def string(*parts):
+    joined = b"".join(parts)
+    return uint32(len(joined)) + joined

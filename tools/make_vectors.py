@@ -11,10 +11,13 @@ of the records handed in records.py.
 In the file of images each is its length, 4 bytes big-endian, and its bytes. For each image there are in stdout
   - `read` and 25 numbers: number, count, at, kind, algorithm, cipher, KDF, rounds, checkint, padding, section (where
     its length, or the ciphertext's, begins), then start and length of blob, point, scalar, comment, salt, ciphertext
-    and tag; 0 for what is absent, and all 0 after `at` where the image is refused,
-  - `views` and 7 numbers: the sum of the bytes of each of these parts,
+    and tag; 0 for what is absent; where the image is refused only number, count, at and 0,
+  - where it is accepted, `views` and 7 numbers: the sum of the bytes of each of these parts,
+  - `rsa` and 19 numbers: bits, start and length of modulus, exponent, d, iqmp, p and q, and the sums of their bytes; only where
+    one of them isn't 0,
   - `header` and 14 numbers, what the header read alone says: number, count, at, algorithm, cipher, KDF, rounds, section,
-    then start and length of blob, point and salt; all 0 after `at` where the header is refused,
+    then start and length of blob, point and salt; where the header is refused only number, count, at and 0,
+  - `header-rsa` and 5 numbers: its bits, start and length of modulus and exponent; only where one of them isn't 0,
   - the inspection program's lines.
 """
 import collections
@@ -34,6 +37,11 @@ from cases_marked import marked_cases
 from cases_plain import plain_rows
 from cases_records import record_cases
 from cases_rewrite import rewrite_rows
+from cases_rsa import rsa_cases
+from cases_rsa_change import rsa_change_rows
+from cases_rsa_images import rsa_image_cases
+from cases_rsa_records import rsa_record_cases
+from cases_rsa_writing import rsa_rows
 from cases_section import section_cases
 from damage import damages
 from fields import content
@@ -47,6 +55,7 @@ MUST_OCCUR = {
     "read": [0, 1, 2, 3, 4, 5, 6, 7, 11],
     "header": [0, 1, 2, 3, 4, 6, 11],
     "plain": [0, 1, 2, 7, 9, 11],
+    "rsa": [0, 1, 2, 7, 9, 11],
     "encrypted": [0, 1, 2, 3, 4, 6, 9, 11],
     "rewrite": [0, 1, 2, 3, 4, 5, 6, 7, 9, 11],
     "change": [0, 1, 2, 3, 4, 5, 6, 7, 8, 9, 10, 11],
@@ -65,6 +74,8 @@ def all_cases():
     yield from section_cases()
     yield from damages()
     yield from half_cases()
+    yield from rsa_cases()
+    yield from rsa_image_cases()
 
 
 def hold_reply(title, meant, answer):
@@ -91,22 +102,31 @@ def images():
     return list(once)
 
 
-def numbers_line(word, numbers):
-    return " ".join([word, *map(str, numbers)]) + "\n"
-
-
 def expected(image):
     """What the replay prints for an image."""
-    answer = model.read(image)
-    numbers = [answer.number, answer.count, answer.at, *records.numbers_of(answer)]
-    sums = [sum(content(image, getattr(answer, part))) for part in records.PARTS]
-    lines = numbers_line("read", numbers) + numbers_line("views", sums)
-    return lines + header_line(model.read_header(image)) + model.report(image)
+    return read_lines(image, model.read(image)) + header_lines(model.read_header(image)) + model.report(image)
 
 
-def header_line(half):
-    numbers = records.chosen(half, records.HEADER_NAMES, records.HEADER_PARTS)
-    return numbers_line("header", [half.number, half.count, half.at, *numbers])
+def reply_line(word, answer, numbers):
+    """The reply, and where it isn't a refusal what follows."""
+    return records.line(word, [answer.number, answer.count, answer.at, *(numbers if answer.number == 0 else [0])])
+
+
+def sums(image, answer, parts):
+    return [sum(content(image, getattr(answer, part))) for part in parts]
+
+
+def read_lines(image, answer):
+    line = reply_line("read", answer, records.chosen(answer, records.NAMES, records.PARTS))
+    if answer.number != 0:
+        return line
+    rsa = records.chosen(answer, records.RSA_NAMES, records.RSA_PARTS) + sums(image, answer, records.RSA_PARTS)
+    return line + records.line("views", sums(image, answer, records.PARTS)) + records.line_if_any("rsa", rsa)
+
+
+def header_lines(half):
+    line = reply_line("header", half, records.chosen(half, records.HEADER_NAMES, records.HEADER_PARTS))
+    return line + records.line_if_any("header-rsa", records.chosen(half, records.RSA_NAMES, records.HEADER_RSA_PARTS))
 
 
 # ---- calls
@@ -117,6 +137,8 @@ def all_rows():
     yield from encrypted_rows()
     yield from rewrite_rows()
     yield from change_rows()
+    yield from rsa_rows()
+    yield from rsa_change_rows()
 
 
 def hold_call(title, meant, reply, before, after):
@@ -149,7 +171,7 @@ def rows():
 def handed():
     """Every record with its image once, in the order in which they were made."""
     once = {}
-    for case in itertools.chain(record_cases(), half_record_cases()):
+    for case in itertools.chain(record_cases(), half_record_cases(), rsa_record_cases()):
         reply, after = records.answer(case)
         hold_call(case.title, case.reply, reply, calls.filled(case.room), after)
         hold_reply(f"{case.title}, its section", case.section, records.section_answer(case))

@@ -1,4 +1,4 @@
-"""The reading rules of document 01, and of document 02's request One, once more, in plain Python: a second opinion.
+"""The reading rules of document 01, and of document 02's requests One and Two, once more, in plain Python: a second opinion.
 
 This file was written from these and from the readings recorded in docs/DECISIONS.md, and from no other code of
 this project. Nothing is proved here. It says what the reader, the form and the inspection program should answer, so
@@ -7,18 +7,20 @@ that the two can be held against each other (make_vectors.py stores its answers)
     read(image)                  the reply and, where it is accepted, the record: an Answer
     read_header(image)           the same of the header alone, up to and with the public blob: a Half
     read_section(image, half)    the full read's Answer, from a half that is handed in and judged first
-    write_plain(...)             a plain image by the writer's rules
+    write_plain(...)             a plain image by the writer's rules; write_rsa(...) of an RSA key
     form(image)                  whether writing the record again, with its own checkint, gives the image back
     report(image)                what the inspection program prints
 
-The full read is the header read and then the section read.
+The full read is the header read and then the section read. The rules on keys are in model_keys.py and rsa.py.
 
 It holds nothing back, compares in no constant time, and is for test keys only.
 """
 from dataclasses import dataclass
 
-from fields import ABSENT, ALGORITHMS, CIPHER_NAMES, CIPHERS, CURVES, ED25519, KDFS, LIMIT, MAGIC, NONE, SIZES
-from fields import Reader, Refused, content, hold_to_length
+from fields import ABSENT, ALGORITHMS, CIPHER_NAMES, CIPHERS, KDFS, LIMIT, MAGIC, NONE, RSA
+from fields import Reader, Refused, content, string, uint32
+from model_keys import RSA_PARTS, compared, private_field, public_fields, read_blob, read_keypair, read_name, rsa_blob
+from model_keys import rsa_keypair
 
 PLAIN, ENCRYPTED = 1, 2
 
@@ -38,6 +40,9 @@ class Half:
     blob: tuple = ABSENT
     point: tuple = ABSENT
     salt: tuple = ABSENT
+    bits: int = 0  # of an RSA key's modulus
+    modulus: tuple = ABSENT
+    exponent: tuple = ABSENT
 
 
 @dataclass(frozen=True)
@@ -51,6 +56,10 @@ class Answer(Half):
     comment: tuple = ABSENT
     ciphertext: tuple = ABSENT
     tag: tuple = ABSENT
+    d: tuple = ABSENT
+    iqmp: tuple = ABSENT
+    p: tuple = ABSENT
+    q: tuple = ABSENT
 
 
 # ---- the three reads
@@ -97,9 +106,9 @@ def half_of_image(image):
     salt, rounds = read_options(reader, kdf)
     read_key_count(reader)  # step 4
     blob = reader.string()  # step 5
-    algorithm, point = read_blob(reader.inside(blob))
+    algorithm, public = read_blob(reader.inside(blob))
     names = dict(algorithm=algorithm, cipher=cipher, kdf=kdf, rounds=rounds)
-    return Half(**names, section=reader.place, blob=blob, point=point, salt=salt)
+    return Half(**names, section=reader.place, blob=blob, salt=salt, **public)
 
 
 def read_magic(reader):
@@ -108,15 +117,6 @@ def read_magic(reader):
     if reader.image[: len(MAGIC)] != MAGIC:
         raise Refused(2, 0)
     reader.place += len(MAGIC)
-
-
-def read_name(reader, names):
-    """A string that must be one of the names; answers its place among them."""
-    field = reader.place
-    name = content(reader.image, reader.string())
-    if name not in names:
-        raise Refused(4, field)
-    return names.index(name)
 
 
 def read_options(reader, kdf):
@@ -153,7 +153,7 @@ def record_from(image, half):
         return Answer(**vars(half), kind=ENCRYPTED, **read_ciphertext(reader, half.cipher))
     if half.kdf != NONE:  # step 7
         raise Refused(3, len(MAGIC + string(b"none")))  # where the KDF's name begins
-    rest = read_plain_section(reader.inside(reader.string()), half.algorithm, content(image, half.point))
+    rest = read_plain_section(reader.inside(reader.string()), half.algorithm, compared(image, half))
     reader.finish()
     return Answer(**vars(half), kind=PLAIN, **rest)
 
@@ -178,18 +178,18 @@ def read_ciphertext(reader, cipher):
 # ---- the plain section
 
 
-def read_plain_section(reader, algorithm, point):
-    """The plain section; algorithm and point are the header's."""
+def read_plain_section(reader, algorithm, public):
+    """The plain section; algorithm and public key are the header's."""
     if reader.left() % 8 != 0:
         raise Refused(1, reader.place)
     checkint = read_checkints(reader)
     key_name = reader.place
-    own_algorithm, own_point, scalar = read_keypair(reader)
-    if own_algorithm != algorithm or own_point != point:
+    own_algorithm, own_public, private = read_keypair(reader)
+    if own_algorithm != algorithm or own_public != public:
         raise Refused(5, key_name)
     comment = read_comment(reader)
     padding = read_padding(reader)
-    return dict(checkint=checkint, scalar=scalar, comment=comment, padding=padding)
+    return dict(checkint=checkint, comment=comment, padding=padding, **private)
 
 
 def read_checkints(reader):
@@ -219,112 +219,38 @@ def read_padding(reader):
     return len(padding)
 
 
-# ---- keys
-
-
-def read_blob(reader):
-    """Step 5, within the blob: name, key fields, end. Answers the algorithm and the point's part."""
-    algorithm = read_name(reader, ALGORITHMS)
-    if algorithm == ED25519:
-        point = reader.fixed(32)
-    else:
-        curve, curve_field = read_curve(reader)
-        point = read_point(reader, curve)
-        hold_to_name(curve, algorithm, curve_field)
-    reader.finish()
-    return algorithm, point
-
-
-def read_keypair(reader):
-    """A section's keypair, by its own name. Answers the algorithm, the point's bytes and the scalar's part."""
-    algorithm = read_name(reader, ALGORITHMS)
-    if algorithm == ED25519:
-        return (algorithm, *read_ed25519_pair(reader))
-    curve, curve_field = read_curve(reader)
-    point = content(reader.image, read_point(reader, curve))
-    scalar = read_scalar(reader, SIZES[curve])
-    hold_to_name(curve, algorithm, curve_field)
-    return algorithm, point, scalar
-
-
-def read_ed25519_pair(reader):
-    public = content(reader.image, reader.fixed(32))
-    field = reader.place
-    start, _ = reader.fixed(64)
-    if reader.image[start + 32 : start + 64] != public:
-        raise Refused(3, field)
-    return public, (start, 32)
-
-
-def read_curve(reader):
-    """The curve string; answers the algorithm that it belongs to, and where the string began."""
-    field = reader.place
-    name = content(reader.image, reader.string())
-    if name not in CURVES:
-        raise Refused(4, field)
-    return CURVES[name], field
-
-
-def read_point(reader, curve):
-    field = reader.place
-    start, length = reader.fixed(1 + 2 * SIZES[curve])
-    if reader.image[start] != 4:
-        raise Refused(2, field)
-    return (start, length)
-
-
-def hold_to_name(curve, algorithm, curve_field):
-    if curve != algorithm:
-        raise Refused(4, curve_field)
-
-
-def read_scalar(reader, size):
-    """SIZE bytes, or SIZE + 1 with a zero first, which is left off."""
-    field = reader.place
-    start, length = reader.string()
-    if length == size + 1:
-        if reader.image[start] != 0:
-            raise Refused(2, field)
-        return (start + 1, size)
-    hold_to_length(size, length, field)
-    return (start, length)
-
-
 # ---- writing, the form
 
 
-def uint32(number):
-    return number.to_bytes(4, "big")
-
-
-def string(*parts):
-    joined = b"".join(parts)
-    return uint32(len(joined)) + joined
-
-
-def public_fields(algorithm, point):
-    """Name and public fields, as they stand in the blob and again in the section."""
-    name = ALGORITHMS[algorithm]
-    if algorithm == ED25519:
-        return string(name) + string(point)
-    return string(name) + string(name[len(b"ecdsa-sha2-") :]) + string(point)
-
-
-def private_field(algorithm, point, scalar):
-    if algorithm == ED25519:
-        return string(scalar, point)
-    if scalar[0] >= 0x80:
-        return string(b"\0", scalar)
-    return string(scalar)
-
-
 def write_plain(algorithm, point, scalar, checkint, comment):
-    """The plain image of these fields, of whatever size. Point and scalar have the lengths of the algorithm."""
+    """The plain image of these fields, of whatever size. Point and scalar have the lengths of the algorithm, which isn't RSA."""
     public = public_fields(algorithm, point)
-    section = uint32(checkint) * 2 + public + private_field(algorithm, point, scalar) + string(comment)
+    return plain_image(public, public + private_field(algorithm, point, scalar), checkint, comment)
+
+
+def write_rsa(numbers, checkint, comment):
+    """The plain image of n, e, d, iqmp, p and q, of whatever size."""
+    return plain_image(rsa_blob(*numbers[:2]), rsa_keypair(numbers), checkint, comment)
+
+
+def plain_image(blob, keypair, checkint, comment):
+    section = uint32(checkint) * 2 + keypair + string(comment)
     padding = bytes(range(1, -len(section) % 8 + 1))
-    header = MAGIC + string(b"none") + string(b"none") + string(b"") + uint32(1) + string(public)
+    header = MAGIC + string(b"none") + string(b"none") + string(b"") + uint32(1) + string(blob)
     return header + string(section, padding)
+
+
+def numbers_of(image, record):
+    """The six numbers of an RSA record."""
+    return [content(image, getattr(record, part)) for part in RSA_PARTS.values()]
+
+
+def write_key(image, record, checkint, comment):
+    """The plain image of a plain record's key with this checkint and comment."""
+    if record.algorithm == RSA:
+        return write_rsa(numbers_of(image, record), checkint, comment)
+    point, scalar = content(image, record.point), content(image, record.scalar)
+    return write_plain(record.algorithm, point, scalar, checkint, comment)
 
 
 def form(image):
@@ -332,8 +258,7 @@ def form(image):
     answer = read(image)
     if answer.kind != PLAIN:
         return answer.kind == ENCRYPTED
-    fields = [content(image, part) for part in (answer.point, answer.scalar, answer.comment)]
-    return write_plain(answer.algorithm, fields[0], fields[1], answer.checkint, fields[2]) == image
+    return write_key(image, answer, answer.checkint, content(image, answer.comment)) == image
 
 
 # ---- the inspection program
@@ -347,6 +272,7 @@ def report(image):
     lines = [
         "kind " + ("plain" if answer.kind == PLAIN else "encrypted"),
         "algorithm " + ALGORITHMS[answer.algorithm].decode(),
+        *([f"bits {answer.bits}"] if answer.algorithm == RSA else []),
         "cipher " + CIPHER_NAMES[answer.cipher].decode(),
         "kdf " + KDFS[answer.kdf].decode(),
     ]

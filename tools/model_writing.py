@@ -1,10 +1,11 @@
-"""Document 01's writing rules once more, in plain Python: a second opinion on the writers, on records
-that are handed in, and on the comment change.
+"""Document 01's writing rules, and those of document 02's request Two, once more, in plain Python: a second opinion on the
+writers, on records that are handed in, and on the comment change.
 
-Like model.py, this was written from document 01 and the readings recorded in docs/DECISIONS.md, and from no other code of
+Like model.py, this was written from the documents and the readings recorded in docs/DECISIONS.md, and from no other code of
 this project. Each entry is handed the lent buffer's bytes and answers its reply and the buffer as it must be afterwards.
 
     plain(algorithm, public, private, checkint, comment, buffer=..)    checkint None: the derived one
+    rsa(n, e, d, iqmp, p, q, checkint, comment, buffer=..)             the same of an RSA key
     encrypted(cipher, kdf, salt, rounds, blob, ciphertext, tag, buffer=..)
     rewrite(image, buffer=..)
     record(fields, image, buffer=..)                                   fields is a model.Answer that was made by hand
@@ -13,8 +14,10 @@ this project. Each entry is handed the lent buffer's bytes and answers its reply
 from typing import NamedTuple
 
 import model
-from fields import CIPHERS, ED25519, KDFS, LIMIT, MAGIC, NONE, SIZES, Reader, Refused, content
-from model import PLAIN, string, uint32
+from fields import CIPHERS, ED25519, KDFS, LIMIT, MAGIC, NONE, SIZES, Reader, Refused, content, string, uint32
+from model import PLAIN
+from model_keys import read_blob
+from rsa import NUMBERS, first_outside, is_mpint
 
 
 class Reply(NamedTuple):
@@ -55,7 +58,7 @@ def hold_to_utf8(comment, at):
         raise Refused(7, at) from None
 
 
-# ---- the plain writer
+# ---- the plain writers
 
 
 def derived_checkint(private):
@@ -85,6 +88,18 @@ def plain(algorithm, public, private, checkint, comment, buffer):
     return placed(model.write_plain(algorithm, public, private, own, comment), buffer)
 
 
+@replying
+def rsa(n, e, d, iqmp, p, q, checkint, comment, buffer):
+    numbers = [n, e, d, iqmp, p, q]
+    if not all(map(is_mpint, numbers)):
+        raise Refused(2, 0)
+    if first_outside(dict(zip(NUMBERS, numbers))) is not None:
+        raise Refused(1, 0)
+    hold_to_utf8(comment, 0)
+    own = derived_checkint(d) if checkint is None else checkint
+    return placed(model.write_rsa(numbers, own, comment), buffer)
+
+
 # ---- the encrypted writer
 
 
@@ -106,7 +121,7 @@ def encrypted(cipher, kdf, salt, rounds, blob, ciphertext, tag, buffer):
 def hold_to_step_5(blob):
     """The reader's refusals within a blob, number and count; the place of a writer's refusal is 0."""
     try:
-        model.read_blob(Reader(blob, 0, len(blob)))
+        read_blob(Reader(blob, 0, len(blob)))
     except Refused as refused:
         raise Refused(refused.number, 0, refused.count) from None
 
@@ -136,8 +151,7 @@ def written_again(image, record):
 
 def with_comment(image, record, comment):
     """The plain writer's image of the record's key and checkint with this comment, of whatever size."""
-    point, scalar = content(image, record.point), content(image, record.scalar)
-    return model.write_plain(record.algorithm, point, scalar, record.checkint, comment)
+    return model.write_key(image, record, record.checkint, comment)
 
 
 # ---- a record that is handed in

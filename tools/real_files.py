@@ -4,14 +4,14 @@
     python3 tools/real_files.py [TIMES] [--need-all]
 
 Each writer that is here makes, of each kind, TIMES plain files (1 if none is said) with each of ten comments, and TIMES
-encrypted ones with each of its ciphers. Of every file the program's whole output must be the model's, and what it says of
-an accepted one must be what the writer was asked for. The first file of each row goes through ./inspect too, in the
-writer's own armour. It exits with 1 if anything differs. A writer that isn't here is named with its Debian package
-and left out; with --need-all that, or a file that a writer could not make, is a failure too.
+encrypted ones with each of its ciphers. RSA keys have 2,048 bits. Of every file the program's whole output must be the
+model's, and what it says of an accepted one must be what the writer was asked for. The first file of each row goes through
+./inspect too, in the writer's own armour. It exits with 1 if anything differs. A writer that isn't here is named with its
+Debian package and left out; with --need-all that, or a file that a writer could not make, is a failure too.
 
 The keys are new and random each time, so the counts differ from run to run. Python's libraries are those of the Python that
-runs this or, where it lacks one, of Debian's. The built program is needed (`rt check inspect`). TIMES 1 makes some 470
-files, and took a minute and a half where the program ran under an emulator.
+runs this or, where it lacks one, of Debian's. The built program is needed (`rt check inspect`). TIMES 1 makes some 570
+files, and with 470 took a minute and a half where the program ran under an emulator.
 """
 import os
 import pathlib
@@ -24,13 +24,16 @@ from typing import NamedTuple
 
 import model
 from fetch_corpus import BEGIN, COMMENTS, KINDS, PASSPHRASE, armour_off
-from fields import ALGORITHMS, CIPHER_NAMES, ED25519, MAGIC, NONE, Reader, Refused, content
+from fields import ALGORITHMS, CIPHER_NAMES, ED25519, MAGIC, NONE, RSA, Reader, Refused, content
+from rsa import NUMBERS
 from written_keys import RUN
 
 ROOT = pathlib.Path(__file__).resolve().parent.parent
-ALL_KINDS = [kind for kind, _ in KINDS]
+BITS = 2048  # of RSA keys; scripts have the same number in their text
+KIND_WORDS = {**dict(KINDS), "rsa": ["-t", "rsa", "-b", str(BITS)]}
+ALL_KINDS = list(KIND_WORDS)
 ALGORITHM = {kind: name.decode() for kind, name in zip(ALL_KINDS, ALGORITHMS)}
-CURVE = {"ed25519": "ed25519", "p256": "secp256r1", "p384": "secp384r1", "p521": "secp521r1"}
+CURVE = {"ed25519": "ed25519", "p256": "secp256r1", "p384": "secp384r1", "p521": "secp521r1", "rsa": "rsa"}
 
 NO_CIPHER, OWN_CIPHER = "none", "own"  # plain, or whichever cipher the writer takes
 ALL_CIPHERS = [name.decode() for name in CIPHER_NAMES if name.decode() != NO_CIPHER]
@@ -81,18 +84,18 @@ def left_by(commands, given=b""):
 
 def by_ssh_keygen(kind, cipher, comment):
     lock = ["-N", ""] if cipher == NO_CIPHER else ["-N", PASSPHRASE, "-Z", cipher, "-a", "1"]
-    return left_by([["ssh-keygen", "-q", *dict(KINDS)[kind], "-C", comment, *lock, "-f", "key"]])
+    return left_by([["ssh-keygen", "-q", *KIND_WORDS[kind], "-C", comment, *lock, "-f", "key"]])
 
 
 def by_puttygen(kind, cipher, comment):
     """The kinds are named as for ssh-keygen. The passphrase comes from standard input, which is empty for none."""
-    words = ["puttygen", "-q", *dict(KINDS)[kind], "-C", comment, "--random-device", "/dev/urandom"]
+    words = ["puttygen", "-q", *KIND_WORDS[kind], "-C", comment, "--random-device", "/dev/urandom"]
     words += ["--new-passphrase", "/dev/stdin", "-O", "private-openssh-new", "-o", "key"]
     return left_by([words], b"" if cipher == NO_CIPHER else PASSPHRASE.encode() + b"\n")
 
 
 def by_dropbear(kind, _cipher, _comment):
-    size = ["-s" if word == "-b" else word for word in dict(KINDS)[kind]]
+    size = ["-s" if word == "-b" else word for word in KIND_WORDS[kind]]
     new = ["dropbearkey", *size, "-f", "own"]
     return left_by([new, ["dropbearconvert", "dropbear", "openssh", "own", "key"]])
 
@@ -106,7 +109,7 @@ def one_by_one(make):
 CRYPTOGRAPHY = """
 import sys
 from cryptography.hazmat.primitives import serialization
-from cryptography.hazmat.primitives.asymmetric import ec, ed25519
+from cryptography.hazmat.primitives.asymmetric import ec, ed25519, rsa
 _, curve, cipher, passphrase, *comments = sys.argv[1:]
 lock = serialization.NoEncryption()
 if cipher != "none":
@@ -114,6 +117,8 @@ if cipher != "none":
 for _ in comments:
     if curve == "ed25519":
         key = ed25519.Ed25519PrivateKey.generate()
+    elif curve == "rsa":
+        key = rsa.generate_private_key(65537, 2048)
     else:
         key = ec.generate_private_key(getattr(ec, curve.upper())())
     form = serialization.Encoding.PEM, serialization.PrivateFormat.OpenSSH
@@ -122,24 +127,27 @@ for _ in comments:
 
 ASYNCSSH = """
 import sys, asyncssh
-algorithm, _, cipher, passphrase, *comments = sys.argv[1:]
+algorithm, curve, cipher, passphrase, *comments = sys.argv[1:]
+size = dict(key_size=2048) if curve == "rsa" else {}
 lock = {}
 if cipher != "none":
     lock = dict(passphrase=passphrase, cipher_name=cipher, rounds=1, ignore_few_rounds=True)
 for comment in comments:
-    key = asyncssh.generate_private_key(algorithm, comment=comment)
+    key = asyncssh.generate_private_key(algorithm, comment=comment, **size)
     sys.stdout.buffer.write(key.export_private_key("openssh", **lock))
 """
 
 TWISTED = """
 import sys
-from cryptography.hazmat.primitives.asymmetric import ec, ed25519
+from cryptography.hazmat.primitives.asymmetric import ec, ed25519, rsa
 from twisted.conch.ssh.keys import Key
 _, curve, cipher, passphrase, *comments = sys.argv[1:]
 lock = None if cipher == "none" else passphrase
 for comment in comments:
     if curve == "ed25519":
         key = Key(ed25519.Ed25519PrivateKey.generate())
+    elif curve == "rsa":
+        key = Key(rsa.generate_private_key(65537, 2048))
     else:
         key = Key(ec.generate_private_key(getattr(ec, curve.upper())()))
     sys.stdout.buffer.write(key.toString("openssh", subtype="v1", comment=comment.encode(), passphrase=lock))
@@ -165,7 +173,8 @@ for _ in comments:
         sys.exit("libssh refused")
 """
 
-# Its default, and one whose tag it leaves off, so that OpenSSH refuses the file too. Each takes most of a second.
+# Its default, and one whose tag it leaves off, so that OpenSSH refuses the file too. Each takes most of a second. It makes no RSA
+# keys.
 SSHPK_CIPHERS = ["aes128-ctr", "aes128-gcm@openssh.com"]
 SSHPK = """
 const sshpk = require("sshpk");
@@ -179,15 +188,20 @@ for (const comment of comments) {
 }
 """
 
-# phpseclib takes most of a second to make a P-521 key, so OpenSSL makes it.
+# phpseclib takes most of a second to make a P-521 or an RSA key, so OpenSSL makes it.
 PHPSECLIB = """
 require "phpseclib3/autoload.php";
 use phpseclib3\\Crypt\\EC;
+use phpseclib3\\Crypt\\RSA;
 [, , $curve, $cipher, $passphrase] = $argv;
 $named = ["private_key_type" => OPENSSL_KEYTYPE_EC, "curve_name" => str_replace("secp256r1", "prime256v1", $curve)];
+$sized = ["private_key_type" => OPENSSL_KEYTYPE_RSA, "private_key_bits" => 2048];
 foreach (array_slice($argv, 5) as $comment) {
     if ($curve == "ed25519") {
         $key = EC::createKey("Ed25519");
+    } elseif ($curve == "rsa") {
+        openssl_pkey_export(openssl_pkey_new($sized), $text);
+        $key = RSA::load($text);
     } else {
         openssl_pkey_export(openssl_pkey_new($named), $text);
         $key = EC::load($text);
@@ -201,7 +215,8 @@ foreach (array_slice($argv, 5) as $comment) {
 ERLANG_VERSION = 'application:load(ssh), {ok, V} = application:get_key(ssh, vsn), io:put_chars(V), halt().'
 ERLANG = """
 [_, Curve, _, _ | Comments] = init:get_plain_arguments(),
-Key = fun() -> public_key:generate_key({namedCurve, list_to_atom(Curve)}) end,
+Kind = case Curve of "rsa" -> {rsa, 2048, 65537}; _ -> {namedCurve, list_to_atom(Curve)} end,
+Key = fun() -> public_key:generate_key(Kind) end,
 Write = fun(C) -> ssh_file:encode([{[{Key(), unicode:characters_to_binary(C)}], []}], openssh_key_v1) end,
 [io:put_chars(Write(C)) || C <- Comments], halt().
 """
@@ -250,7 +265,7 @@ def libraries():
         python_library("asyncssh", "python3-asyncssh", "asyncssh", ASYNCSSH, ciphers=ALL_CIPHERS),
         python_library("Twisted", "python3-twisted", "twisted", TWISTED, **own),
         Writer("libssh", "libssh-4", [*libssh, LIBSSH_VERSION], by_script(*libssh, LIBSSH), kinds=["ed25519"], **silent),
-        Writer("sshpk", "node-sshpk", sshpk, by_script(*node, SSHPK, "--"), SSHPK_CIPHERS),
+        Writer("sshpk", "node-sshpk", sshpk, by_script(*node, SSHPK, "--"), SSHPK_CIPHERS, ALL_KINDS[:4]),
         Writer("phpseclib", "php-phpseclib3", phpseclib, by_script(*php, PHPSECLIB, "--"), **own),
         Writer("Erlang ssh", "erlang-ssh", [*erlang, ERLANG_VERSION], by_script(*erlang, ERLANG, "-extra")),
     ]
@@ -276,7 +291,7 @@ def faults_of(writer, file, answer):
         return [f"the program says {answer!r}, the model {wanted!r}"]
     if answer.startswith("refused"):
         return []
-    asked = [f"algorithm {ALGORITHM[file.kind]}"]
+    asked = [f"algorithm {ALGORITHM[file.kind]}", *([f"bits {BITS}"] if file.kind == "rsa" else [])]
     if file.cipher != OWN_CIPHER:
         asked.append(f"cipher {file.cipher}")
     if file.cipher == NO_CIPHER and writer.takes_comments:
@@ -314,8 +329,8 @@ def refused_field(image, at):
         return "tag", reader.left()
     section.place += 8  # the checkints
     own_name = content(image, Reader(image, section.place, section.end).string())
-    keys = ["public key", "private key"] if own_name == ALGORITHMS[ED25519] else ["curve", "point", "scalar"]
-    for name in ["name", *keys, "comment"]:
+    keys = {ALGORITHMS[ED25519]: ["public key", "private key"], ALGORITHMS[RSA]: NUMBERS}
+    for name in ["name", *keys.get(own_name, ["curve", "point", "scalar"]), "comment"]:
         field = section.place
         _, length = section.string()
         if field <= at < section.place:

@@ -1,17 +1,20 @@
 """Records that are handed in by hand with an image: how they are stored for crates/replay_records, and what it must print.
 
 In the file of records every number is big-endian. A vector is the image's length and the lent buffer's, 4 bytes each, the
-record's 22 numbers, 8 bytes each, so that places near 2**64 can be tried, and the image's bytes. The numbers are kind (1 plain,
+record's 35 numbers, 8 bytes each, so that places near 2**64 can be tried, and the image's bytes. The numbers are kind (1 plain,
 2 encrypted), algorithm, cipher, KDF, rounds, checkint, padding and section, then start and length of blob, point, scalar,
-comment, salt, ciphertext and tag. The lent buffer is filled with calls.py's bytes, in which every change shows.
+comment, salt, ciphertext and tag, then RSA's: bits, and start and length of modulus, exponent, d, iqmp, p and q. The lent
+buffer is filled with calls.py's bytes, in which every change shows.
 
 For each vector there are in stdout
   - the line of a call as calls.py has it, with the entry `record`,
-  - `views` and 14 numbers: the length of each part, and what remains of it modulo the same prime. The views do not judge: a
-    part goes by its place alone, and is empty where that isn't within the image,
+  - `views` and for each part its length and, where that isn't 0, what remains of it modulo the same prime. The views do not
+    judge: a part goes by its place alone, and is empty where that isn't within the image,
+  - `views-rsa` and the same of RSA's six parts, where one of them isn't empty,
   - `section` and 14 numbers, what the section read says of the image and of the record's header half alone: number, count,
-    at, kind, checkint, padding, then start and length of scalar, comment, ciphertext and tag; all 0 after `at` where it is
-    refused. The half itself, which the answer hands back, isn't printed again.
+    at, kind, checkint, padding, then start and length of scalar, comment, ciphertext and tag; where it is refused only
+    number, count, at and 0. The half itself, which the answer hands back, isn't printed again,
+  - `section-rsa` and 8 numbers, start and length of its d, iqmp, p and q, where one of them isn't 0.
 """
 from typing import NamedTuple
 
@@ -25,12 +28,17 @@ from model_writing import Reply
 
 PARTS = ["blob", "point", "scalar", "comment", "salt", "ciphertext", "tag"]
 NAMES = ["kind", "algorithm", "cipher", "kdf", "rounds", "checkint", "padding", "section"]
+RSA_NAMES = ["bits"]
+RSA_PARTS = ["modulus", "exponent", "d", "iqmp", "p", "q"]
 HEADER_NAMES = ["algorithm", "cipher", "kdf", "rounds", "section"]  # of these the header half is made
 HEADER_PARTS = ["blob", "point", "salt"]
+HEADER_RSA_PARTS = ["modulus", "exponent"]
 SECTION_NAMES = ["kind", "checkint", "padding"]
 SECTION_PARTS = ["scalar", "comment", "ciphertext", "tag"]
+SECTION_RSA_PARTS = ["d", "iqmp", "p", "q"]
 CODES = [range(1, 3), range(len(ALGORITHMS)), range(len(CIPHERS)), range(len(KDFS))]  # what the first four may be
-WIDTHS = [2**32, 2**32] + [2**64] * 16  # what the others are below
+WIDTHS = [2**32, 2**32] + [2**64] * 29  # what the others are below
+OTHERS = len(NAMES) + 2 * len(PARTS)  # so many numbers stand before RSA's
 
 
 class Handed(NamedTuple):
@@ -54,17 +62,28 @@ def chosen(record, names, parts):
 
 
 def numbers_of(record):
-    return chosen(record, NAMES, PARTS)
+    return chosen(record, NAMES, PARTS) + chosen(record, RSA_NAMES, RSA_PARTS)
+
+
+def named(numbers, names, parts):
+    places = numbers[len(names) :]
+    return dict(zip(names, numbers)) | dict(zip(parts, zip(places[::2], places[1::2])))
 
 
 def record_of(numbers):
-    names, parts = numbers[: len(NAMES)], numbers[len(NAMES) :]
-    pairs = zip(parts[::2], parts[1::2])
-    return Answer(**dict(zip(NAMES, names)), **dict(zip(PARTS, pairs)))
+    return Answer(**named(numbers[:OTHERS], NAMES, PARTS), **named(numbers[OTHERS:], RSA_NAMES, RSA_PARTS))
+
+
+def index_of(part):
+    """The place of a part's start among a record's numbers; its length follows."""
+    if part in PARTS:
+        return len(NAMES) + 2 * PARTS.index(part)
+    return OTHERS + len(RSA_NAMES) + 2 * RSA_PARTS.index(part)
 
 
 def half_of(record):
-    return Half(**{name: getattr(record, name) for name in HEADER_NAMES + HEADER_PARTS})
+    names = HEADER_NAMES + HEADER_PARTS + RSA_NAMES + HEADER_RSA_PARTS
+    return Half(**{name: getattr(record, name) for name in names})
 
 
 def can_be(numbers):
@@ -86,9 +105,21 @@ def section_answer(handed):
     return model.read_section(handed.image, half_of(handed.record))
 
 
-def section_line(answer):
-    numbers = [answer.number, answer.count, answer.at, *chosen(answer, SECTION_NAMES, SECTION_PARTS)]
-    return " ".join(["section", *map(str, numbers)]) + "\n"
+def line(word, numbers):
+    return " ".join([word, *map(str, numbers)]) + "\n"
+
+
+def line_if_any(word, numbers):
+    """A line that is left out where all of its numbers are 0."""
+    return line(word, numbers) if any(numbers) else ""
+
+
+def section_lines(answer):
+    reply = [answer.number, answer.count, answer.at]
+    if answer.number != 0:
+        return line("section", [*reply, 0])
+    numbers = [*reply, *chosen(answer, SECTION_NAMES, SECTION_PARTS)]
+    return line("section", numbers) + line_if_any("section-rsa", chosen(answer, [], SECTION_RSA_PARTS))
 
 
 def view(image, part):
@@ -96,12 +127,15 @@ def view(image, part):
     return image[start : start + length] if start + length <= len(image) else b""
 
 
+def views(handed, parts):
+    seen = [view(handed.image, getattr(handed.record, part)) for part in parts]
+    return [number for v in seen for number in ([len(v), int.from_bytes(v, "big") % PRIME] if v else [0])]
+
+
 def lines(handed):
     """What is printed of a record."""
-    views = [view(handed.image, getattr(handed.record, part)) for part in PARTS]
-    numbers = [number for v in views for number in (len(v), int.from_bytes(v, "big") % PRIME)]
-    views_line = " ".join(["views", *map(str, numbers)]) + "\n"
-    return calls.line("record", *answer(handed)) + views_line + section_line(section_answer(handed))
+    seen = line("views", views(handed, PARTS)) + line_if_any("views-rsa", views(handed, RSA_PARTS))
+    return calls.line("record", *answer(handed)) + seen + section_lines(section_answer(handed))
 
 
 # ---- how it is stored

@@ -3,10 +3,11 @@
 
     python3 tools/written_keys.py [TIMES]
 
-For each of the four kinds ssh-keygen makes TIMES new keys (3 if none is said) with each of some comments. The program `afresh`
-reads each file and writes its key anew: the same material and comment, with the derived checkint. Then `ssh-keygen -y` must find
-in the new file the public key and the comment of the old one, and the bytes must be those of the independent model. Keys whose scalar ssh-keygen
-shortened are refused by the reader (document 01's fixed width) and are counted apart. The stored corpus is written too.
+For each of the four kinds, and for RSA of two sizes, ssh-keygen makes TIMES new keys (3 if none is said) with each of some
+comments. The program `afresh` reads each file and writes its key anew: the same material and comment, with the derived
+checkint. Then `ssh-keygen -y` must find in the new file the public key and the comment of the old one, and the bytes must be
+those of the independent model. Keys whose scalar ssh-keygen shortened are refused by the reader (document 01's fixed width)
+and are counted apart. The stored corpus is written too; it has RSA keys of up to 8,192 bits.
 It exits with 1 at the first difference. ssh-keygen and the built program are needed (`rt check afresh`).
 """
 import base64
@@ -19,8 +20,8 @@ import tempfile
 import model
 import model_writing
 from against_ssh_keygen import armour
-from fetch_corpus import COMMENTS, CORPUS, KINDS, new_key
-from fields import content
+from fetch_corpus import COMMENTS, CORPUS, KINDS, RSA_KINDS, new_key
+from fields import RSA, content
 
 RUN = pathlib.Path(__file__).resolve().parent / "run_program.sh"
 
@@ -47,9 +48,9 @@ def public_key(image):
 def by_model(image):
     """The model's image of the same material and comment, with the derived checkint."""
     answer = model.read(image)
-    scalar = content(image, answer.scalar)
-    checkint = model_writing.derived_checkint(scalar)
-    return model.write_plain(answer.algorithm, content(image, answer.point), scalar, checkint, content(image, answer.comment))
+    private = content(image, answer.d if answer.algorithm == RSA else answer.scalar)
+    checkint = model_writing.derived_checkint(private)
+    return model.write_key(image, answer, checkint, content(image, answer.comment))
 
 
 def hold(title, image):
@@ -70,10 +71,12 @@ def main():
     if shutil.which("ssh-keygen") is None:
         sys.exit("ssh-keygen is missing")
     times = int(sys.argv[1]) if len(sys.argv) > 1 else 3
-    for kind, words in KINDS:
+    for kind, words in KINDS + RSA_KINDS[:2]:
         images = [new_key(words, comment, ["-N", ""]) for _, comment in COMMENTS for _ in range(times)]
         kept = sum(hold(f"new {kind}", image) for image in images)
         print(f"{kind}: {len(images)} new keys, {kept} written and read again, {len(images) - kept} with a shortened scalar")
+        if kind.startswith("rsa") and kept != len(images):
+            sys.exit("an RSA key was not written")
     stored = sorted(CORPUS.glob("*.bin"))
     kept = sum(hold(path.name, path.read_bytes()) for path in stored)
     print(f"corpus: {len(stored)} files, {kept} written and read again")

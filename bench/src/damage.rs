@@ -3,6 +3,9 @@
 use crate::random::Random;
 use saltorchard::raw::{self, Image, Part};
 
+const ED25519: u64 = 0;
+const RSA: u64 = 4;
+
 fn end(part: Part) -> usize {
     (part.start + part.length) as usize
 }
@@ -20,7 +23,7 @@ pub fn damaged(random: &mut Random, image: &[u8], other: &[u8]) -> Vec<u8> {
         5 => insert(&mut copy, place, random),
         6 => nudge_a_length(random, &mut copy),
         7 => return other_section(image, other),
-        8 => other_algorithm(random, &mut copy),
+        8 => return other_key_field(random, image),
         9 => return other_opening(random, image),
         _ => return inside_the_section(random, image),
     }
@@ -36,8 +39,10 @@ fn insert(copy: &mut Vec<u8>, place: usize, random: &mut Random) {
 /// Adds or takes off a little at one of the length fields.
 fn nudge_a_length(random: &mut Random, copy: &mut [u8]) {
     let record = raw::read(copy);
-    let parts = [record.blob, record.point, record.scalar, record.comment, record.salt, record.ciphertext];
-    let part = random.one_of(&parts);
+    let part = match record.algorithm {
+        RSA => random.one_of(&[record.exponent, record.modulus, record.d, record.iqmp, record.p, record.q]),
+        _ => random.one_of(&[record.blob, record.point, record.scalar, record.comment, record.salt, record.ciphertext]),
+    };
     let after_blob = end(record.blob) + 3;
     let place = if part.start == 0 { after_blob } else { part.start as usize - 1 };
     let by = random.one_of(&[1, 2, 8, 16, 248, 254, 255]);
@@ -52,12 +57,20 @@ fn other_section(image: &[u8], other: &[u8]) -> Vec<u8> {
     copy
 }
 
-/// Another ECDSA algorithm's name in the blob, in a plain section, or in both; the curve stays.
-fn other_algorithm(random: &mut Random, copy: &mut [u8]) {
-    let record = raw::read(copy);
-    if record.algorithm == 0 {
-        return nudge_a_length(random, copy);
+/// Another name or number of the key.
+fn other_key_field(random: &mut Random, image: &[u8]) -> Vec<u8> {
+    let record = raw::read(image);
+    let mut copy = image.to_vec();
+    match record.algorithm {
+        RSA if record.kind == 1 => return other_number(random, image, &record),
+        ED25519 | RSA => nudge_a_length(random, &mut copy),
+        _ => other_algorithm(random, &record, &mut copy),
     }
+    copy
+}
+
+/// Another ECDSA algorithm's name in the blob, in a plain section, or in both; the curve stays.
+fn other_algorithm(random: &mut Random, record: &Image, copy: &mut [u8]) {
     let name: &[u8] = random.one_of(&[b"ecdsa-sha2-nistp256", b"ecdsa-sha2-nistp384", b"ecdsa-sha2-nistp521"]);
     let (in_blob, in_section) = random.one_of(&[(true, false), (false, true), (true, true)]);
     let (blob, section) = (record.blob.start as usize + 4, end(record.blob) + 4 + 8 + 4);
@@ -69,6 +82,52 @@ fn other_algorithm(random: &mut Random, copy: &mut [u8]) {
     }
 }
 
+/// A plain image of an RSA key with one number that is spoiled or of another size, in the blob, in the section, or in both.
+fn other_number(random: &mut Random, image: &[u8], record: &Image) -> Vec<u8> {
+    let parts = [record.modulus, record.exponent, record.d, record.iqmp, record.p, record.q];
+    let numbers = parts.map(|part| image[part.start as usize..end(part)].to_vec());
+    let mut others = numbers.clone();
+    let which = random.one_of(&[0, 0, 0, 1, 1, 2, 3, 4, 5]);
+    spoil(random, &mut others[which]);
+    let (in_blob, in_section) = random.one_of(&[(&others, &numbers), (&numbers, &others), (&others, &others)]);
+    with_numbers(image, record, in_blob, in_section)
+}
+
+/// The image with these numbers in the blob and in the section.
+fn with_numbers(image: &[u8], record: &Image, in_blob: &[Vec<u8>; 6], in_section: &[Vec<u8>; 6]) -> Vec<u8> {
+    let checkints = end(record.blob) + 4;
+    let comment = &image[record.comment.start as usize..end(record.comment)];
+    let blob = strings(&[b"ssh-rsa", &in_blob[1], &in_blob[0]]);
+    let [n, e, d, iqmp, p, q] = in_section;
+    let mut section = image[checkints..checkints + 8].to_vec();
+    section.extend(strings(&[b"ssh-rsa", n, e, d, iqmp, p, q, comment]));
+    section.extend(1..=(section.len().wrapping_neg() % 8) as u8);
+    let mut copy = image[..record.blob.start as usize - 4].to_vec();
+    copy.extend(strings(&[&blob, &section]));
+    copy
+}
+
+fn spoil(random: &mut Random, number: &mut Vec<u8>) {
+    match random.within(0, 6) {
+        0 => number.clear(),
+        1 => number.insert(0, 0),
+        2 => number[0] |= 0x80,
+        3 => number.truncate(random.within(1, 140)),
+        4 => number.resize(random.within(900, 1_100), 1),
+        _ => number.insert(0, 1),
+    }
+}
+
+/// Each with its length before it.
+fn strings(list: &[&[u8]]) -> Vec<u8> {
+    let mut bytes = Vec::new();
+    for string in list {
+        bytes.extend_from_slice(&(string.len() as u32).to_be_bytes());
+        bytes.extend_from_slice(string);
+    }
+    bytes
+}
+
 /// Cipher, KDF and options anew, that may fit each other and the rest or not.
 fn other_opening(random: &mut Random, image: &[u8]) -> Vec<u8> {
     let cipher: &str = random.one_of(&["none", "none", "3des-cbc", "aes192-cbc", "aes256-gcm@openssh.com", "rot13"]);
@@ -76,16 +135,14 @@ fn other_opening(random: &mut Random, image: &[u8]) -> Vec<u8> {
     let options: &[u8] =
         random.one_of(&[b"", b"", b"\0\0\0\x02ab\0\0\0\x18", b"\0\0\0\0\0\0\0\x01", b"\0\0\0\x01abcdefg"]);
     let mut copy = image[..15].to_vec();
-    for string in [cipher.as_bytes(), kdf.as_bytes(), options] {
-        copy.extend_from_slice(&(string.len() as u32).to_be_bytes());
-        copy.extend_from_slice(string);
-    }
+    copy.extend(strings(&[cipher.as_bytes(), kdf.as_bytes(), options]));
     let count = raw::read(image).blob.start as usize - 8;
     copy.extend_from_slice(&image[count..]);
     copy
 }
 
-/// A plain section whose private string, comment or padding is another, with the lengths around it right.
+/// A plain section whose private string, comment or padding is another, with the lengths around it right. For RSA the private
+/// string is all from d on.
 fn inside_the_section(random: &mut Random, image: &[u8]) -> Vec<u8> {
     let record = raw::read(image);
     if record.kind != 1 {
@@ -138,10 +195,7 @@ fn not_quite_utf8(random: &mut Random, comment: &[u8]) -> Vec<u8> {
 fn with_section(image: &[u8], record: &Image, private: &[u8], comment: &[u8], more_padding: usize) -> Vec<u8> {
     let section = end(record.blob) + 4;
     let mut copy = image[..section + 8 + record.blob.length as usize].to_vec();
-    for string in [private, comment] {
-        copy.extend_from_slice(&(string.len() as u32).to_be_bytes());
-        copy.extend_from_slice(string);
-    }
+    copy.extend(strings(&[private, comment]));
     let padding = (copy.len() - section).wrapping_neg() % 8 + more_padding;
     copy.extend(1..=padding as u8);
     let length = (copy.len() - section) as u32;

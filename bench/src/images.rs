@@ -1,9 +1,10 @@
-//! The images: 4,000 of all kinds, all accepted and in the writer's form.
+//! The images: 4,000 of all kinds but RSA, and 400 of RSA, all accepted and in the writer's form.
 
 use crate::random::Random;
 use saltorchard::raw;
 
 pub const COUNT: usize = 4_000;
+pub const RSA_COUNT: usize = 400;
 pub const LIMIT: usize = 65_535;
 const SEED: u64 = 0x5a17_04c8;
 
@@ -17,11 +18,12 @@ const CIPHERS: [(usize, usize); 10] =
 pub struct Images {
     pub small: Vec<Vec<u8>>,
     pub long: Vec<Vec<u8>>,
+    pub rsa: Vec<Vec<u8>>,
 }
 
 pub fn all() -> Images {
     let mut random = Random::new(SEED);
-    let mut images = Images { small: Vec::new(), long: Vec::new() };
+    let mut images = Images { small: Vec::new(), long: Vec::new(), rsa: rsa_images() };
     for i in 0..COUNT {
         let long = i % 40 == 39;
         let image = one(&mut random, long);
@@ -34,6 +36,25 @@ pub fn all() -> Images {
     images
 }
 
+/// From a seed of their own, so that the others are what they were without them.
+fn rsa_images() -> Vec<Vec<u8>> {
+    let mut random = Random::new(SEED + 2);
+    (0..RSA_COUNT).map(|_| one_rsa(&mut random)).collect()
+}
+
+/// Of four images three are plain; most keys have 2,048 to 4,096 bits.
+fn one_rsa(random: &mut Random) -> Vec<u8> {
+    let bits = random.one_of(&[1_024, 2_048, 2_048, 3_072, 3_072, 3_072, 4_096, 8_192]);
+    match random.within(0, 4) {
+        0 => {
+            let cipher = random.within(1, 10);
+            let blob = blob_of(&rsa(random, bits));
+            encrypted(random, &blob, cipher, 1, false)
+        }
+        _ => rsa(random, bits),
+    }
+}
+
 /// Of ten images four are Ed25519, three ECDSA, one for each curve, and three encrypted.
 fn one(random: &mut Random, long: bool) -> Vec<u8> {
     match random.within(0, 10) {
@@ -43,7 +64,8 @@ fn one(random: &mut Random, long: bool) -> Vec<u8> {
         6 => plain(random, 3, long),
         _ => {
             let (algorithm, cipher, kdf) = (random.within(0, 4), random.within(1, 10), random.within(0, 8).min(1));
-            encrypted(random, algorithm, cipher, kdf, long)
+            let blob = blob(random, algorithm);
+            encrypted(random, &blob, cipher, kdf, long)
         }
     }
 }
@@ -57,9 +79,14 @@ pub fn of_each_kind() -> Vec<Vec<u8>> {
         images.push(plain(&mut random, algorithm, false));
     }
     for cipher in 1..10 {
-        images.push(encrypted(&mut random, cipher % 4, cipher, cipher % 5 % 2, false));
-        images.push(encrypted(&mut random, (cipher + 1) % 4, cipher, 1, false));
+        for (algorithm, kdf) in [(cipher % 4, cipher % 5 % 2), ((cipher + 1) % 4, 1)] {
+            let blob = blob(&mut random, algorithm);
+            images.push(encrypted(&mut random, &blob, cipher, kdf, false));
+        }
     }
+    let rsa = rsa(&mut random, 1_024);
+    images.push(encrypted(&mut random, &blob_of(&rsa), 7, 1, false));
+    images.push(rsa);
     images
 }
 
@@ -83,22 +110,46 @@ fn plain(random: &mut Random, algorithm: usize, long: bool) -> Vec<u8> {
     kept(out, reply)
 }
 
-fn encrypted(random: &mut Random, algorithm: usize, cipher: usize, kdf: usize, long: bool) -> Vec<u8> {
-    let blob = blob(random, algorithm);
+/// A made-up number of that many bits, as an mpint.
+fn mpint(random: &mut Random, bits: usize) -> Vec<u8> {
+    let mut number = random.bytes(bits / 8 + 1);
+    let highest = 1 << (bits % 8);
+    number[0] = (number[0] % highest) | (highest / 2);
+    if bits % 8 == 0 {
+        number[1] |= 0x80;
+    }
+    number
+}
+
+fn rsa(random: &mut Random, bits: usize) -> Vec<u8> {
+    let sizes = [bits, 17, bits - random.within(0, 4), bits / 2 - random.within(0, 4), bits / 2, bits / 2];
+    let numbers = sizes.map(|bits| mpint(random, bits));
+    let [n, e, d, iqmp, p, q] = &numbers;
+    let length = random.within(0, 90);
+    let comment = random.comment(length);
+    let mut out = vec![0; LIMIT];
+    let reply = raw::write_rsa([n, e, d, iqmp, p, q], 1, 0, &comment, &mut out);
+    kept(out, reply)
+}
+
+fn encrypted(random: &mut Random, blob: &[u8], cipher: usize, kdf: usize, long: bool) -> Vec<u8> {
     let (block, tag) = CIPHERS[cipher];
     let length = if long { random.within(4_000, 60_000) } else { random.within(136, 300) };
     let ciphertext = random.bytes(length / block * block);
     let (salt, rounds) = if kdf == 1 { (random.bytes(16), 24) } else { (Vec::new(), 0) };
     let tag = random.bytes(tag);
     let mut out = vec![0; LIMIT];
-    let reply = raw::write_encrypted(cipher as u8, kdf as u8, &salt, rounds, &blob, &ciphertext, &tag, &mut out);
+    let reply = raw::write_encrypted(cipher as u8, kdf as u8, &salt, rounds, blob, &ciphertext, &tag, &mut out);
     kept(out, reply)
 }
 
 /// The blob of a made-up key, out of a plain image of it.
 fn blob(random: &mut Random, algorithm: usize) -> Vec<u8> {
-    let image = plain(random, algorithm, false);
-    let blob = raw::read(&image).blob;
+    blob_of(&plain(random, algorithm, false))
+}
+
+fn blob_of(image: &[u8]) -> Vec<u8> {
+    let blob = raw::read(image).blob;
     image[blob.start as usize..(blob.start + blob.length) as usize].to_vec()
 }
 

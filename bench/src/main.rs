@@ -10,7 +10,7 @@ mod timing;
 mod yardstick;
 
 use std::process::exit;
-use timing::{Group, COMPETITORS, JOBS, LIBRARY};
+use timing::{Group, COMPETITORS, GROUPS, JOBS, LIBRARY};
 
 const WARM_UP: usize = 3;
 const ROUNDS: usize = 15;
@@ -48,9 +48,9 @@ fn stop(why: &str) -> ! {
 }
 
 /// Nanoseconds of a pass, by job, group and competitor.
-type Round = [[[f64; COMPETITORS.len()]; 2]; JOBS.len()];
+type Round = [[[f64; COMPETITORS.len()]; GROUPS]; JOBS.len()];
 
-fn round(groups: &mut [Group; 2], turn: usize) -> Round {
+fn round(groups: &mut [Group; GROUPS], turn: usize) -> Round {
     let mut times = Round::default();
     for (job, by_group) in times.iter_mut().enumerate() {
         for (group, by_competitor) in groups.iter_mut().zip(by_group) {
@@ -68,19 +68,19 @@ fn median(mut values: Vec<f64>) -> f64 {
     values[values.len() / 2]
 }
 
-fn print_table(groups: &[Group; 2], rounds: &[Round]) {
+fn print_table(groups: &[Group; GROUPS], rounds: &[Round]) {
     println!("\nMedians of {} rounds after {} to warm up; no buffer is cleared between rounds.\n", ROUNDS, WARM_UP);
     println!("| job | images | calls | bytes | library ns | copy ns | model ns | yardstick ns | to copy | to model | to yardstick |");
     println!("|---|---|---|---|---|---|---|---|---|---|---|");
     for (job, name) in JOBS.iter().enumerate() {
-        for (which, sort) in [(&[0, 1][..], "all"), (&[0], "small"), (&[1], "long")] {
+        for (which, sort) in [(&[0, 1][..], "all but RSA"), (&[0], "small"), (&[1], "long"), (&[2], "RSA")] {
             print_row(groups, rounds, (job, name), (which, sort));
         }
     }
     println!("\nTimes are nanoseconds a call, bytes the mean length of an image; the last three are the library's time to the other's.");
 }
 
-fn print_row(groups: &[Group; 2], rounds: &[Round], (job, name): (usize, &str), (which, sort): (&[usize], &str)) {
+fn print_row(groups: &[Group; GROUPS], rounds: &[Round], (job, name): (usize, &str), (which, sort): (&[usize], &str)) {
     let calls: usize = which.iter().map(|&group| groups[group].calls(job)).sum();
     let bytes: usize = which.iter().map(|&group| groups[group].bytes(job)).sum();
     let time = |competitor: usize| {

@@ -21,7 +21,7 @@ pub fn everywhere(images: &Images) -> Result<Compared, String> {
     for image in images::of_each_kind() {
         byte_by_byte(&mut random, &mut compared, &image)?;
     }
-    for (group, copies) in [(&images.small, 12), (&images.long, 6)] {
+    for (group, copies) in [(&images.small, 12), (&images.long, 6), (&images.rsa, 24)] {
         for (i, image) in group.iter().enumerate() {
             one(&mut random, &mut compared, image)?;
             for _ in 0..copies {
@@ -106,9 +106,10 @@ fn halves(image: &[u8]) -> Result<(), String> {
 
 fn shown(record: &Image) -> String {
     let numbers = [record.number, record.count, record.at, record.kind, record.algorithm, record.cipher, record.kdf];
-    let more = [record.rounds, record.checkint, record.padding, record.form, record.section];
+    let more = [record.rounds, record.checkint, record.padding, record.form, record.section, record.bits];
     let parts = [record.blob, record.point, record.scalar, record.comment, record.salt, record.ciphertext, record.tag];
-    let places: Vec<_> = parts.iter().map(|part| (part.start, part.length)).collect();
+    let rsa = [record.modulus, record.exponent, record.d, record.iqmp, record.p, record.q];
+    let places: Vec<_> = parts.iter().chain(&rsa).map(|part| (part.start, part.length)).collect();
     format!("{:?} {:?} {:?}", numbers, more, places)
 }
 
@@ -137,6 +138,13 @@ fn from_model(answer: Result<model::Record, model::Refusal>) -> Image {
         ciphertext: part(&record.ciphertext),
         tag: part(&record.tag),
         section: record.section,
+        bits: record.bits,
+        modulus: part(&record.modulus),
+        exponent: part(&record.exponent),
+        d: part(&record.d),
+        iqmp: part(&record.iqmp),
+        p: part(&record.p),
+        q: part(&record.q),
     }
 }
 

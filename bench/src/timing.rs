@@ -38,9 +38,16 @@ struct Lent {
     shorter_length: usize,
 }
 
-/// The small images, then the long ones.
-pub fn groups(images: Images) -> [Group; 2] {
-    [Group::new(images.small, (0, 20), (40, 90)), Group::new(images.long, (4_000, 20_000), (30_000, 60_000))]
+pub const GROUPS: usize = 3;
+
+/// The small images, then the long ones, then those of RSA.
+pub fn groups(images: Images) -> [Group; GROUPS] {
+    let (small, long) = ((0, 20), (40, 90));
+    [
+        Group::new(images.small, small, long),
+        Group::new(images.long, (4_000, 20_000), (30_000, 60_000)),
+        Group::new(images.rsa, small, long),
+    ]
 }
 
 impl Group {

@@ -9,7 +9,9 @@ const LIMIT: usize = 65_535;
 const MAGIC: &[u8] = b"openssh-key-v1\0";
 const PADDING: &[u8] = &[1, 2, 3, 4, 5, 6, 7];
 const ABSENT: Part = Part { start: 0, length: 0 };
+const NOWHERE: Span = Span { start: 0, end: 0 };
 const ED25519: u64 = 0;
+const RSA: u64 = 4;
 const PLAIN: u64 = 1;
 const ENCRYPTED: u64 = 2;
 const HEADER: u64 = 3;
@@ -34,6 +36,13 @@ const NOTHING: Image = Image {
     ciphertext: ABSENT,
     tag: ABSENT,
     section: 0,
+    bits: 0,
+    modulus: ABSENT,
+    exponent: ABSENT,
+    d: ABSENT,
+    iqmp: ABSENT,
+    p: ABSENT,
+    q: ABSENT,
 };
 
 struct Refused {
@@ -154,6 +163,7 @@ fn algorithm_of(name: &[u8]) -> Option<u64> {
         b"ecdsa-sha2-nistp256" => Some(1),
         b"ecdsa-sha2-nistp384" => Some(2),
         b"ecdsa-sha2-nistp521" => Some(3),
+        b"ssh-rsa" => Some(RSA),
         _ => None,
     }
 }
@@ -170,8 +180,16 @@ fn curve_of(name: &[u8]) -> Option<(u64, usize)> {
 
 // ---- keys
 
-/// Name and public fields, of the blob or of the section.
+/// A public key, of the blob or of the section: a point, or the two numbers of RSA.
 struct Public {
+    algorithm: u64,
+    point: Span,
+    modulus: Span,
+    exponent: Span,
+}
+
+/// What follows the name of an Ed25519 or ECDSA key.
+struct Elliptic {
     algorithm: u64,
     /// The algorithm that the curve string names.
     curve: u64,
@@ -180,35 +198,60 @@ struct Public {
     point: Span,
 }
 
+/// The algorithm that the string at `at` names, and where that string ends.
 #[inline(always)]
-fn public(part: &[u8], at: usize) -> Step<Public> {
+fn algorithm(part: &[u8], at: usize) -> Step<(u64, usize)> {
     let name = string(part, at)?;
-    let algorithm = match algorithm_of(name.of(part)) {
-        Some(algorithm) => algorithm,
-        None => return refuse(4, at),
-    };
-    if algorithm == ED25519 {
-        let point = fixed(part, name.end, 32)?;
-        return Ok(Public { algorithm, curve: ED25519, curve_at: 0, size: 32, point });
+    match algorithm_of(name.of(part)) {
+        Some(algorithm) => Ok((algorithm, name.end)),
+        None => refuse(4, at),
     }
-    let curve = string(part, name.end)?;
+}
+
+#[inline(always)]
+fn elliptic(part: &[u8], algorithm: u64, at: usize) -> Step<Elliptic> {
+    if algorithm == ED25519 {
+        let point = fixed(part, at, 32)?;
+        return Ok(Elliptic { algorithm, curve: ED25519, curve_at: 0, size: 32, point });
+    }
+    let curve = string(part, at)?;
     let (named, size) = match curve_of(curve.of(part)) {
         Some(curve) => curve,
-        None => return refuse(4, name.end),
+        None => return refuse(4, at),
     };
     let point = fixed(part, curve.end, 1 + 2 * size)?;
     if part[point.start] != 4 {
         return refuse(2, curve.end);
     }
-    Ok(Public { algorithm, curve: named, curve_at: name.end, size, point })
+    Ok(Elliptic { algorithm, curve: named, curve_at: at, size, point })
+}
+
+impl Elliptic {
+    #[inline(always)]
+    fn public(&self) -> Public {
+        Public { algorithm: self.algorithm, point: self.point, modulus: NOWHERE, exponent: NOWHERE }
+    }
 }
 
 #[inline(always)]
-fn hold_to_curve(key: &Public) -> Step<()> {
+fn hold_to_curve(key: &Elliptic) -> Step<()> {
     if key.curve != key.algorithm {
         return refuse(4, key.curve_at);
     }
     Ok(())
+}
+
+/// The blob's key; the blob ends where `part` does.
+#[inline(always)]
+fn blob_key(part: &[u8], at: usize) -> Step<Public> {
+    let (algorithm, at) = algorithm(part, at)?;
+    if algorithm == RSA {
+        return rsa_blob(part, at);
+    }
+    let key = elliptic(part, algorithm, at)?;
+    hold_to_curve(&key)?;
+    finish(key.point.end, part.len())?;
+    Ok(key.public())
 }
 
 /// The private string's scalar or seed, where the string ends, and whether it is in the writer's form.
@@ -219,7 +262,7 @@ struct Private {
 }
 
 #[inline(always)]
-fn seed(part: &[u8], key: &Public) -> Step<Private> {
+fn seed(part: &[u8], key: &Elliptic) -> Step<Private> {
     let at = key.point.end;
     let both = fixed(part, at, 64)?;
     let middle = both.start + 32;
@@ -230,7 +273,7 @@ fn seed(part: &[u8], key: &Public) -> Step<Private> {
 }
 
 #[inline(always)]
-fn scalar(part: &[u8], key: &Public) -> Step<Private> {
+fn scalar(part: &[u8], key: &Elliptic) -> Step<Private> {
     let at = key.point.end;
     let span = string(part, at)?;
     if span.length() == key.size + 1 {
@@ -242,6 +285,104 @@ fn scalar(part: &[u8], key: &Public) -> Step<Private> {
     }
     let scalar = hold_to_length(span, at, key.size)?;
     Ok(Private { scalar, end: span.end, form: part[scalar.start] < 0x80 })
+}
+
+/// The section's keypair: its public key, where it ends, and whether it is in the writer's form.
+struct Pair {
+    public: Public,
+    end: usize,
+    form: bool,
+}
+
+#[inline(always)]
+fn pair(part: &[u8], at: usize, record: &mut Image) -> Step<Pair> {
+    let (algorithm, at) = algorithm(part, at)?;
+    if algorithm == RSA {
+        return rsa_pair(part, at, record);
+    }
+    let key = elliptic(part, algorithm, at)?;
+    let private = if algorithm == ED25519 { seed(part, &key)? } else { scalar(part, &key)? };
+    hold_to_curve(&key)?;
+    record.scalar = private.scalar.part();
+    Ok(Pair { public: key.public(), end: private.end, form: private.form })
+}
+
+#[inline(always)]
+fn same_key(part: &[u8], a: &Public, b: &Public) -> bool {
+    if a.algorithm != b.algorithm {
+        return false;
+    }
+    if a.algorithm == RSA {
+        return a.modulus.of(part) == b.modulus.of(part) && a.exponent.of(part) == b.exponent.of(part);
+    }
+    a.point.of(part) == b.point.of(part)
+}
+
+// ---- RSA
+
+/// A positive number in the fewest bytes.
+#[inline(always)]
+fn mpint(part: &[u8], at: usize) -> Step<Span> {
+    let span = string(part, at)?;
+    let right = match span.of(part) {
+        [0, second, ..] => *second >= 0x80,
+        [first, ..] => (1..0x80).contains(first),
+        [] => false,
+    };
+    if right {
+        Ok(span)
+    } else {
+        refuse(2, at)
+    }
+}
+
+/// The bits of an mpint: a first zero is followed by a full byte.
+#[inline(always)]
+fn bits(part: &[u8], number: Span) -> usize {
+    match part[number.start] {
+        0 => 8 * (number.length() - 1),
+        first => 8 * number.length() - first.leading_zeros() as usize,
+    }
+}
+
+/// Holds the numbers, in the order of reading, to the sizes; `modulus` is one's place.
+#[inline(always)]
+fn hold_to_sizes(part: &[u8], numbers: &[Span], modulus: usize) -> Step<()> {
+    let most = bits(part, numbers[modulus]);
+    for (place, number) in numbers.iter().enumerate() {
+        let modulus_outside = place == modulus && !(1_024..=8_192).contains(&most);
+        if modulus_outside || bits(part, *number) > most {
+            return refuse(1, number.start - 4);
+        }
+    }
+    Ok(())
+}
+
+#[inline(never)]
+fn rsa_blob(part: &[u8], at: usize) -> Step<Public> {
+    let exponent = mpint(part, at)?;
+    let modulus = mpint(part, exponent.end)?;
+    hold_to_sizes(part, &[exponent, modulus], 1)?;
+    finish(modulus.end, part.len())?;
+    Ok(Public { algorithm: RSA, point: NOWHERE, modulus, exponent })
+}
+
+#[inline(never)]
+fn rsa_pair(part: &[u8], at: usize, record: &mut Image) -> Step<Pair> {
+    let mut numbers = [NOWHERE; 6];
+    let mut end = at;
+    for number in &mut numbers {
+        *number = mpint(part, end)?;
+        end = number.end;
+    }
+    hold_to_sizes(part, &numbers, 0)?;
+    let [modulus, exponent, d, iqmp, p, q] = numbers;
+    record.d = d.part();
+    record.iqmp = iqmp.part();
+    record.p = p.part();
+    record.q = q.part();
+    let public = Public { algorithm: RSA, point: NOWHERE, modulus, exponent };
+    Ok(Pair { public, end, form: true })
 }
 
 // ---- the container
@@ -257,13 +398,16 @@ fn header(image: &[u8], record: &mut Image) -> Step<(Public, usize)> {
         return refuse(1, options);
     }
     let blob = string(image, options + 4)?;
-    let key = public(&image[..blob.end], blob.start)?;
-    hold_to_curve(&key)?;
-    finish(key.point.end, blob.end)?;
+    let key = blob_key(&image[..blob.end], blob.start)?;
     record.algorithm = key.algorithm;
     record.blob = blob.part();
     record.point = key.point.part();
     record.section = blob.end as u64;
+    if key.algorithm == RSA {
+        record.bits = bits(image, key.modulus) as u64;
+        record.modulus = key.modulus.part();
+        record.exponent = key.exponent.part();
+    }
     Ok((key, blob.end))
 }
 
@@ -345,20 +489,17 @@ fn section(part: &[u8], start: usize, header: &Public, record: &mut Image) -> St
     if uint32(part, start + 4)? != checkint {
         return refuse(3, start + 4);
     }
-    let key = public(part, start + 8)?;
-    let private = if key.algorithm == ED25519 { seed(part, &key)? } else { scalar(part, &key)? };
-    hold_to_curve(&key)?;
-    if key.algorithm != header.algorithm || key.point.of(part) != header.point.of(part) {
+    let pair = pair(part, start + 8, record)?;
+    if !same_key(part, &pair.public, header) {
         return refuse(5, start + 8);
     }
-    let comment = string(part, private.end)?;
+    let comment = string(part, pair.end)?;
     if std::str::from_utf8(comment.of(part)).is_err() {
-        return refuse(7, private.end);
+        return refuse(7, pair.end);
     }
     record.padding = padding(part, comment.end)?;
     record.checkint = u64::from(checkint);
-    record.form = u64::from(private.form);
-    record.scalar = private.scalar.part();
+    record.form = u64::from(pair.form);
     record.comment = comment.part();
     Ok(())
 }

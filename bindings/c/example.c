@@ -1,8 +1,11 @@
-/* Makes an Ed25519 image, reads it, prints its comment and changes it in place. The key's bytes are made up. */
+/* Makes an Ed25519 image, reads it, prints its comment and changes it in place. Then makes an RSA image and has its header say the
+ * size. The keys' bytes are made up. */
 #include "saltorchard.h"
 
 #include <stdio.h>
 #include <string.h>
+
+static uint8_t buffer[SALTORCHARD_LIMIT];
 
 static int refused(const char *what, uint64_t number, uint64_t count, uint64_t at)
 {
@@ -10,7 +13,7 @@ static int refused(const char *what, uint64_t number, uint64_t count, uint64_t a
     return 1;
 }
 
-static int show(const uint8_t *buffer, size_t length)
+static int show(size_t length)
 {
     saltorchard_image image = saltorchard_read(buffer, length);
     if (image.number != SALTORCHARD_ACCEPTED)
@@ -21,9 +24,8 @@ static int show(const uint8_t *buffer, size_t length)
     return 0;
 }
 
-int main(void)
+static int ed25519(void)
 {
-    static uint8_t buffer[SALTORCHARD_LIMIT];
     const char *first = "oven7", *second = "oven7, moved to line 3";
     uint8_t public_key[32], seed[32];
     memset(public_key, 0x50, sizeof public_key);
@@ -33,11 +35,36 @@ int main(void)
         1, 0, (const uint8_t *)first, strlen(first), buffer, sizeof buffer);
     if (reply.number != SALTORCHARD_ACCEPTED)
         return refused("write", reply.number, reply.count, reply.at);
-    if (show(buffer, reply.length) != 0)
+    if (show(reply.length) != 0)
         return 1;
 
     reply = saltorchard_change_comment(buffer, sizeof buffer, reply.length, (const uint8_t *)second, strlen(second));
     if (reply.number != SALTORCHARD_ACCEPTED)
         return refused("change", reply.number, reply.count, reply.at);
-    return show(buffer, reply.length);
+    return show(reply.length);
+}
+
+static int rsa(void)
+{
+    const char *comment = "silo 3";
+    uint8_t n[257], e[3] = {1, 0, 1}, d[256], half[128];
+    memset(n, 0xc5, sizeof n);
+    n[0] = 0; /* the next byte is 0x80 or more */
+    memset(d, 0x1d, sizeof d);
+    memset(half, 0x7f, sizeof half);
+
+    saltorchard_reply reply = saltorchard_write_rsa(n, sizeof n, e, sizeof e, d, sizeof d, half, sizeof half, half, sizeof half,
+        half, sizeof half, 1, 0, (const uint8_t *)comment, strlen(comment), buffer, sizeof buffer);
+    if (reply.number != SALTORCHARD_ACCEPTED)
+        return refused("write", reply.number, reply.count, reply.at);
+    saltorchard_image header = saltorchard_read_header(buffer, reply.length);
+    if (header.number != SALTORCHARD_ACCEPTED)
+        return refused("read", header.number, header.count, header.at);
+    printf("%d bytes, RSA of %d bits\n", (int)reply.length, (int)header.bits);
+    return show(reply.length);
+}
+
+int main(void)
+{
+    return ed25519() != 0 || rsa() != 0;
 }

@@ -1,4 +1,4 @@
-/* Images for test.c, put together by hand from document 01, and where their fields must be. Nothing here calls the library. */
+/* Images for test.c, put together by hand from documents 01 and 02, and where their fields must be. Nothing here calls the library. */
 #ifndef IMAGES_H
 #define IMAGES_H
 
@@ -13,13 +13,22 @@ typedef struct {
     size_t length;
 } bytes;
 
+/* An Ed25519 or ECDSA key. */
 typedef struct {
     int algorithm;
     uint8_t pub[133], priv[66];
     size_t pub_len, priv_len;
 } key;
 
-static const char *const ALGORITHMS[4] = {"ssh-ed25519", "ecdsa-sha2-nistp256", "ecdsa-sha2-nistp384", "ecdsa-sha2-nistp521"};
+/* The numbers of an RSA key, in the order of a section. */
+enum { RSA_N, RSA_E, RSA_D, RSA_IQMP, RSA_P, RSA_Q, RSA_NUMBERS };
+
+typedef struct {
+    uint8_t at[RSA_NUMBERS][1100];
+    size_t length[RSA_NUMBERS];
+} rsa_key;
+
+static const char *const ALGORITHMS[5] = {"ssh-ed25519", "ecdsa-sha2-nistp256", "ecdsa-sha2-nistp384", "ecdsa-sha2-nistp521", "ssh-rsa"};
 static const char *const CURVES[4] = {"", "nistp256", "nistp384", "nistp521"};
 static const size_t SIZES[4] = {32, 32, 48, 66};
 static const char *const KDFS[2] = {"none", "bcrypt"};
@@ -102,6 +111,48 @@ static void put_private(bytes *to, const key *k)
         put(to, k->pub, k->pub_len);
 }
 
+/* A made-up number of that many bits, as an mpint. */
+static void make_number(rsa_key *k, int which, size_t bits)
+{
+    uint8_t *at = k->at[which];
+    k->length[which] = bits / 8 + 1;
+    for (size_t i = 0; i < k->length[which]; i++)
+        at[i] = (uint8_t)(0x51 + 11 * i + 3 * (size_t)which);
+    at[0] = (uint8_t)((1 << bits % 8) / 2);
+    if (bits % 8 == 0)
+        at[1] |= 0x80;
+}
+
+/* Made-up numbers with the sizes that those of a key of that many bits have. */
+static void make_rsa(rsa_key *k, size_t bits)
+{
+    make_number(k, RSA_N, bits);
+    make_number(k, RSA_E, 17);
+    make_number(k, RSA_D, bits - 1);
+    make_number(k, RSA_IQMP, bits / 2 - 3);
+    make_number(k, RSA_P, bits / 2);
+    make_number(k, RSA_Q, bits / 2);
+}
+
+static void put_number(bytes *to, const rsa_key *k, int which)
+{
+    put_string(to, k->at[which], k->length[which]);
+}
+
+static void put_rsa_blob(bytes *to, const rsa_key *k)
+{
+    put_name(to, ALGORITHMS[SALTORCHARD_RSA]);
+    put_number(to, k, RSA_E);
+    put_number(to, k, RSA_N);
+}
+
+static void put_rsa_pair(bytes *to, const rsa_key *k)
+{
+    put_name(to, ALGORITHMS[SALTORCHARD_RSA]);
+    for (int which = 0; which < RSA_NUMBERS; which++)
+        put_number(to, k, which);
+}
+
 /* ---- images */
 
 /* Up to the blob's end: `cipher` and `kdf` are codes, `options` and `blob` the strings' contents. */
@@ -116,14 +167,6 @@ static void put_header(bytes *to, int cipher, int kdf, const bytes *options, con
     put_string(to, blob->at, blob->length);
 }
 
-static void put_plain_header(bytes *to, const key *k)
-{
-    static bytes blob, options;
-    blob.length = options.length = 0;
-    put_public(&blob, k);
-    put_header(to, SALTORCHARD_CIPHER_NONE, SALTORCHARD_KDF_NONE, &options, &blob);
-}
-
 /* The section's string: its length once its parts, without padding, are there. */
 static void put_section(bytes *to, bytes *section)
 {
@@ -131,18 +174,28 @@ static void put_section(bytes *to, bytes *section)
     put_string(to, section->at, section->length);
 }
 
+/* A plain image with this blob and these fields of a keypair, whatever they are. */
+static void image_of_pair(bytes *to, const bytes *blob, const bytes *pair, uint32_t checkint, const void *comment, size_t n)
+{
+    static bytes options, section;
+    options.length = section.length = 0;
+    put_uint32(&section, checkint);
+    put_uint32(&section, checkint);
+    put(&section, pair->at, pair->length);
+    put_string(&section, comment, n);
+    put_header(to, SALTORCHARD_CIPHER_NONE, SALTORCHARD_KDF_NONE, &options, blob);
+    put_section(to, &section);
+}
+
 /* A plain image whose private string has the given contents, whatever they are. */
 static void plain_image_of(bytes *to, const key *k, const bytes *private_string, uint32_t checkint, const void *comment, size_t n)
 {
-    static bytes section;
-    section.length = 0;
-    put_uint32(&section, checkint);
-    put_uint32(&section, checkint);
-    put_public(&section, k);
-    put_string(&section, private_string->at, private_string->length);
-    put_string(&section, comment, n);
-    put_plain_header(to, k);
-    put_section(to, &section);
+    static bytes blob, pair;
+    blob.length = pair.length = 0;
+    put_public(&blob, k);
+    put_public(&pair, k);
+    put_string(&pair, private_string->at, private_string->length);
+    image_of_pair(to, &blob, &pair, checkint, comment, n);
 }
 
 static void plain_image(bytes *to, const key *k, uint32_t checkint, const void *comment, size_t n)
@@ -151,6 +204,21 @@ static void plain_image(bytes *to, const key *k, uint32_t checkint, const void *
     private_string.length = 0;
     put_private(&private_string, k);
     plain_image_of(to, k, &private_string, checkint, comment, n);
+}
+
+/* A plain image with one RSA key in the blob and one in the section. */
+static void rsa_image_of(bytes *to, const rsa_key *header, const rsa_key *section, uint32_t checkint, const void *comment, size_t n)
+{
+    static bytes blob, pair;
+    blob.length = pair.length = 0;
+    put_rsa_blob(&blob, header);
+    put_rsa_pair(&pair, section);
+    image_of_pair(to, &blob, &pair, checkint, comment, n);
+}
+
+static void rsa_image(bytes *to, const rsa_key *k, uint32_t checkint, const void *comment, size_t n)
+{
+    rsa_image_of(to, k, k, checkint, comment, n);
 }
 
 /* What an encrypted image is made of. */
@@ -174,6 +242,13 @@ static void make_sealed(sealed *s, int cipher, int kdf, const key *k, size_t blo
     memset(s->salt.at, 0xa5, s->salt.length);
     memset(s->ciphertext.at, 0xc7, s->ciphertext.length);
     memset(s->tag.at, 0x7a, s->tag.length);
+}
+
+/* The same parts with another public key. */
+static void seal_rsa(sealed *s, const rsa_key *k)
+{
+    s->blob.length = 0;
+    put_rsa_blob(&s->blob, k);
 }
 
 static void encrypted_image(bytes *to, const sealed *s)
@@ -251,6 +326,62 @@ static saltorchard_image encrypted_record(const sealed *s, const key *k)
     return r;
 }
 
+/* Where the length bytes of a number are: in the blob of a plain image, and in its section behind that blob. */
+static size_t blob_field(const rsa_key *k, int which)
+{
+    size_t e = 43 + 4 + 7;
+    return which == RSA_E ? e : e + 4 + k->length[RSA_E];
+}
+
+static size_t pair_field(const rsa_key *header, const rsa_key *section, int which)
+{
+    size_t at = blob_field(header, RSA_N) + 4 + header->length[RSA_N] + 4 + 8 + 4 + 7;
+    for (int i = 0; i < which; i++)
+        at += 4 + section->length[i];
+    return at;
+}
+
+static saltorchard_part number_of(const rsa_key *k, int which)
+{
+    return part(pair_field(k, k, which) + 4, k->length[which]);
+}
+
+/* Of a plain image of an RSA key. */
+static saltorchard_image rsa_record(const rsa_key *k, size_t bits, uint32_t checkint, size_t comment)
+{
+    size_t e = blob_field(k, RSA_E), n = blob_field(k, RSA_N), section = n + 4 + k->length[RSA_N];
+    size_t comment_at = pair_field(k, k, RSA_NUMBERS) + 4;
+    saltorchard_image r = {0};
+    r.kind = SALTORCHARD_PLAIN;
+    r.algorithm = SALTORCHARD_RSA;
+    r.checkint = checkint;
+    r.padding = (8 - (comment_at + comment - section - 4) % 8) % 8;
+    r.form = 1;
+    r.blob = part(43, section - 43);
+    r.comment = part(comment_at, comment);
+    r.section = section;
+    r.bits = bits;
+    r.modulus = part(n + 4, k->length[RSA_N]);
+    r.exponent = part(e + 4, k->length[RSA_E]);
+    r.d = number_of(k, RSA_D);
+    r.iqmp = number_of(k, RSA_IQMP);
+    r.p = number_of(k, RSA_P);
+    r.q = number_of(k, RSA_Q);
+    return r;
+}
+
+static saltorchard_image sealed_rsa_record(const sealed *s, const rsa_key *k, size_t bits)
+{
+    key without_point = {0};
+    without_point.algorithm = SALTORCHARD_RSA;
+    saltorchard_image r = encrypted_record(s, &without_point);
+    r.point = part(0, 0);
+    r.bits = bits;
+    r.exponent = part(r.blob.start + 4 + 7 + 4, k->length[RSA_E]);
+    r.modulus = part(r.exponent.start + r.exponent.length + 4, k->length[RSA_N]);
+    return r;
+}
+
 /* ---- what a header's read must answer */
 
 /* A number of four bytes. One that the image has no room for counts as one past every end. */
@@ -289,21 +420,40 @@ static int names(const bytes *image, saltorchard_part p, const char *name)
     return p.length == strlen(name) && memcmp(image->at + p.start, name, p.length) == 0;
 }
 
+/* The bits of a number without its leading zero bits. */
+static uint64_t bits_of(const uint8_t *at, size_t length)
+{
+    uint64_t bits = 8 * length;
+    while (bits > 0 && (at[length - 1 - (bits - 1) / 8] >> (bits - 1) % 8 & 1) == 0)
+        bits--;
+    return bits;
+}
+
+/* Name and public fields of the blob. */
+static void put_key_record(saltorchard_image *r, const bytes *image, saltorchard_part blob)
+{
+    saltorchard_part name = string_at(image, blob.start), first = string_at(image, end_of(name));
+    while (r->algorithm < SALTORCHARD_RSA && !names(image, name, ALGORITHMS[r->algorithm]))
+        r->algorithm++;
+    r->blob = blob;
+    if (r->algorithm == SALTORCHARD_RSA) {
+        r->exponent = first;
+        r->modulus = string_at(image, end_of(first));
+        r->bits = bits_of(image->at + r->modulus.start, r->modulus.length);
+    } else
+        r->point = r->algorithm == SALTORCHARD_ED25519 ? first : string_at(image, end_of(first));
+}
+
 /* Of an image whose header is right. */
 static saltorchard_image header_record(const bytes *image)
 {
     saltorchard_part cipher = string_at(image, 15), kdf = string_at(image, end_of(cipher));
-    saltorchard_part options = string_at(image, end_of(kdf)), blob = blob_of(image), name = string_at(image, blob.start);
+    saltorchard_part options = string_at(image, end_of(kdf)), blob = blob_of(image);
     saltorchard_image r = {0};
     r.kind = SALTORCHARD_HEADER;
-    while (r.algorithm < 3 && !names(image, name, ALGORITHMS[r.algorithm]))
-        r.algorithm++;
     while (r.cipher < 9 && !names(image, cipher, CIPHERS[r.cipher].name))
         r.cipher++;
-    r.blob = blob;
-    r.point = string_at(image, end_of(name));
-    if (r.algorithm != SALTORCHARD_ED25519)
-        r.point = string_at(image, end_of(r.point));
+    put_key_record(&r, image, blob);
     if (names(image, kdf, KDFS[SALTORCHARD_BCRYPT])) {
         r.kdf = SALTORCHARD_BCRYPT;
         r.salt = string_at(image, options.start);

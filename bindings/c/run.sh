@@ -25,5 +25,7 @@ run example >"$folder/got"
 diff - "$folder/got" <<'END'
 234 bytes, comment: oven7
 258 bytes, comment: oven7, moved to line 3
+1286 bytes, RSA of 2048 bits
+1286 bytes, comment: silo 3
 END
 echo "the example says what it must"

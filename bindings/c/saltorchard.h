@@ -24,8 +24,10 @@ extern "C" {
 /* The number of a reply. The first condition that holds, in the order of reading or writing, gives it. */
 enum {
     SALTORCHARD_ACCEPTED = 0,
-    SALTORCHARD_LENGTH = 1,          /* a field runs past its end, or has a wrong length or key count; a header that isn't this image's */
-    SALTORCHARD_FORMAT = 2,          /* wrong magic, padding byte, point tag or leading scalar byte */
+    SALTORCHARD_LENGTH = 1,          /* a field runs past its end, or has a wrong length or key count; an RSA number with too few or
+                                        too many bits; a header that isn't this image's */
+    SALTORCHARD_FORMAT = 2,          /* wrong magic, padding byte, point tag or leading scalar byte; an RSA number that isn't a
+                                        positive mpint in its fewest bytes */
     SALTORCHARD_CRYPTO = 3,          /* checkints, KDF use, ciphertext length, Ed25519 halves */
     SALTORCHARD_UNKNOWN = 4,         /* unknown name or code, or curve unlike its algorithm */
     SALTORCHARD_PUBLIC_KEY = 5,      /* the section's public key isn't the header's */
@@ -41,8 +43,9 @@ enum { SALTORCHARD_LIMIT = 65535 };
 
 enum { SALTORCHARD_REFUSED = 0, SALTORCHARD_PLAIN = 1, SALTORCHARD_ENCRYPTED = 2, SALTORCHARD_HEADER = 3 };
 
-/* Codes of algorithms, KDFs and ciphers. A writer refuses any other code with 4, count 0, at 0, before all else. */
-enum { SALTORCHARD_ED25519 = 0, SALTORCHARD_P256 = 1, SALTORCHARD_P384 = 2, SALTORCHARD_P521 = 3 };
+/* Codes of algorithms, KDFs and ciphers. A writer refuses any other code with 4, count 0, at 0, before all else. So does
+ * saltorchard_write_plain the code of RSA, which has a writer of its own. */
+enum { SALTORCHARD_ED25519 = 0, SALTORCHARD_P256 = 1, SALTORCHARD_P384 = 2, SALTORCHARD_P521 = 3, SALTORCHARD_RSA = 4 };
 enum { SALTORCHARD_KDF_NONE = 0, SALTORCHARD_BCRYPT = 1 };
 enum {
     SALTORCHARD_CIPHER_NONE = 0,
@@ -69,28 +72,39 @@ typedef struct {
     uint64_t form;                         /* 1: in the writer's form */
     saltorchard_part blob, point, scalar, comment, salt, ciphertext, tag;   /* 0 0 where absent */
     uint64_t section;                      /* where the section's length field is: the blob's end */
+    uint64_t bits;                         /* of an RSA modulus, without leading zero bits; 0 for another key */
+    saltorchard_part modulus, exponent, d, iqmp, p, q;   /* of an RSA key, as stored, a leading zero included; 0 0 where absent */
 } saltorchard_image;
 
 /* What the others answer. `length` is what was written, 0 where refused. `at` is 0 for what was handed to a writer; where an image
  * was read and refused, as in a read; for a new comment that isn't UTF-8, the old comment's field. */
 typedef struct { uint64_t number, count, at, length; } saltorchard_reply;
 
-/* Reads an image. For Ed25519 `point` is the public string and `scalar` the seed. An ECDSA scalar has no extra zero. */
+/* Reads an image. For Ed25519 `point` is the public string and `scalar` the seed. An ECDSA scalar has no extra zero. RSA has no point
+ * and no scalar: its `modulus` and `exponent` are the blob's, its `d`, `iqmp`, `p` and `q` the section's, absent where encrypted. */
 saltorchard_image saltorchard_read(const uint8_t *image, size_t image_len);
 
 /* Reads an image up to its blob's end. What comes after isn't looked at: it may be damaged, short or missing. An accepted header
- * has kind 3, and its form, checkint, padding, scalar, comment, ciphertext and tag are 0. Cipher none with KDF bcrypt is accepted
- * here; the section's read refuses it, with 3 at the KDF. */
+ * has kind 3, and its form, checkint, padding, scalar, comment, ciphertext, tag, d, iqmp, p and q are 0. Cipher none with KDF bcrypt is
+ * accepted here; the section's read refuses it, with 3 at the KDF. */
 saltorchard_image saltorchard_read_header(const uint8_t *image, size_t image_len);
 
 /* Goes on from `header`, and answers what saltorchard_read of the image does. `header` must be, number for number, what an accepted
  * saltorchard_read_header of this image answers; any other is refused with 1, count 0, at 0, before all else. */
 saltorchard_image saltorchard_read_section(const uint8_t *image, size_t image_len, saltorchard_image header);
 
-/* Writes a plain image. `pub` is an Ed25519 public key of 32 bytes or an uncompressed point (65, 97, 133), `priv` the seed of
- * 32 bytes or the scalar (32, 48, 66). `derive` 0: the given checkint; else one is derived from `priv`. */
+/* Writes a plain image of an Ed25519 or ECDSA key. `pub` is an Ed25519 public key of 32 bytes or an uncompressed point (65, 97, 133),
+ * `priv` the seed of 32 bytes or the scalar (32, 48, 66). `derive` 0: the given checkint; else one is derived from `priv`. */
 saltorchard_reply saltorchard_write_plain(uint8_t algorithm, const uint8_t *pub, size_t pub_len, const uint8_t *priv, size_t priv_len,
     uint8_t derive, uint32_t checkint, const uint8_t *comment, size_t comment_len, uint8_t *out, size_t out_len);
+
+/* Writes a plain image of an RSA key. The six numbers are mpints without length bytes: big-endian, in the fewest bytes, a zero before
+ * a first byte of 0x80 or more. Refused, in this order: some number that is empty, negative or has a needless zero (2), `n` of less than
+ * 1,024 or more than 8,192 bits or another number with more bits than `n` (1), the comment (7), the size (11), the room (9).
+ * `derive` 0: the given checkint; else one is derived from `d`, a leading zero included. */
+saltorchard_reply saltorchard_write_rsa(const uint8_t *n, size_t n_len, const uint8_t *e, size_t e_len, const uint8_t *d, size_t d_len,
+    const uint8_t *iqmp, size_t iqmp_len, const uint8_t *p, size_t p_len, const uint8_t *q, size_t q_len, uint8_t derive,
+    uint32_t checkint, const uint8_t *comment, size_t comment_len, uint8_t *out, size_t out_len);
 
 /* Writes an encrypted image. `blob` is the public key as a read answers it. KDF none goes with no salt and 0 rounds. */
 saltorchard_reply saltorchard_write_encrypted(uint8_t cipher, uint8_t kdf, const uint8_t *salt, size_t salt_len, uint32_t rounds,

@@ -1,4 +1,4 @@
-/* Uses every function of saltorchard.h and holds numbers, places and bytes to document 01: its marked examples, each refusal,
+/* Uses every function of saltorchard.h and holds numbers, places and bytes to documents 01 and 02: the marked examples, each refusal,
  * and what must stay of a lent buffer. A failed check is a line; the last line counts the checks. */
 #include "saltorchard.h"
 
@@ -8,11 +8,12 @@
 
 _Static_assert(sizeof(saltorchard_part) == 16, "part");
 _Static_assert(sizeof(saltorchard_reply) == 32 && offsetof(saltorchard_reply, length) == 24, "reply");
-_Static_assert(sizeof(saltorchard_image) == 208, "image");
+_Static_assert(sizeof(saltorchard_image) == 312, "image");
 _Static_assert(offsetof(saltorchard_image, kind) == 24 && offsetof(saltorchard_image, rounds) == 56, "image's numbers");
 _Static_assert(offsetof(saltorchard_image, form) == 80 && offsetof(saltorchard_image, blob) == 88, "image's form and parts");
 _Static_assert(offsetof(saltorchard_image, comment) == 136 && offsetof(saltorchard_image, tag) == 184, "image's last parts");
-_Static_assert(offsetof(saltorchard_image, section) == 200, "image's last number");
+_Static_assert(offsetof(saltorchard_image, section) == 200 && offsetof(saltorchard_image, bits) == 208, "image's last numbers");
+_Static_assert(offsetof(saltorchard_image, modulus) == 216 && offsetof(saltorchard_image, q) == 296, "image's RSA numbers");
 
 /* ---- checks */
 
@@ -51,7 +52,7 @@ static void reply_at(int line, saltorchard_reply got, uint64_t number, uint64_t 
                (int)number, (int)count, (int)at, (int)length);
 }
 
-enum { NUMBERS = 26 };
+enum { NUMBERS = 39 };
 
 static void image_at(int line, saltorchard_image got, saltorchard_image want)
 {
@@ -59,7 +60,8 @@ static void image_at(int line, saltorchard_image got, saltorchard_image want)
         "number", "count", "at", "kind", "algorithm", "cipher", "kdf", "rounds", "checkint", "padding", "form",
         "blob.start", "blob.length", "point.start", "point.length", "scalar.start", "scalar.length", "comment.start",
         "comment.length", "salt.start", "salt.length", "ciphertext.start", "ciphertext.length", "tag.start", "tag.length",
-        "section"};
+        "section", "bits", "modulus.start", "modulus.length", "exponent.start", "exponent.length", "d.start", "d.length",
+        "iqmp.start", "iqmp.length", "p.start", "p.length", "q.start", "q.length"};
     uint64_t g[NUMBERS], w[NUMBERS];
     memcpy(g, &got, sizeof g);
     memcpy(w, &want, sizeof w);
@@ -148,6 +150,13 @@ static saltorchard_reply write_key(const key *k, int derive, uint32_t checkint, 
                                    comment, n, lent, room);
 }
 
+static saltorchard_reply write_rsa(const rsa_key *k, int derive, uint32_t checkint, const void *comment, size_t n, size_t room)
+{
+    return saltorchard_write_rsa(k->at[RSA_N], k->length[RSA_N], k->at[RSA_E], k->length[RSA_E], k->at[RSA_D], k->length[RSA_D],
+                                 k->at[RSA_IQMP], k->length[RSA_IQMP], k->at[RSA_P], k->length[RSA_P], k->at[RSA_Q],
+                                 k->length[RSA_Q], (uint8_t)derive, checkint, comment, n, lent, room);
+}
+
 static saltorchard_reply write_sealed(const sealed *s, size_t room)
 {
     return saltorchard_write_encrypted((uint8_t)s->cipher, (uint8_t)s->kdf, s->salt.at, s->salt.length, s->rounds, s->blob.at,
@@ -180,6 +189,7 @@ static void refused_at(int line, const bytes *image, uint64_t number, uint64_t c
 #define REFUSED(image, number, count, at) refused_at(__LINE__, (image), (number), (count), (at))
 
 static bytes image, other, field;
+static rsa_key rsa, wrong;
 static sealed seal;
 static char long_comment[LARGEST];
 
@@ -499,14 +509,10 @@ static void eight_padding_bytes(void)
 static void other_section(const bytes *pair)
 {
     key k = make_key(SALTORCHARD_P256, 0x7f);
-    static bytes section;
-    section.length = 0;
-    put_uint32(&section, 5);
-    put_uint32(&section, 5);
-    put(&section, pair->at, pair->length);
-    put_uint32(&section, 0);
-    put_plain_header(&image, &k);
-    put_section(&image, &section);
+    static bytes blob;
+    blob.length = 0;
+    put_public(&blob, &k);
+    image_of_pair(&image, &blob, pair, 5, "", 0);
 }
 
 static void section_of_another_key(void)
@@ -760,13 +766,310 @@ static void rewrite_above_the_limit(void)
     KEPT();
 }
 
-/* ---- codes that name nothing: 4 before all else */
+/* ---- RSA keys */
+
+static void rsa_kind(size_t bits)
+{
+    make_rsa(&rsa, bits);
+    for (size_t c = 0; c < 10; c += 3) {
+        rsa_image(&image, &rsa, 0xfedcba98, long_comment, c);
+        READS(&image, rsa_record(&rsa, bits, 0xfedcba98, c));
+        lend_junk();
+        REPLY(write_rsa(&rsa, 0, 0xfedcba98, long_comment, c, image.length), 0, 0, 0, image.length);
+        HOLDS(&image);
+        lend_junk();
+        REPLY(write_rsa(&rsa, 0, 0xfedcba98, long_comment, c, image.length - 1), 9, 0, 0, 0);
+        KEPT();
+        rewritten();
+        rsa_image(&other, &rsa, 0xfedcba98, "a comment of another length", 27);
+        lend_image(&image);
+        REPLY(change(image.length, "a comment of another length", 27, other.length), 0, 0, 0, other.length);
+        HOLDS(&other);
+        lend_image(&other);
+        REPLY(change(other.length, long_comment, c, other.length), 0, 0, 0, image.length);
+        memset(want + GUARD + image.length, 0, other.length - image.length);
+        HOLDS(&image);
+    }
+}
+
+static void rsa_kinds(void)
+{
+    static const size_t BITS[] = {1024, 1025, 1031, 1032, 2048, 3072, 4095, 8191, 8192};
+    for (size_t i = 0; i < sizeof BITS / sizeof *BITS; i++) {
+        now("RSA of bits", BITS[i]);
+        rsa_kind(BITS[i]);
+    }
+}
+
+static void rsa_encrypted(void)
+{
+    key k = make_key(SALTORCHARD_ED25519, 1);
+    make_rsa(&rsa, 1030);
+    for (int cipher = 1; cipher < 10; cipher++) {
+        now("RSA and cipher", (size_t)cipher);
+        make_sealed(&seal, cipher, cipher % 2, &k, 3);
+        seal_rsa(&seal, &rsa);
+        encrypted_image(&image, &seal);
+        READS(&image, sealed_rsa_record(&seal, &rsa, 1030));
+        lend_junk();
+        REPLY(write_sealed(&seal, image.length), 0, 0, 0, image.length);
+        HOLDS(&image);
+        rewritten();
+        lend_image(&image);
+        REPLY(change(image.length, "\xff", 1, image.length), 8, 0, 0, 0);
+        KEPT();
+    }
+}
+
+/* The ways in which a number isn't a positive one in its fewest bytes. */
+enum { EMPTY, ZERO, NEGATIVE, NEEDLESS_ZERO, WAYS };
+
+static void spoil(rsa_key *k, int which, int way)
+{
+    uint8_t *at = k->at[which];
+    if (way == NEGATIVE) {
+        at[0] |= 0x80;
+        return;
+    }
+    memmove(at + 1, at, k->length[which]);
+    at[0] = 0;
+    k->length[which] = way == EMPTY ? 0 : way == ZERO ? 1 : k->length[which] + 1;
+}
+
+/* Number `which` of the key `wrong` is refused: in a section behind the blob of `rsa`, in a blob, read or written, and by the RSA
+ * writer, whatever else is wrong. */
+static void wrong_number(int which, uint64_t number)
+{
+    key k = make_key(SALTORCHARD_ED25519, 1);
+    rsa_image_of(&image, &rsa, &wrong, 3, "silo 3", 6);
+    REFUSED(&image, number, 0, pair_field(&rsa, &wrong, which));
+    if (which == RSA_N || which == RSA_E) {
+        rsa_image_of(&image, &wrong, &rsa, 3, "silo 3", 6);
+        REFUSED(&image, number, 0, blob_field(&wrong, which));
+        make_sealed(&seal, SALTORCHARD_AES256_CTR, SALTORCHARD_BCRYPT, &k, 1);
+        seal_rsa(&seal, &wrong);
+        seal.tag.length = 1;
+        lend_junk();
+        REPLY(write_sealed(&seal, 0), number, 0, 0, 0);
+        KEPT();
+    }
+    lend_junk();
+    REPLY(write_rsa(&wrong, 0, 0, "\xff", 1, 0), number, 0, 0, 0);
+    REPLY(write_rsa(&wrong, 1, 0, "silo 3", 6, LARGEST), number, 0, 0, 0);
+    KEPT();
+}
+
+static void rsa_spoiled(void)
+{
+    make_rsa(&rsa, 1024);
+    for (int which = 0; which < RSA_NUMBERS; which++) {
+        for (int way = 0; way < WAYS; way++) {
+            now("RSA, number and way of being spoiled", (size_t)(10 * which + way));
+            wrong = rsa;
+            spoil(&wrong, which, way);
+            wrong_number(which, 2);
+        }
+    }
+}
+
+static void rsa_sizes(void)
+{
+    static const size_t OUTSIDE[] = {1, 8, 1016, 1023, 8193, 8200};
+    make_rsa(&rsa, 1024);
+    for (size_t i = 0; i < sizeof OUTSIDE / sizeof *OUTSIDE; i++) {
+        now("RSA, every number of bits", OUTSIDE[i]);
+        for (int which = 0; which < RSA_NUMBERS; which++)
+            make_number(&wrong, which, OUTSIDE[i]);
+        wrong_number(RSA_N, 1);
+    }
+    for (int which = RSA_E; which < RSA_NUMBERS; which++) {
+        now("RSA, larger than the modulus", (size_t)which);
+        wrong = rsa;
+        make_number(&wrong, which, 1025);
+        wrong_number(which, 1);
+        now("RSA, as large as the modulus", (size_t)which);
+        make_number(&wrong, which, 1024);
+        rsa_image(&image, &wrong, 3, "silo 3", 6);
+        READS(&image, rsa_record(&wrong, 1024, 3, 6));
+        lend_junk();
+        REPLY(write_rsa(&wrong, 0, 3, "silo 3", 6, LARGEST), 0, 0, 0, image.length);
+        HOLDS(&image);
+    }
+}
+
+/* Two wrong numbers: a size comes after every spoiled one, and of two sizes the first that was read. */
+static void rsa_two_wrong_numbers(void)
+{
+    make_rsa(&rsa, 1024);
+    wrong = rsa;
+    now("RSA, modulus too small and exponent larger", 1);
+    make_number(&wrong, RSA_N, 1000);
+    make_number(&wrong, RSA_E, 1001);
+    rsa_image_of(&image, &wrong, &rsa, 3, "", 0);
+    REFUSED(&image, 1, 0, blob_field(&wrong, RSA_E));
+    rsa_image_of(&image, &rsa, &wrong, 3, "", 0);
+    REFUSED(&image, 1, 0, pair_field(&rsa, &wrong, RSA_N));
+    now("RSA, modulus too small and q spoiled", 1);
+    spoil(&wrong, RSA_Q, NEGATIVE);
+    rsa_image_of(&image, &rsa, &wrong, 3, "", 0);
+    REFUSED(&image, 2, 0, pair_field(&rsa, &wrong, RSA_Q));
+    now("RSA, q and iqmp spoiled", 1);
+    spoil(&wrong, RSA_IQMP, NEEDLESS_ZERO);
+    rsa_image_of(&image, &rsa, &wrong, 3, "", 0);
+    REFUSED(&image, 2, 0, pair_field(&rsa, &wrong, RSA_IQMP));
+    now("RSA, exponent too large and modulus spoiled", 1);
+    wrong = rsa;
+    make_number(&wrong, RSA_E, 1025);
+    spoil(&wrong, RSA_N, NEGATIVE);
+    rsa_image_of(&image, &wrong, &rsa, 3, "", 0);
+    REFUSED(&image, 2, 0, blob_field(&wrong, RSA_N));
+}
+
+/* What comes after the numbers: the blob's end, the public key; and what comes before: a length past the end. */
+static void rsa_around_the_numbers(void)
+{
+    make_rsa(&rsa, 1024);
+    rsa_image(&other, &rsa, 3, "silo 3", 6);
+    size_t name = pair_field(&rsa, &rsa, RSA_N) - 4 - 7, end = blob_field(&rsa, RSA_N) + 4 + rsa.length[RSA_N];
+    now("RSA, length byte of number", 0);
+    for (int which = 0; which < RSA_NUMBERS; which++) {
+        image = other;
+        image.at[pair_field(&rsa, &rsa, which)] = 0x7f;
+        REFUSED(&image, 1, 0, pair_field(&rsa, &rsa, which));
+    }
+    now("RSA, blob longer by", 1);
+    image = other;
+    image.at[42]++;
+    REFUSED(&image, 6, 1, end);
+    image.at[blob_field(&rsa, RSA_N) + 3] = 120;
+    REFUSED(&image, 1, 0, blob_field(&rsa, RSA_N));
+    now("RSA, last byte of number changed", 0);
+    for (int which = 0; which < RSA_NUMBERS; which++) {
+        wrong = rsa;
+        wrong.at[which][wrong.length[which] - 1] ^= 1;
+        rsa_image_of(&image, &rsa, &wrong, 3, "silo 3", 6);
+        if (which == RSA_N || which == RSA_E)
+            REFUSED(&image, 5, 0, name);
+        else
+            READS(&image, rsa_record(&rsa, 1024, 3, 6));
+    }
+}
+
+/* Another kind of key in the header or in the section: 5, but only after the section's own refusals. */
+static void rsa_and_other_kinds(void)
+{
+    key k = make_key(SALTORCHARD_ED25519, 1);
+    static bytes blob;
+    make_rsa(&rsa, 1024);
+    now("RSA section, other header", 0);
+    blob.length = field.length = 0;
+    put_public(&blob, &k);
+    put_rsa_pair(&field, &rsa);
+    image_of_pair(&image, &blob, &field, 3, "silo 3", 6);
+    REFUSED(&image, 5, 0, 106);
+    spoil(&rsa, RSA_Q, EMPTY);
+    field.length = 0;
+    put_rsa_pair(&field, &rsa);
+    image_of_pair(&image, &blob, &field, 3, "silo 3", 6);
+    REFUSED(&image, 2, 0, 106 + field.length - 4);
+    now("RSA header, other section", 0);
+    make_rsa(&rsa, 1024);
+    blob.length = field.length = 0;
+    put_rsa_blob(&blob, &rsa);
+    put_public(&field, &k);
+    put_uint32(&field, 64);
+    put_private(&field, &k);
+    image_of_pair(&image, &blob, &field, 3, "silo 3", 6);
+    REFUSED(&image, 5, 0, 43 + blob.length + 4 + 8);
+}
+
+/* The writer's refusals, each where all that come later would hold too. */
+static void rsa_order(void)
+{
+    make_rsa(&rsa, 1024);
+    lend_junk();
+    long_comment[65400] = (char)0xff;
+    now("RSA writer's refusal", 2);
+    wrong = rsa;
+    make_number(&wrong, RSA_N, 1023);
+    spoil(&wrong, RSA_Q, NEEDLESS_ZERO);
+    REPLY(write_rsa(&wrong, 0, 0, long_comment, 65401, 0), 2, 0, 0, 0);
+    now("RSA writer's refusal", 1);
+    make_number(&wrong, RSA_Q, 512);
+    REPLY(write_rsa(&wrong, 0, 0, long_comment, 65401, 0), 1, 0, 0, 0);
+    now("RSA writer's refusal", 7);
+    REPLY(write_rsa(&rsa, 0, 0, long_comment, 65401, 0), 7, 0, 0, 0);
+    long_comment[65400] = 'c';
+    now("RSA writer's refusal", 11);
+    REPLY(write_rsa(&rsa, 0, 0, long_comment, 65401, 0), 11, 0, 0, 0);
+    now("RSA writer's refusal", 9);
+    REPLY(write_rsa(&rsa, 0, 0, "silo 3", 6, 0), 9, 0, 0, 0);
+    KEPT();
+}
+
+/* The largest image of an RSA key, by its comment, and one block more. */
+static void rsa_limit(void)
+{
+    make_rsa(&rsa, 8192);
+    rsa_image(&image, &rsa, 0, "", 0);
+    size_t padding = rsa_record(&rsa, 8192, 0, 0).padding;
+    size_t c = (65535 - image.length) / 8 * 8 + padding;
+    now("RSA, comment of length", c);
+    rsa_image(&image, &rsa, 0, long_comment, c);
+    CHECK(image.length > 65527 && image.length <= 65535);
+    READS(&image, rsa_record(&rsa, 8192, 0, c));
+    lend_junk();
+    REPLY(write_rsa(&rsa, 0, 0, long_comment, c, image.length), 0, 0, 0, image.length);
+    HOLDS(&image);
+    lend_junk();
+    REPLY(write_rsa(&rsa, 0, 0, long_comment, c + 1, LARGEST), 11, 0, 0, 0);
+    KEPT();
+    lend_image(&image);
+    REPLY(change(image.length, long_comment, c + 1, LARGEST), 11, 0, 0, 0);
+    REPLY(change(image.length, "\xff", 1, LARGEST), 7, 0, pair_field(&rsa, &rsa, RSA_NUMBERS), 0);
+    KEPT();
+    rsa_image(&image, &rsa, 0, long_comment, c + 1);
+    REFUSED(&image, 11, 0, 0);
+}
+
+/* The zero before d counts, and the ninth byte is a rest. */
+static void rsa_derived(void)
+{
+    static const uint8_t D[9] = {0x00, 0x81, 0x02, 0x03, 0x10, 0x20, 0x30, 0x40, 0x55};
+    make_rsa(&rsa, 1024);
+    memcpy(rsa.at[RSA_D], D, 9);
+    rsa.length[RSA_D] = 9;
+    for (int derive = 1; derive < 256; derive += 127) {
+        now("RSA, derived checkint", (size_t)derive);
+        rsa_image(&image, &rsa, 0x10a13243, "silo 3", 6);
+        lend_junk();
+        REPLY(write_rsa(&rsa, derive, 0x55555555, "silo 3", 6, LARGEST), 0, 0, 0, image.length);
+        HOLDS(&image);
+        READS(&image, rsa_record(&rsa, 1024, 0x10a13243, 6));
+    }
+}
+
+static void rsa_keys(void)
+{
+    rsa_kinds();
+    rsa_encrypted();
+    rsa_spoiled();
+    rsa_sizes();
+    rsa_two_wrong_numbers();
+    rsa_around_the_numbers();
+    rsa_and_other_kinds();
+    rsa_order();
+    rsa_limit();
+    rsa_derived();
+}
+
+/* ---- codes that name nothing, or for the plain writer RSA: 4 before all else */
 
 static void unknown_algorithms(void)
 {
     key k = make_key(SALTORCHARD_ED25519, 1);
     lend_junk();
-    for (int code = 4; code < 256; code++) {
+    for (int code = SALTORCHARD_RSA; code < 256; code++) {
         now("algorithm code", (size_t)code);
         k.algorithm = code;
         REPLY(write_key(&k, 0, 0, "oven7", 5, LARGEST), 4, 0, 0, 0);
@@ -817,6 +1120,7 @@ static void null_parts(void)
     REPLY(saltorchard_change_comment(NULL, 0, 1, NULL, 0), 1, 0, 0, 0);
     REPLY(saltorchard_write_plain(0, NULL, 0, NULL, 0, 1, 0, NULL, 0, NULL, 0), 1, 0, 0, 0);
     REPLY(saltorchard_write_plain(0, k.pub, 32, k.priv, 32, 1, 0, NULL, 0, NULL, 0), 9, 0, 0, 0);
+    REPLY(saltorchard_write_rsa(NULL, 0, NULL, 0, NULL, 0, NULL, 0, NULL, 0, NULL, 0, 1, 0, NULL, 0, NULL, 0), 2, 0, 0, 0);
     REPLY(saltorchard_write_encrypted(1, 0, NULL, 0, 0, NULL, 0, NULL, 0, NULL, 0, NULL, 0), 1, 0, 0, 0);
     plain_image(&image, &k, 6, NULL, 0);
     REPLY(saltorchard_rewrite(image.at, image.length, NULL, 0), 9, 0, 0, 0);
@@ -941,18 +1245,26 @@ static void comment_lengths(void)
 
 /* ---- the two halves of a read */
 
-/* One image of each algorithm, then one of each cipher with KDF none or bcrypt: no two have the same header. */
-enum { KINDS = 13 };
+/* One image of each algorithm but RSA, then one of each cipher with KDF none or bcrypt, then one of RSA, plain, and one encrypted: no
+ * two have the same header. */
+enum { RSA_PLAIN = 13, RSA_SEALED, KINDS };
 
 static void image_of_kind(bytes *to, int kind)
 {
     key k = make_key(kind % 4, 0x7f);
     now("halves of kind", (size_t)kind);
+    make_rsa(&rsa, 1024);
     if (kind < 4) {
         plain_image(to, &k, 0x01020304, "oven7", 5);
         return;
     }
-    make_sealed(&seal, kind - 3, kind % 2, &k, 2);
+    if (kind == RSA_PLAIN) {
+        rsa_image(to, &rsa, 0x01020304, "silo 3", 6);
+        return;
+    }
+    make_sealed(&seal, kind < RSA_PLAIN ? kind - 3 : SALTORCHARD_AES256_CTR, kind % 2, &k, 2);
+    if (kind == RSA_SEALED)
+        seal_rsa(&seal, &rsa);
     encrypted_image(to, &seal);
 }
 
@@ -1102,6 +1414,14 @@ static void header_of_a_like_image(void)
     plain_image(&other, &like, 4, "a comment of another length", 27);
     image_at(__LINE__, saltorchard_read_section(image.at, image.length, saltorchard_read_header(other.at, other.length)),
              plain_record(&k, 0, 3, 5, 1));
+    make_rsa(&rsa, 2048);
+    wrong = rsa;
+    wrong.at[RSA_N][256] ^= 1;
+    now("header of a like image", 2);
+    rsa_image(&image, &rsa, 3, "silo 3", 6);
+    rsa_image(&other, &wrong, 4, "a comment of another length", 27);
+    image_at(__LINE__, saltorchard_read_section(image.at, image.length, saltorchard_read_header(other.at, other.length)),
+             rsa_record(&rsa, 2048, 3, 6));
 }
 
 /* An image above the limit has no header, so none is right for it: 1, not 11. */
@@ -1146,6 +1466,7 @@ int main(void)
     encrypted_order_after_the_blob();
     encrypted_limit();
     rewrite_above_the_limit();
+    rsa_keys();
     unknown_algorithms();
     unknown_ciphers_and_kdfs();
     null_parts();

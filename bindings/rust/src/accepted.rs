@@ -62,9 +62,25 @@ macro_rules! what_a_header_says {
             self.read.part(self.read.fields.blob)
         }
 
-        /// The public point in the header; for Ed25519 the 32 public bytes.
+        /// The public point in the header; for Ed25519 the 32 public bytes. Empty for RSA.
         pub fn point(&self) -> &'a [u8] {
             self.read.part(self.read.fields.point)
+        }
+
+        /// The bits of an RSA key's modulus, 1,024 to 8,192; 0 for a key of another kind.
+        pub fn bits(&self) -> usize {
+            self.read.fields.bits as usize
+        }
+
+        /// An RSA key's modulus in the header, n, as it is stored: big-endian, with a zero before a first byte of 0x80 or more.
+        /// Empty for a key of another kind.
+        pub fn modulus(&self) -> &'a [u8] {
+            self.read.part(self.read.fields.modulus)
+        }
+
+        /// An RSA key's public exponent in the header, e, stored like the modulus. Empty for a key of another kind.
+        pub fn exponent(&self) -> &'a [u8] {
+            self.read.part(self.read.fields.exponent)
         }
 
         /// The KDF's salt; empty for KDF `none`.

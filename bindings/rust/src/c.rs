@@ -32,6 +32,13 @@ pub struct Image {
     pub ciphertext: Part,
     pub tag: Part,
     pub section: u64,
+    pub bits: u64,
+    pub modulus: Part,
+    pub exponent: Part,
+    pub d: Part,
+    pub iqmp: Part,
+    pub p: Part,
+    pub q: Part,
 }
 
 /// What a writer or a comment change answers.
@@ -54,6 +61,26 @@ extern "C" {
         public_len: usize,
         private: *const u8,
         private_len: usize,
+        derive: u8,
+        checkint: u32,
+        comment: *const u8,
+        comment_len: usize,
+        out: *mut u8,
+        out_len: usize,
+    ) -> Reply;
+    fn saltorchard_write_rsa(
+        n: *const u8,
+        n_len: usize,
+        e: *const u8,
+        e_len: usize,
+        d: *const u8,
+        d_len: usize,
+        iqmp: *const u8,
+        iqmp_len: usize,
+        p: *const u8,
+        p_len: usize,
+        q: *const u8,
+        q_len: usize,
         derive: u8,
         checkint: u32,
         comment: *const u8,
@@ -122,6 +149,34 @@ pub fn write_plain(
             public.len(),
             private.as_ptr(),
             private.len(),
+            derive,
+            checkint,
+            comment.as_ptr(),
+            comment.len(),
+            out.as_mut_ptr(),
+            out.len(),
+        )
+    }
+}
+
+/// `saltorchard_write_rsa`; the numbers are n, e, d, iqmp, p and q, and `derive` 0 takes the given checkint.
+pub fn write_rsa(numbers: [&[u8]; 6], derive: u8, checkint: u32, comment: &[u8], out: &mut [u8]) -> Reply {
+    let [n, e, d, iqmp, p, q] = numbers;
+    // SAFETY: each pointer and length are one live slice's; `out` is lent alone, so it overlaps none of the others.
+    unsafe {
+        saltorchard_write_rsa(
+            n.as_ptr(),
+            n.len(),
+            e.as_ptr(),
+            e.len(),
+            d.as_ptr(),
+            d.len(),
+            iqmp.as_ptr(),
+            iqmp.len(),
+            p.as_ptr(),
+            p.len(),
+            q.as_ptr(),
+            q.len(),
             derive,
             checkint,
             comment.as_ptr(),

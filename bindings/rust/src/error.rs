@@ -10,8 +10,8 @@ use crate::MAX_IMAGE_LEN;
 ///
 /// | number | [`name`](Error::name) | meaning |
 /// |---|---|---|
-/// | 1 | `Length` | a field runs past its end, or has a wrong length or key count |
-/// | 2 | `FormatEncoding` | wrong magic, padding byte, point tag or leading scalar byte |
+/// | 1 | `Length` | a field runs past its end, or has a wrong length or key count; too few or too many bits (RSA) |
+/// | 2 | `FormatEncoding` | wrong magic, padding byte, point tag or leading scalar byte; no positive minimal mpint (RSA) |
 /// | 3 | `Crypto` | checkints, KDF use, ciphertext length, Ed25519 halves |
 /// | 4 | `AlgorithmUnknown` | unknown name, or a curve unlike its algorithm |
 /// | 5 | `PublicKey` | the section's public key isn't the header's |

@@ -36,9 +36,30 @@ impl<'a> Image<'a> {
         std::str::from_utf8(self.read.part(self.read.fields.comment)).expect("an accepted image's comment is UTF-8")
     }
 
-    /// **Private.** The secret scalar without a zero before it; for Ed25519 the seed. Empty for an encrypted image.
+    /// **Private.** The secret scalar without a zero before it; for Ed25519 the seed. Empty for RSA and for an encrypted image.
     pub fn scalar(&self) -> &'a [u8] {
         self.read.part(self.read.fields.scalar)
+    }
+
+    /// **Private.** An RSA key's private exponent, stored like the [`modulus`](Self::modulus). Empty for a key of another kind
+    /// and for an encrypted image.
+    pub fn d(&self) -> &'a [u8] {
+        self.read.part(self.read.fields.d)
+    }
+
+    /// **Private.** An RSA key's coefficient, the inverse of q modulo p, stored and absent as [`d`](Self::d) is.
+    pub fn iqmp(&self) -> &'a [u8] {
+        self.read.part(self.read.fields.iqmp)
+    }
+
+    /// **Private.** An RSA key's first prime, stored and absent as [`d`](Self::d) is.
+    pub fn p(&self) -> &'a [u8] {
+        self.read.part(self.read.fields.p)
+    }
+
+    /// **Private.** An RSA key's second prime, stored and absent as [`d`](Self::d) is.
+    pub fn q(&self) -> &'a [u8] {
+        self.read.part(self.read.fields.q)
     }
 
     /// The encrypted section, without its tag; empty for a plain image.

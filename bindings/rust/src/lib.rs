@@ -18,7 +18,7 @@ pub use header::Header;
 pub use image::Image;
 pub use lent::{set_comment, LentImage};
 pub use names::{Algorithm, Cipher, EcdsaCurve, KdfAlg};
-pub use write::{write_encrypted, write_plain, Checkint, EncryptedKey, PlainKey};
+pub use write::{write_encrypted, write_plain, write_rsa, Checkint, EncryptedKey, PlainKey, RsaKey};
 
 /// The length of the longest image: a longer one is refused with number 11.
 pub const MAX_IMAGE_LEN: usize = 65_535;
@@ -26,6 +26,7 @@ pub const MAX_IMAGE_LEN: usize = 65_535;
 /// The C interface's own numbers, for the tests.
 #[doc(hidden)]
 pub mod raw {
-    pub use crate::c::{change_comment, read, read_header, read_section, rewrite, write_encrypted, write_plain};
+    pub use crate::c::{change_comment, read, read_header, read_section, rewrite};
+    pub use crate::c::{write_encrypted, write_plain, write_rsa};
     pub use crate::c::{Image, Part, Reply};
 }

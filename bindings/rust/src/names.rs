@@ -35,6 +35,8 @@ pub enum Algorithm {
         /// Over which curve.
         curve: EcdsaCurve,
     },
+    /// RSA.
+    Rsa,
 }
 
 impl Algorithm {
@@ -45,6 +47,7 @@ impl Algorithm {
             Self::Ecdsa { curve: EcdsaCurve::NistP256 } => "ecdsa-sha2-nistp256",
             Self::Ecdsa { curve: EcdsaCurve::NistP384 } => "ecdsa-sha2-nistp384",
             Self::Ecdsa { curve: EcdsaCurve::NistP521 } => "ecdsa-sha2-nistp521",
+            Self::Rsa => "ssh-rsa",
         }
     }
 
@@ -54,6 +57,7 @@ impl Algorithm {
             Self::Ecdsa { curve: EcdsaCurve::NistP256 } => 1,
             Self::Ecdsa { curve: EcdsaCurve::NistP384 } => 2,
             Self::Ecdsa { curve: EcdsaCurve::NistP521 } => 3,
+            Self::Rsa => 4,
         }
     }
 
@@ -63,6 +67,7 @@ impl Algorithm {
             1 => Some(Self::Ecdsa { curve: EcdsaCurve::NistP256 }),
             2 => Some(Self::Ecdsa { curve: EcdsaCurve::NistP384 }),
             3 => Some(Self::Ecdsa { curve: EcdsaCurve::NistP521 }),
+            4 => Some(Self::Rsa),
             _ => None,
         }
     }

@@ -10,19 +10,50 @@ use crate::{Algorithm, Cipher, Error, KdfAlg};
 pub enum Checkint {
     /// This one.
     Given(u32),
-    /// The xor of the private bytes' big-endian groups of four, a shorter rest ignored.
+    /// The xor of the private bytes' big-endian groups of four, a shorter rest ignored. For RSA these are d's bytes, a zero
+    /// before them included.
     Derived,
 }
 
-/// A key for a plain image. Nobody checks that the two halves belong together.
+impl Checkint {
+    /// The C interface's two numbers for it: whether to derive one, and the given one.
+    fn codes(self) -> (u8, u32) {
+        match self {
+            Self::Given(checkint) => (0, checkint),
+            Self::Derived => (1, 0),
+        }
+    }
+}
+
+/// An Ed25519 or ECDSA key for a plain image. Nobody checks that the two halves belong together.
 #[derive(Clone, Copy)]
 pub struct PlainKey<'a> {
-    /// The algorithm.
+    /// The algorithm; RSA is refused, it has an [`RsaKey`].
     pub algorithm: Algorithm,
     /// Ed25519: the 32 public bytes. ECDSA: the uncompressed point, a byte 4 and two coordinates of the curve's size.
     pub public: &'a [u8],
     /// **Private.** Ed25519: the seed of 32 bytes. ECDSA: the scalar, as many bytes as the curve's size (32, 48 or 66).
     pub private: &'a [u8],
+    /// The checkint.
+    pub checkint: Checkint,
+}
+
+/// An RSA key for a plain image. Each number is an mpint without its length: big-endian, positive and in the fewest bytes, with
+/// a zero before a first byte of 0x80 or more. Nobody checks that the numbers belong together.
+#[derive(Clone, Copy)]
+pub struct RsaKey<'a> {
+    /// The modulus, of 1,024 to 8,192 bits. No other number has more bits.
+    pub n: &'a [u8],
+    /// The public exponent.
+    pub e: &'a [u8],
+    /// **Private.** The private exponent.
+    pub d: &'a [u8],
+    /// **Private.** The inverse of q modulo p.
+    pub iqmp: &'a [u8],
+    /// **Private.** The first prime.
+    pub p: &'a [u8],
+    /// **Private.** The second prime.
+    pub q: &'a [u8],
     /// The checkint.
     pub checkint: Checkint,
 }
@@ -46,17 +77,26 @@ pub struct EncryptedKey<'a> {
     pub tag: &'a [u8],
 }
 
-/// Writes a plain image to the start of `out` and answers its length; the bytes past it stay.
+/// Writes a plain image of an Ed25519 or ECDSA key to the start of `out` and answers its length; the bytes past it stay.
 ///
-/// Refused, in this order: a length that is wrong for the algorithm (1), a point that doesn't begin with 4 (2), a comment
-/// that isn't UTF-8 (7), an image above 65,535 bytes (11) or longer than `out` (9). Then no byte of `out` changes.
+/// Refused, in this order: RSA, for which there is [`write_rsa`] (4), a length that is wrong for the algorithm (1), a point
+/// that doesn't begin with 4 (2), a comment that isn't UTF-8 (7), an image above 65,535 bytes (11) or longer than `out` (9).
+/// Then no byte of `out` changes.
 pub fn write_plain(key: &PlainKey<'_>, comment: impl AsRef<[u8]>, out: &mut [u8]) -> Result<usize, Error> {
-    let (derive, checkint) = match key.checkint {
-        Checkint::Given(checkint) => (0, checkint),
-        Checkint::Derived => (1, 0),
-    };
+    let (derive, checkint) = key.checkint.codes();
     let algorithm = key.algorithm.code();
     Error::written(c::write_plain(algorithm, key.public, key.private, derive, checkint, comment.as_ref(), out))
+}
+
+/// Writes a plain image of an RSA key to the start of `out` and answers its length; the bytes past it stay.
+///
+/// Refused, in this order: a number that is empty, negative or not in the fewest bytes (2), a modulus of less than 1,024 or
+/// more than 8,192 bits or another number with more bits than the modulus (1), a comment that isn't UTF-8 (7), an image above
+/// 65,535 bytes (11) or longer than `out` (9). Then no byte of `out` changes.
+pub fn write_rsa(key: &RsaKey<'_>, comment: impl AsRef<[u8]>, out: &mut [u8]) -> Result<usize, Error> {
+    let (derive, checkint) = key.checkint.codes();
+    let numbers = [key.n, key.e, key.d, key.iqmp, key.p, key.q];
+    Error::written(c::write_rsa(numbers, derive, checkint, comment.as_ref(), out))
 }
 
 /// Writes an encrypted image to the start of `out` and answers its length; the bytes past it stay.
@@ -77,6 +117,13 @@ impl fmt::Debug for PlainKey<'_> {
             .field("public_len", &self.public.len())
             .field("private_len", &self.private.len())
             .finish_non_exhaustive()
+    }
+}
+
+/// Lengths of the two public numbers; no private byte, and no checkint, which may come from private bytes.
+impl fmt::Debug for RsaKey<'_> {
+    fn fmt(&self, f: &mut fmt::Formatter<'_>) -> fmt::Result {
+        f.debug_struct("RsaKey").field("n_len", &self.n.len()).field("e_len", &self.e.len()).finish_non_exhaustive()
     }
 }
 

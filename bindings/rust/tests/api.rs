@@ -4,11 +4,11 @@ mod support;
 
 use std::collections::BTreeSet;
 
-use saltorchard::{set_comment, write_encrypted, write_plain, MAX_IMAGE_LEN};
+use saltorchard::{set_comment, write_encrypted, write_plain, write_rsa, MAX_IMAGE_LEN};
 use saltorchard::{Algorithm, Checkint, Cipher, EcdsaCurve, KdfAlg};
-use saltorchard::{EncryptedKey, Error, Header, Image, LentImage, PlainKey};
+use saltorchard::{EncryptedKey, Error, Header, Image, LentImage, PlainKey, RsaKey};
 use support::hex;
-use support::images::{blob_bytes, sealed, Draft, Key, CIPHERS};
+use support::images::{self, blob_bytes, sealed, strings_bytes, Draft, Key, CIPHERS};
 use support::Rng;
 
 fn rng() -> Rng {
@@ -97,6 +97,7 @@ fn names() {
         (Algorithm::Ecdsa { curve: EcdsaCurve::NistP256 }, "ecdsa-sha2-nistp256"),
         (Algorithm::Ecdsa { curve: EcdsaCurve::NistP384 }, "ecdsa-sha2-nistp384"),
         (Algorithm::Ecdsa { curve: EcdsaCurve::NistP521 }, "ecdsa-sha2-nistp521"),
+        (Algorithm::Rsa, "ssh-rsa"),
     ];
     for (algorithm, name) in algorithms {
         assert_eq!((algorithm.as_str(), algorithm.to_string().as_str()), (name, name));
@@ -139,6 +140,22 @@ fn what_the_other_types_show() {
     assert!(debug.contains("len: 234, buffer_len: 300"));
 }
 
+#[test]
+fn what_an_rsa_key_shows() {
+    let numbers = images::RsaKey::new(1_024, &mut rng());
+    let [n, e, d, iqmp, p, q] = numbers.numbers();
+    let key = RsaKey { n, e, d, iqmp, p, q, checkint: Checkint::Given(0xfeed_beef) };
+    let mut buffer = [0; 800];
+    let len = write_rsa(&key, "silo 3", &mut buffer).expect("the key is fine");
+    let image = Image::read(&buffer[..len]).expect("a good image");
+    let debug = format!("{:?} {:#?} {:?}", key, image, Header::read(&buffer).expect("a good header"));
+    assert!(debug.starts_with("RsaKey { n_len: 129, e_len: 3, .. }") && debug.contains("algorithm: Rsa"));
+    assert!(!debug.contains(&0xfeed_beef_u32.to_string()));
+    for private in [d, iqmp, p, q] {
+        hides_private_bytes(&debug, private);
+    }
+}
+
 /// No three private bytes stand in the text, as a list of numbers or in hex.
 fn hides_private_bytes(text: &str, private: &[u8]) {
     let text = text.split_whitespace().collect::<String>();
@@ -166,6 +183,52 @@ fn an_encrypted_image() {
     let mut again = [0; 400];
     assert_eq!(image.rewrite(&mut again), Ok(len));
     assert_eq!(again[..len], out[..len]);
+}
+
+#[test]
+fn an_rsa_image() {
+    let key = images::RsaKey::new(2_048, &mut rng());
+    let [n, e, d, iqmp, p, q] = key.numbers();
+    let bytes = Draft::rsa(&key, 0xfeed_beef, b"silo 3").bytes();
+    let header = Header::read(&bytes).expect("a good image");
+    assert_eq!((header.algorithm(), header.bits()), (Algorithm::Rsa, 2_048));
+    assert_eq!((header.modulus(), header.exponent(), header.point()), (n, e, &b""[..]));
+    let image = header.section().expect("a good image");
+    assert_eq!((image.algorithm(), image.bits(), image.comment()), (Algorithm::Rsa, 2_048, "silo 3"));
+    assert_eq!((image.modulus(), image.exponent()), (n, e));
+    assert_eq!((image.d(), image.iqmp(), image.p(), image.q()), (d, iqmp, p, q));
+    assert!(image.point().is_empty() && image.scalar().is_empty() && image.is_in_form());
+    assert_eq!(image.public_blob(), strings_bytes(&key.blob()));
+}
+
+#[test]
+fn an_encrypted_rsa_image() {
+    let key = images::RsaKey::new(1_024, &mut rng());
+    let [n, e, ..] = key.numbers();
+    let bytes = Draft::rsa(&key, 0, b"").sealed(9, true, 2, &mut rng()).bytes();
+    let image = Image::read(&bytes).expect("a good image");
+    assert_eq!((image.modulus(), image.exponent(), image.bits()), (n, e, 1_024));
+    for private in [image.d(), image.iqmp(), image.p(), image.q(), image.scalar()] {
+        assert!(private.is_empty());
+    }
+}
+
+#[test]
+fn an_image_without_rsa_numbers() {
+    let bytes = good().bytes();
+    let image = Image::read(&bytes).expect("a good image");
+    assert_eq!(image.bits(), 0);
+    for number in [image.modulus(), image.exponent(), image.d(), image.iqmp(), image.p(), image.q()] {
+        assert!(number.is_empty());
+    }
+}
+
+#[test]
+fn rsa_has_its_own_writer() {
+    let (algorithm, checkint) = (Algorithm::Rsa, Checkint::Derived);
+    let key = PlainKey { algorithm, public: &[], private: &[], checkint };
+    let refusal = write_plain(&key, b"\xff", &mut []).expect_err("a refusal");
+    assert_eq!((refusal.number(), refusal.count(), refusal.place()), (4, 0, 0));
 }
 
 #[test]

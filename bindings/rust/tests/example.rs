@@ -4,17 +4,21 @@
 mod oven;
 #[path = "../examples/passphrase.rs"]
 mod passphrase;
+#[path = "../examples/silo.rs"]
+mod silo;
 
 #[test]
 fn run() {
     oven::main().expect("the example's key is fine");
     passphrase::main().expect("the example's keys are fine");
+    silo::main().expect("the example's key is fine");
 }
 
 #[test]
 fn stand_in_the_readme() {
     let readme = include_str!("../README.md");
-    for example in [include_str!("../examples/oven.rs"), include_str!("../examples/passphrase.rs")] {
+    let [oven, passphrase] = [include_str!("../examples/oven.rs"), include_str!("../examples/passphrase.rs")];
+    for example in [oven, passphrase, include_str!("../examples/silo.rs")] {
         assert!(readme.contains(&format!("```\n{}```", example)));
     }
 }

@@ -5,7 +5,7 @@ mod support;
 use saltorchard::raw;
 use support::compare::{numbers_of, raw_of, Tally};
 use support::damage::structured;
-use support::images::{drafts, Draft, Key};
+use support::images::{drafts, Draft, Key, DRAFTS};
 use support::model::Numbers;
 use support::Rng;
 
@@ -27,7 +27,7 @@ fn images(rng: &mut Rng) -> Vec<(Vec<u8>, Numbers)> {
 fn forged(tally: &mut Tally, image: &[u8], half: Numbers) {
     let refusal = numbers_of(&tally.section(image, raw_of(half)));
     assert_eq!(refusal[0], 1);
-    assert_eq!(refusal[1..], [0; 25]);
+    assert_eq!(refusal[1..], [0; 38]);
 }
 
 #[test]
@@ -42,7 +42,7 @@ fn headers_of_every_prefix() {
             assert!(if accepted { section == whole } else { numbers_of(&section)[..3] == [1, 0, 0] });
         }
     }
-    tally.expect_of_sections(&[0], 88);
+    tally.expect_of_sections(&[0], DRAFTS);
     tally.end(54_000);
 }
 
@@ -58,7 +58,7 @@ fn numbers_changed() {
             }
         }
     }
-    tally.end(88 * 26 * 6);
+    tally.end(DRAFTS * 39 * 6);
 }
 
 #[test]
@@ -75,7 +75,7 @@ fn codes_changed() {
             }
         }
     }
-    tally.end(88 * 4 * (256 + 56));
+    tally.end(DRAFTS * 4 * (256 + 56));
 }
 
 #[test]
@@ -87,7 +87,7 @@ fn other_answers() {
         whole[3] = header[3];
         forged(&mut tally, &image, whole);
         for number in 0..12 {
-            let mut refusal = [0; 26];
+            let mut refusal = [0; 39];
             refusal[0] = number;
             forged(&mut tally, &image, refusal);
         }
@@ -97,7 +97,7 @@ fn other_answers() {
         }
         forged(&mut tally, &image, numbers_of(&raw::read(&image[..image.len() - 1])));
     }
-    tally.end(88 * 23);
+    tally.end(DRAFTS * 23);
 }
 
 /// Some of the images have the same numbers in their headers, and these headers are each other's.
@@ -112,7 +112,7 @@ fn headers_of_other_images() {
         }
     }
     tally.expect_of_sections(&[0, 1], 800);
-    tally.end(88 * 88);
+    tally.end(DRAFTS * DRAFTS);
 }
 
 /// Each number is one header's or another's.
@@ -169,7 +169,7 @@ fn around_the_limit() {
             let image = Draft::in_form(&key, 7, &vec![b'c'; length]).bytes();
             let section = tally.section(&image, header);
             assert_eq!(section.number, u64::from(image.len() > 65_535), "above the limit it is 1, not 11");
-            forged(&mut tally, &image, [0; 26]);
+            forged(&mut tally, &image, [0; 39]);
         }
     }
     tally.expect_of_sections(&[0], 60);

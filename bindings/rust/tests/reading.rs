@@ -4,7 +4,7 @@ mod support;
 
 use support::compare::Tally;
 use support::damage::{comment, number_changes, set_uint32, spliced, structured, with_two_faults};
-use support::images::{drafts, plain_drafts, sealed, sealed_drafts, Draft, Flat, Key, MAGIC};
+use support::images::{drafts, plain_drafts, rsa_drafts, sealed, sealed_drafts, Draft, Flat, Key, DRAFTS, MAGIC};
 use support::Rng;
 
 #[test]
@@ -37,9 +37,9 @@ fn every_prefix() {
             accepted += u64::from(tally.read(&image[..end]));
         }
     }
-    assert_eq!(accepted, 88, "each image whole and no prefix of it");
+    assert_eq!(accepted, DRAFTS, "each image whole and no prefix of it");
     tally.expect_of_headers(&[0], 10_000);
-    tally.expect_of_sections(&[0], 88);
+    tally.expect_of_sections(&[0], DRAFTS);
     tally.end(81_000);
 }
 
@@ -169,8 +169,8 @@ fn parts_changed() {
 fn order_of_reading() {
     let mut tally = Tally::new("order of reading");
     let mut rng = Rng::new("order of reading");
-    let (plain, encrypted) = (plain_drafts(&mut rng), sealed_drafts(&mut rng));
-    for draft in plain[13..26].iter().chain(encrypted.iter().step_by(5)) {
+    let (plain, encrypted, rsa) = (plain_drafts(&mut rng), sealed_drafts(&mut rng), rsa_drafts(&mut rng));
+    for draft in plain[13..26].iter().chain(encrypted.iter().step_by(5)).chain(rsa.iter().skip(1).step_by(2)) {
         for image in with_two_faults(draft) {
             tally.read(&image);
         }

@@ -10,6 +10,8 @@ use libc::STDIN_FILENO;
 use libc::STDOUT_FILENO;
 use material::Checkint;
 use material::Material;
+use names::Algorithm;
+use names::Elliptic;
 use reply::Written;
 use section::Kind;
 
@@ -22,20 +24,47 @@ fn refuse(f: Fault) {
     io::write_all(STDERR_FILENO, b"\n");
 }
 
-fn write_plain(image: &[u8], f: Fields) {
-    let header = f.header;
-    let algorithm = header.algorithm;
-    let mut out = [0u8; 65536];
-    let m = Material::new(algorithm, parts::point(image, f), parts::scalar(image, f));
-    match plain::write_plain(m, Checkint::Derived, parts::comment(image, f), &mut out) {
-        Written::Refused(g) => refuse(g),
+// What was written at the start of a buffer, or the refusal.
+fn hand_out(written: Written, out: &[u8]) {
+    match written {
+        Written::Refused(f) => refuse(f),
         Written::Length(n) => {
-            let written = Part {
+            let whole = Part {
                 start: 0,
                 length: n,
             };
-            io::write_all(STDOUT_FILENO, fields::view(&out, written));
+            io::write_all(STDOUT_FILENO, fields::view(out, whole));
         }
+    }
+}
+
+fn write_elliptic(image: &[u8], f: Fields, kind: Elliptic) {
+    let mut out = [0u8; 65536];
+    let m = Material::new(kind, parts::point(image, f), parts::scalar(image, f));
+    let comment = parts::comment(image, f);
+    let written = plain::write_plain(m, Checkint::Derived, comment, &mut out);
+    hand_out(written, &out);
+}
+
+fn write_rsa(image: &[u8], f: Fields) {
+    let mut out = [0u8; 65536];
+    let n = parts::modulus(image, f);
+    let e = parts::exponent(image, f);
+    let d = parts::d(image, f);
+    let iqmp = parts::iqmp(image, f);
+    let p = parts::p(image, f);
+    let q = parts::q(image, f);
+    let comment = parts::comment(image, f);
+    let written = plain_rsa::write_rsa(n, e, d, iqmp, p, q, Checkint::Derived, comment, &mut out);
+    hand_out(written, &out);
+}
+
+fn write_plain(image: &[u8], f: Fields) {
+    let header = f.header;
+    let algorithm = header.algorithm;
+    match algorithm {
+        Algorithm::Elliptic(kind) => write_elliptic(image, f, kind),
+        Algorithm::Rsa => write_rsa(image, f),
     }
 }
 

@@ -6,18 +6,18 @@ use mathlib.Core.Bool.{Bool, true, cond}
 use mathlib.Core.List.{List, []}
 use lib.ListN.{length, take}
 use Rattle.fields.specs.Bytes.{AllBytes, sameBytes, same-self}
-use Rattle.fields.specs.Fields.{fault, viewOf}
+use Rattle.fields.specs.Fields.{fault}
 use Rattle.fields.specs.declared.Refusal.the-variants.{CharacterEncoding}
 use Rattle.names.specs.declared.Algorithm.{Algorithm}
 use Rattle.names.specs.declared.Cipher.the-variants as cipher
 use Rattle.names.specs.declared.Kdf.the-variants as kdf
 use Rattle.utf8.specs.Utf8.{utf8}
-use Rattle.format.specs.Format.{standing, needsLeadingZero, blob, header, writtenImage}
+use Rattle.format.specs.Format.{PublicBytes, PrivateBytes, needsLeadingZero, blob, keypair, header, writtenImage}
 use Rattle.section.specs.declared.Kind.the-variants as kind
 use Rattle.section.specs.Read.{beforeComment}
 use Rattle.container.specs.declared.Fields.{Fields}
 use Rattle.container.specs.declared.ImageRead.the-variants as read
-use Rattle.container.specs.Container.{readAt}
+use Rattle.container.specs.Container.{publicIn, privateIn, readAt}
 use Rattle.container.specs.Form.{rewritten, formOf}
 use Rattle.container.specs.Read.{PlainText}
 use Rattle.container.specs.FormLaws.{plain-of, form-rule}
@@ -28,7 +28,7 @@ use Rattle.plain.specs.Plain.{plainReply}
 use Rattle.comment.specs.Change.{afresh, afreshReply, commentField, acceptedReply}
 use Rattle.comment.specs.Afresh.{all-take, afresh-shell}
 use Rattle.claims.specs.Bytes.{all-shell}
-use Rattle.claims.specs.Reading.{plain-accepted}
+use Rattle.claims.specs.Reading.{own-of, plain-accepted}
 
 -- a plain image in the form and its record: what every change of it begins with
 pub record Base (s : List ℕ) (f : Fields) : Type 0 where
@@ -37,20 +37,19 @@ pub record Base (s : List ℕ) (f : Fields) : Type 0 where
   pub form : formOf s f ≡ true
 
 -- where the comment's bytes begin, by the key alone
-abbrev commentPlace : Algorithm → List ℕ → List ℕ → ℕ
-commentPlace a point scalar =
-    length (header cipher.None kdf.None [] 0 (blob a point)) + 4 + beforeComment a point (standing (needsLeadingZero a scalar) scalar) + 4
+abbrev commentPlace : Algorithm → PublicBytes → PrivateBytes → ℕ
+commentPlace a key x = length (header cipher.None kdf.None [] 0 (blob a key)) + 4 + beforeComment (keypair a (needsLeadingZero a x) key x) + 4
 
 place-of :
     (s : List ℕ) → AllBytes s → (f : Fields) → Base s f
-    → f .section .comment .start ≡ commentPlace (f .header .algorithm) (viewOf s (f .header .point)) (viewOf s (f .section .scalar))
+    → f .section .comment .start ≡ commentPlace (f .header .algorithm) (publicIn s f) (privateIn s f)
 place-of s all f b =
     let p = plain-of s all f (b .was-read) (b .plain) in
     let rule = form-rule s f p (b .plain) (b .form) in
     let a = f .header .algorithm in
-    let point = viewOf s (f .header .point) in
-    let scalar = viewOf s (f .section .scalar) in
-    p .comment-place ∙ ap₂ (λ (i : ℕ) (zero : Bool). i + 4 + beforeComment a point (standing zero scalar) + 4) (p .section-place) (sym rule)
+    let key = publicIn s f in
+    let x = privateIn s f in
+    p .comment-place ∙ ap₂ (λ (i : ℕ) (zero : Bool). i + 4 + beforeComment (keypair a zero key x) + 4) (p .section-place) (sym rule)
 
 -- what a change answers, by the base
 base-reply :
@@ -62,24 +61,24 @@ base-reply s f b comment room = rw (b .form, b .plain)
 -- two records of the same key and checkint
 pub record SameKey (s : List ℕ) (f : Fields) (t : List ℕ) (g : Fields) : Type 0 where
   pub algorithm : g .header .algorithm ≡ f .header .algorithm
-  pub point : viewOf t (g .header .point) ≡ viewOf s (f .header .point)
-  pub scalar : viewOf t (g .section .scalar) ≡ viewOf s (f .section .scalar)
+  pub public : publicIn t g ≡ publicIn s f
+  pub private : privateIn t g ≡ privateIn s f
   pub checkint : g .section .checkint ≡ f .section .checkint
 
 module _ (s : List ℕ) (f : Fields) (t : List ℕ) (g : Fields) (k : SameKey s f t g) where
   pub same-afresh : (comment : List ℕ) → afresh t g comment ≡ afresh s f comment
   unfolding afresh
-  same-afresh comment = rw (k .algorithm, k .point, k .scalar, k .checkint)
+  same-afresh comment = rw (k .algorithm, k .public, k .private, k .checkint)
 
   same-reply : (comment : List ℕ) (room : ℕ) → afreshReply t g comment room ≡ afreshReply s f comment room
   unfolding afreshReply
-  same-reply comment room = rw (k .algorithm, k .point, k .scalar, k .checkint)
+  same-reply comment room = rw (k .algorithm, k .public, k .private, k .checkint)
 
   same-place : AllBytes s → AllBytes t → Base s f → Base t g → commentField g ≡ commentField f
   same-place hs ht bs bt =
       let same :
-      commentPlace (g .header .algorithm) (viewOf t (g .header .point)) (viewOf t (g .section .scalar))
-      ≡ commentPlace (f .header .algorithm) (viewOf s (f .header .point)) (viewOf s (f .section .scalar)) = rw (k .algorithm, k .point, k .scalar) in
+      commentPlace (g .header .algorithm) (publicIn t g) (privateIn t g)
+      ≡ commentPlace (f .header .algorithm) (publicIn s f) (privateIn s f) = rw (k .algorithm, k .public, k .private) in
       ap (λ (i : ℕ). i - 4) (place-of t ht g bt ∙ same ∙ sym (place-of s hs f bs))
 
   -- a change of either answers the same
@@ -94,11 +93,11 @@ module _ (s : List ℕ) (f : Fields) (t : List ℕ) (g : Fields) (k : SameKey s 
 
 -- a written image that is read back is in the form
 pub back-form :
-    (t : List ℕ) (n : ℕ) (a : Algorithm) (point scalar comment : List ℕ) (padding : ℕ) → t ≡ writtenImage n a point scalar comment
-    → (b : PlainImageBack t n a point scalar comment padding) → formOf t (b .fields) ≡ true
+    (t : List ℕ) (n : ℕ) (a : Algorithm) (key : PublicBytes) (x : PrivateBytes) (comment : List ℕ) (padding : ℕ) → t ≡ writtenImage n a key x comment
+    → (b : PlainImageBack t n a key x comment padding) → formOf t (b .fields) ≡ true
 unfolding formOf rewritten
-back-form t n a point scalar comment padding e b =
-    rw (b .plain, b .same-checkint, b .same-algorithm, b .same-point, b .same-scalar, b .same-comment)
+back-form t n a key x comment padding e b =
+    rw (b .plain, b .same-checkint, b .same-algorithm, b .same-public, b .same-private, b .same-comment)
     (ap (λ (l : List ℕ). sameBytes l t) (sym e) ∙ same-self t)
 
 -- the record with which it is read again
@@ -119,26 +118,27 @@ module _ (old : List ℕ) (n : ℕ) (inside : n ≤ length old) (all : AllBytes 
 
   pub read-again :
       (comment : List ℕ) (k : ℕ)
-      → plainReply (f .header .algorithm) (viewOf (take n old) (f .header .point)) (viewOf (take n old) (f .section .scalar)) (f .section .checkint) comment (length old)
+      → plainReply (f .header .algorithm) (publicIn (take n old) f) (privateIn (take n old) f) (f .section .checkint) comment (length old)
       ≡ written.Length k
       → ReadAgain (take n old) f comment
   unfolding afresh writtenImage
   read-again comment k e =
       let s = take n old in
       let a = f .header .algorithm in
-      let point = viewOf s (f .header .point) in
-      let scalar = viewOf s (f .section .scalar) in
+      let key = publicIn s f in
+      let x = privateIn s f in
       let c = f .section .checkint in
-      let h = plain-accepted a point scalar c comment (length old) k e in
-      let r = plain-image-back (afresh s f comment) c a (needsLeadingZero a scalar) point scalar comment (h .small) (text-of .checkint-fits) (h .fits) refl in
+      let fits = text-of .key-fits in
+      let h = plain-accepted a key x c comment (length old) k e in
+      let r = plain-image-back (afresh s f comment) c a (needsLeadingZero a x) key x comment (h .small) (text-of .checkint-fits) (h .fits (own-of a key x (fits .public) (fits .private))) refl in
       record {
         fields = r .fields;
-        base = record { was-read = r .read; plain = r .plain; form = back-form (afresh s f comment) c a point scalar comment _ refl r };
+        base = record { was-read = r .read; plain = r .plain; form = back-form (afresh s f comment) c a key x comment _ refl r };
         same-key =
             record {
               algorithm = r .same-algorithm;
-              point = r .same-point;
-              scalar = r .same-scalar;
+              public = r .same-public;
+              private = r .same-private;
               checkint = r .same-checkint;
             };
       }

@@ -1,6 +1,7 @@
 -- Demand 2, the form: write after read gives the image exactly where it is in the form; an accepted plain image isn't in the form
--- exactly for a zero before a scalar byte below 0x80 and for no zero before one of 0x80 or more; every accepted encrypted image is.
-use Prim.Native.Nat.{ℕ, _+_, _≤_, _<_}
+-- exactly for a zero before a scalar byte below 0x80 and for no zero before one of 0x80 or more; every accepted encrypted image is, and
+-- every accepted RSA image.
+use Prim.Native.Nat.{ℕ, _+_, _≤_, _<_, _^_}
 use native.Mathlib.Omega.{arith}
 use mathlib.Core.Path.{_≡_, refl, sym, _∙_, ap, ap₂}
 use mathlib.Core.Bool.{Bool, true, false, not}
@@ -10,29 +11,33 @@ use lib.Dec.{leb}
 use lib.ListN.{length, take, getD}
 use Rattle.fields.specs.Bytes.{AllBytes, sameBytes, same-true, same-self}
 use Rattle.fields.specs.Fields.{whole, viewOf}
-use Rattle.fields.specs.Place.{clash}
-use Rattle.fields.specs.Rest.{rest-whole}
+use Rattle.fields.specs.Place.{clash, by-bool}
+use Rattle.fields.specs.Rest.{rest-whole, view-length}
+use Rattle.fields.specs.Room.{view-out}
+use Rattle.names.specs.declared.Elliptic.the-variants.{Ed25519, Ecdsa}
 use Rattle.names.specs.declared.Algorithm.{Algorithm}
-use Rattle.names.specs.declared.Algorithm.the-variants.{Ed25519, Ecdsa}
+use Rattle.names.specs.declared.Algorithm.the-variants.{Elliptic as OnCurve, Rsa}
 use Rattle.names.specs.declared.Curve.{Curve}
 use Rattle.names.specs.declared.Kdf.{Kdf}
 use Rattle.names.specs.declared.Kdf.the-variants as kdf
-use Rattle.format.specs.Format.{OptionsFit, standing, mayStand, leadingZero, needsLeadingZero, plainImage, writtenImage, encryptedImage}
-use Rattle.format.specs.Laws.{key-small, standing-same}
+use Rattle.format.specs.Format.{PrivateBytes, OptionsFit, mayStand, leadingZero, needsLeadingZero, blob, keypair, plainImage, writtenImage, encryptedImage}
+use Rattle.pairs.specs.Pairs.{privateBytes}
+use Rattle.fields.specs.declared.Part.{Part}
+use Rattle.format.specs.Laws.{standing-same}
 use Rattle.key_laws.specs.Back.{blob-back}
 use Rattle.section.specs.declared.Kind.the-variants.{Plain, Encrypted}
 use Rattle.container.specs.declared.Fields.{Fields}
 use Rattle.container.specs.declared.ImageRead.the-variants as read
-use Rattle.container.specs.Container.{readAt}
+use Rattle.container.specs.Container.{publicIn, privateIn, readAt}
 use Rattle.container.specs.Form.{rewritten, formOf}
 use Rattle.container.specs.Read.{PlainText, EncryptedText, ImageText, plain-text, encrypted-text, image-text}
-use Rattle.container.specs.FormLaws.{agree, form-agrees, form-encrypted, plain-of}
+use Rattle.container.specs.FormLaws.{agree, scalar-short, form-agrees, form-encrypted, plain-of}
 use Rattle.buffer.specs.Puts.{splice, take-splice}
 use Rattle.reply.specs.declared.Written.the-variants as written
 use Rattle.reply.specs.Reply.{left, sized}
-use Rattle.plain.specs.Plain.{plainReply, plainLeft}
+use Rattle.plain.specs.Plain.{plainLeft}
 use Rattle.encrypted.specs.Encrypted.{optionsFit, encryptedReply, encryptedLeft}
-use Rattle.writer.specs.Rewrite.{recordReply, recordLeft, rewriteReply, rewriteLeft}
+use Rattle.writer.specs.Rewrite.{plainAgain, plainAgainLeft, recordReply, recordLeft, rewriteReply, rewriteLeft}
 use Rattle.comment.specs.Change.{afresh, afreshReply}
 use Rattle.comment.specs.Afresh.{afresh-sized}
 use Rattle.claims.specs.Reading.{sized-held}
@@ -52,13 +57,15 @@ encrypted-in-form s all f e kind = go (image-text s all f e)
 abbrev pub Stands : List ℕ → Fields → Bool → Type 0
 Stands s f zero =
     s
-    ≡ plainImage (f .section .checkint) (f .header .algorithm) (viewOf s (f .header .point)) (standing zero (viewOf s (f .section .scalar)))
+    ≡ plainImage (f .section .checkint) (blob (f .header .algorithm) (publicIn s f)) (keypair (f .header .algorithm) zero (publicIn s f) (privateIn s f))
     (viewOf s (f .section .comment))
 
 -- what breaks the form: a zero stands before a scalar byte below 0x80, or none before one of 0x80 or more
 pub data Slip (s : List ℕ) (f : Fields) : Type 0 where
-  needless : (k : Curve) → f .header .algorithm ≡ Ecdsa k → Stands s f true → getD (viewOf s (f .section .scalar)) 0 0 < 0x80 → Slip s f
-  missing : (k : Curve) → f .header .algorithm ≡ Ecdsa k → Stands s f false → 0x80 ≤ getD (viewOf s (f .section .scalar)) 0 0 → Slip s f
+  needless :
+      (k : Curve) → f .header .algorithm ≡ OnCurve (Ecdsa k) → Stands s f true → getD (viewOf s (f .section .private .scalar)) 0 0 < 0x80 → Slip s f
+  missing :
+      (k : Curve) → f .header .algorithm ≡ OnCurve (Ecdsa k) → Stands s f false → 0x80 ≤ getD (viewOf s (f .section .private .scalar)) 0 0 → Slip s f
 
 agree-with-true : (w : Bool) → agree w true ≡ w
 agree-with-true true = refl
@@ -70,22 +77,47 @@ agree-with-false false = refl
 
 slip-by :
     (s : List ℕ) (f : Fields) (a : Algorithm) → f .header .algorithm ≡ a → (zero : Bool) → Stands s f zero
-    → mayStand a zero ≡ true → agree (needsLeadingZero a (viewOf s (f .section .scalar))) zero ≡ false → Slip s f
-slip-by s f Ed25519 q true z may w = clash cc
-slip-by s f Ed25519 q false z may w = clash cc
-slip-by s f (Ecdsa k) q true z may w = needless k q z (leb-false _ _ (sym (agree-with-true _) ∙ w))
-slip-by s f (Ecdsa k) q false z may w = missing k q z (leb-true _ _ (not-false _ (sym (agree-with-false (leb 0x80 (getD (viewOf s (f .section .scalar)) 0 0))) ∙ w)))
+    → mayStand a zero ≡ true → agree (needsLeadingZero a (privateIn s f)) zero ≡ false → Slip s f
+unfolding privateBytes
+slip-by s f (OnCurve Ed25519) q true z may w = clash cc
+slip-by s f (OnCurve Ed25519) q false z may w = clash cc
+slip-by s f (OnCurve (Ecdsa k)) q true z may w = needless k q z (leb-false _ _ (sym (agree-with-true _) ∙ w))
+slip-by s f (OnCurve (Ecdsa k)) q false z may w =
+    missing k q z (leb-true _ _ (not-false _ (sym (agree-with-false (leb 0x80 (getD (viewOf s (f .section .private .scalar)) 0 0))) ∙ w)))
+slip-by s f Rsa q true z may w = clash cc
+slip-by s f Rsa q false z may w = clash cc
 
 -- the rule by the first byte
-rule-by : (k : Curve) (a : Algorithm) (scalar : List ℕ) (b : Bool) → a ≡ Ecdsa k → leadingZero scalar ≡ b → needsLeadingZero a scalar ≡ b
-rule-by k a scalar b q w = rw q w
+rule-by :
+    (s : List ℕ) (f : Fields) (k : Curve) (b : Bool) → f .header .algorithm ≡ OnCurve (Ecdsa k) → leadingZero (viewOf s (f .section .private .scalar)) ≡ b
+    → needsLeadingZero (f .header .algorithm) (privateIn s f) ≡ b
+unfolding privateBytes
+rule-by s f k b q w = rw q w
 
 -- a scalar stands in one way only
-stands-once : (s : List ℕ) (f : Fields) (p : PlainText s f) (zero : Bool) → Stands s f zero → p .zero ≡ zero
-stands-once s f p zero z =
-    let k = key-small (f .header .algorithm) in
-    standing-same (f .section .checkint) (f .header .algorithm) (viewOf s (f .header .point)) (viewOf s (f .section .scalar)) (viewOf s (f .section .comment)) (p .zero) zero
-    (omega (arith, p .key-fits .long, k)) (omega (arith, p .key-fits .private, k)) (sym (p .text) ∙ z)
+stands-once :
+    (s : List ℕ) (f : Fields) (p : PlainText s f) (k : Curve) → f .header .algorithm ≡ OnCurve (Ecdsa k) → (zero : Bool) → Stands s f zero → p .zero ≡ zero
+stands-once s f p k q zero z =
+    let may : (w : Bool) → mayStand (f .header .algorithm) w ≡ true = λ w. rw q in
+    standing-same (f .section .checkint) (f .header .algorithm) (publicIn s f) (privateIn s f) (viewOf s (f .section .comment)) (p .zero) zero
+    (scalar-short (f .header .algorithm) (publicIn s f) (privateIn s f) (p .key-fits .private)) (may (p .zero)) (may zero) (sym (p .text) ∙ z)
+
+-- a key that isn't ECDSA's has no slip
+no-slip : (a : Algorithm) (x : PrivateBytes) (zero : Bool) → ((k : Curve) → a ≡ OnCurve (Ecdsa k) → ⊥) → mayStand a zero ≡ true → agree (needsLeadingZero a x) zero ≡ true
+no-slip (OnCurve Ed25519) x zero other may = may
+no-slip (OnCurve (Ecdsa k)) x zero other may = absurd (other k refl)
+no-slip Rsa x zero other may = may
+
+-- an accepted RSA image is always in the form
+pub rsa-in-form : (s : List ℕ) → AllBytes s → (f : Fields) → readAt s ≡ read.Record f → f .header .algorithm ≡ Rsa → formOf s f ≡ true
+rsa-in-form s all f e rsa = go (image-text s all f e)
+  where
+    other : (k : Curve) → f .header .algorithm ≡ OnCurve (Ecdsa k) → ⊥
+    other k q = clash (let o : Rsa ≡ OnCurve (Ecdsa k) = sym rsa ∙ q in cc)
+
+    go : ImageText s all f e → formOf s f ≡ true
+    go (plain-text kind p) = form-agrees s f p kind ∙ no-slip (f .header .algorithm) (privateIn s f) (p .zero) other (p .key-fits .may)
+    go (encrypted-text kind p) = form-encrypted s f p kind
 
 module _ (s : List ℕ) (all : AllBytes s) (f : Fields) (e : readAt s ≡ read.Record f) (plain : f .section .kind ≡ Plain) where
   -- an accepted plain image that isn't in the form has one of the two slips
@@ -99,13 +131,22 @@ module _ (s : List ℕ) (all : AllBytes s) (f : Fields) (e : readAt s ≡ read.R
   slip-fails (needless k q z below) =
       let p = plain-of s all f e plain in
       form-agrees s f p plain
-      ∙ ap₂ agree (rule-by k (f .header .algorithm) (viewOf s (f .section .scalar)) false q (lt-leb _ _ below)) (stands-once s f p true z)
+      ∙ ap₂ agree (rule-by s f k false q (lt-leb _ _ below)) (stands-once s f p k q true z)
   slip-fails (missing k q z above) =
       let p = plain-of s all f e plain in
       form-agrees s f p plain
-      ∙ ap₂ agree (rule-by k (f .header .algorithm) (viewOf s (f .section .scalar)) true q (le-leb _ _ above)) (stands-once s f p false z)
+      ∙ ap₂ agree (rule-by s f k true q (le-leb _ _ above)) (stands-once s f p k q false z)
 
 -- ---- write after read
+
+-- a part is no longer than its image
+part-within : (s : List ℕ) (p : Part) → length (viewOf s p) ≤ length s
+part-within s p =
+    by-bool (leb (p .start + p .length) (length s))
+    (λ w.
+    let inside = leb-true (p .start + p .length) (length s) w in
+    omega (arith, view-length s p inside, inside))
+    (λ w. rw (view-out s p (leb-false (p .start + p .length) (length s) w) .0) (omega arith))
 
 sized-fits : (image : List ℕ) (room : ℕ) → length image ≤ 65535 → length image ≤ room → sized image room ≡ written.Length (length image)
 unfolding sized
@@ -117,10 +158,9 @@ options-told kdf.Bcrypt salt rounds h = refl
 
 module _ (s : List ℕ) (all : AllBytes s) (f : Fields) (e : readAt s ≡ read.Record f) where
   -- an accepted image's record passes every test of its writer but size and room
-  plain-again : PlainText s f → (room : ℕ) → plainReply (f .header .algorithm) (viewOf s (f .header .point)) (viewOf s (f .section .scalar)) (f .section .checkint)
-      (viewOf s (f .section .comment)) room
-      ≡ sized (writtenImage (f .section .checkint) (f .header .algorithm) (viewOf s (f .header .point)) (viewOf s (f .section .scalar)) (viewOf s (f .section .comment))) room
-  unfolding afreshReply afresh
+  plain-again : PlainText s f → (room : ℕ)
+      → plainAgain s f room ≡ sized (writtenImage (f .section .checkint) (f .header .algorithm) (publicIn s f) (privateIn s f) (viewOf s (f .section .comment))) room
+  unfolding plainAgain afreshReply afresh
   plain-again p room = afresh-sized s f p (viewOf s (f .section .comment)) (p .key-fits .text) room
 
   encrypted-again : EncryptedText s f → (room : ℕ) → encryptedReply (f .header .cipher) (f .header .kdf) (viewOf s (f .header .salt)) (f .header .rounds)
@@ -132,11 +172,12 @@ module _ (s : List ℕ) (all : AllBytes s) (f : Fields) (e : readAt s ≡ read.R
       let key = viewOf s (f .header .blob) in
       let fits = p .seal-fits in
       let whole-good : (0 ≤ length key) × (length key ≤ length key) = (omega arith, omega arith) in
-      let b = blob-back key (whole key) whole-good (f .header .algorithm) (viewOf s (f .header .point)) (fits .long) (fits .tag-byte) (rest-whole key ∙ p .content) in
-      rw (fits .encrypts, options-told (f .header .kdf) (viewOf s (f .header .salt)) (f .header .rounds) (fits .options-fit), b .1, eq-eqb _ _ (fits .blocks), eq-eqb _ _ (fits .tag-long))
+      let short : length key < 2 ^ 32 = omega (arith, p .fits, part-within s (f .header .blob)) in
+      let b = blob-back key (whole key) whole-good short (f .header .algorithm) (publicIn s f) (fits .public) (rest-whole key ∙ p .content) in
+      rw (fits .encrypts, options-told (f .header .kdf) (viewOf s (f .header .salt)) (f .header .rounds) (fits .options-fit), b .read, eq-eqb _ _ (fits .blocks), eq-eqb _ _ (fits .tag-long))
 
   rewrite-sized : (room : ℕ) → rewriteReply s room ≡ sized (rewritten s f) room
-  unfolding rewriteReply recordReply rewritten
+  unfolding rewriteReply recordReply rewritten plainAgain
   rewrite-sized room = rw e (go (image-text s all f e))
     where
       go : ImageText s all f e → recordReply s f room ≡ sized (rewritten s f) room
@@ -144,7 +185,7 @@ module _ (s : List ℕ) (all : AllBytes s) (f : Fields) (e : readAt s ≡ read.R
       go (encrypted-text kind p) = rw kind (encrypted-again p room)
 
   rewrite-left : (old : List ℕ) → rewriteLeft s old ≡ left (sized (rewritten s f) (length old)) (rewritten s f) old
-  unfolding rewriteLeft recordLeft rewritten plainLeft encryptedLeft
+  unfolding rewriteLeft recordLeft rewritten plainAgain plainAgainLeft plainLeft encryptedLeft
   rewrite-left old = rw e (go (image-text s all f e))
     where
       go : ImageText s all f e → recordLeft s f old ≡ left (sized (rewritten s f) (length old)) (rewritten s f) old

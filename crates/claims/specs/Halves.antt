@@ -103,24 +103,24 @@ never-three (form-read.Record f form) e = accepted (f .section .kind) e
 pub full-forged : (s t : List ℕ) → sectionC s (imageOf (formReadAt t)) ≡ forgedHalf
 full-forged s t = other-kind s (imageOf (formReadAt t)) (never-three (formReadAt t))
 
--- and any with a code that names nothing
+-- and any with a code that names nothing: a half's own codes name what it has
+no-name :
+    {A N : Type 0} (coded : ℕ → N) (known : A → N) (unknown : N) (code : Image → ℕ) (has : Header → A) → ((a : A) → unknown ≡ known a → ⊥)
+    → ((h : Header) → coded (code (halfImage h)) ≡ known (has h)) → (s : List ℕ) (x : Image) → coded (code x) ≡ unknown → sectionC s x ≡ forgedHalf
+no-name coded known unknown code has differ names s x nothing =
+    half-forged-c s x (λ h e same. differ (has h) (sym nothing ∙ ap (λ (y : Image). coded (code y)) same ∙ names h))
+
 pub no-cipher : (s : List ℕ) (x : Image) → cipherCoded (x .cipher) ≡ cipher-name.Unknown → sectionC s x ≡ forgedHalf
-no-cipher s x unknown =
-    half-forged-c s x (λ h e same.
-    let known : cipher-name.Unknown ≡ cipher-name.Known (h .cipher) = sym unknown ∙ ap (λ (y : Image). cipherCoded (y .cipher)) same ∙ cipher-coded (h .cipher) in
-    clash cc)
+no-cipher =
+    no-name cipherCoded cipher-name.Known cipher-name.Unknown (λ x. x .cipher) (λ h. h .cipher) (λ c e. clash cc) (λ h. cipher-coded (h .cipher))
 
 pub no-kdf : (s : List ℕ) (x : Image) → kdfCoded (x .kdf) ≡ kdf-name.Unknown → sectionC s x ≡ forgedHalf
-no-kdf s x unknown =
-    half-forged-c s x (λ h e same.
-    let known : kdf-name.Unknown ≡ kdf-name.Known (h .kdf) = sym unknown ∙ ap (λ (y : Image). kdfCoded (y .kdf)) same ∙ kdf-coded (h .kdf) in
-    clash cc)
+no-kdf = no-name kdfCoded kdf-name.Known kdf-name.Unknown (λ x. x .kdf) (λ h. h .kdf) (λ k e. clash cc) (λ h. kdf-coded (h .kdf))
 
 pub no-algorithm : (s : List ℕ) (x : Image) → algorithmCoded (x .algorithm) ≡ algorithm-name.Unknown → sectionC s x ≡ forgedHalf
-no-algorithm s x unknown =
-    half-forged-c s x (λ h e same.
-    let known : algorithm-name.Unknown ≡ algorithm-name.Known (h .algorithm) = sym unknown ∙ ap (λ (y : Image). algorithmCoded (y .algorithm)) same ∙ algorithm-coded (h .algorithm) in
-    clash cc)
+no-algorithm =
+    no-name algorithmCoded algorithm-name.Known algorithm-name.Unknown (λ x. x .algorithm) (λ h. h .algorithm) (λ a e. clash cc)
+    (λ h. algorithm-coded (h .algorithm))
 
 -- ---- cipher `none` with a KDF: the header is accepted, and the section read gives 3, at the KDF name
 

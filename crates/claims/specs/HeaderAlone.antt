@@ -11,6 +11,7 @@ use Rattle.fields.specs.Fields.{part, viewOf}
 use Rattle.fields.specs.Rest.{rest}
 use Rattle.fields.specs.declared.Part.{Part}
 use Rattle.format.specs.Format.{blob, header}
+use Rattle.keys.specs.Keys.{publicBytes}
 use Rattle.header.specs.declared.Header.{Header}
 use Rattle.header.specs.declared.HeaderRead.the-variants as header-read
 use Rattle.header.specs.Header.{headerAt}
@@ -19,7 +20,7 @@ use Rattle.header.specs.Read.{HeaderText, header-text}
 
 -- the header's own bytes, as the format writes them
 abbrev bytes : List ℕ → Header → List ℕ
-bytes s h = header (h .cipher) (h .kdf) (viewOf s (h .salt)) (h .rounds) (blob (h .algorithm) (viewOf s (h .point)))
+bytes s h = header (h .cipher) (h .kdf) (viewOf s (h .salt)) (h .rounds) (blob (h .algorithm) (publicBytes s (h .public)))
 
 module _ (s : List ℕ) (all : AllBytes s) (h : Header) (read : headerAt s ≡ header-read.Header h) where
   abbrev text : HeaderText s all h
@@ -44,22 +45,21 @@ ends-same p q n size a b =
     let start : p .start ≡ q .start = omega (arith, size, a, b) in
     ap₂ part start size
 
--- two images whose headers say the same have the same header: names, rounds, and what salt, blob and point hold
+-- two images whose headers say the same have the same header: names, rounds, and what salt, blob and public key hold
 same-header :
     (s t : List ℕ) (all : AllBytes s) (every : AllBytes t) (h k : Header) → headerAt s ≡ header-read.Header h → headerAt t ≡ header-read.Header k
     → h .cipher ≡ k .cipher → h .kdf ≡ k .kdf → viewOf s (h .salt) ≡ viewOf t (k .salt) → h .rounds ≡ k .rounds → h .algorithm ≡ k .algorithm
-    → viewOf s (h .blob) ≡ viewOf t (k .blob) → viewOf s (h .point) ≡ viewOf t (k .point) → h ≡ k
-same-header s t all every h k p q cipher kdf salted rounds algorithm blobbed pointed =
+    → viewOf s (h .blob) ≡ viewOf t (k .blob) → publicBytes s (h .public) ≡ publicBytes t (k .public) → h ≡ k
+same-header s t all every h k p q cipher kdf salted rounds algorithm blobbed keyed =
     let x = header-text s all h p in
     let y = header-text t every k q in
-    let written : bytes s h ≡ bytes t k = rw (cipher, kdf, salted, rounds, algorithm, pointed) in
+    let written : bytes s h ≡ bytes t k = rw (cipher, kdf, salted, rounds, algorithm, keyed) in
     let section : h .section ≡ k .section = sym (begins s all h p) ∙ ap length written ∙ begins t every k q in
     let salt : h .salt ≡ k .salt = x .salt-lies ∙ (rw (cipher, kdf, salted)) ∙ sym (y .salt-lies) in
     let blob-size : h .blob .length ≡ k .blob .length = sym (x .blob-size) ∙ ap length blobbed ∙ y .blob-size in
     let blob′ : h .blob ≡ k .blob = ends-same (h .blob) (k .blob) (k .section) blob-size (x .blob-ends ∙ section) (y .blob-ends) in
-    let point-size : h .point .length ≡ k .point .length = sym (x .point-size) ∙ ap length pointed ∙ y .point-size in
-    let point : h .point ≡ k .point = ends-same (h .point) (k .point) (k .section) point-size (x .point-ends ∙ section) (y .point-ends) in
-    let whole : _≡_ {A = Header} (record { cipher = h .cipher; kdf = h .kdf; salt = h .salt; rounds = h .rounds; algorithm = h .algorithm; blob = h .blob; point = h .point; section = h .section }) (record { cipher = k .cipher; kdf = k .kdf; salt = k .salt; rounds = k .rounds; algorithm = k .algorithm; blob = k .blob; point = k .point; section = k .section }) = cc in
+    let public : h .public ≡ k .public = x .public-lies ∙ (rw (section, algorithm, keyed)) ∙ sym (y .public-lies) in
+    let whole : _≡_ {A = Header} (record { cipher = h .cipher; kdf = h .kdf; salt = h .salt; rounds = h .rounds; algorithm = h .algorithm; blob = h .blob; public = h .public; section = h .section }) (record { cipher = k .cipher; kdf = k .kdf; salt = k .salt; rounds = k .rounds; algorithm = k .algorithm; blob = k .blob; public = k .public; section = k .section }) = cc in
     whole
 
 pub header-alone :
@@ -70,9 +70,9 @@ header-alone s t all every h read small agree =
     let split : t ≡ bytes s h ++ drop (h .section) t =
     sym (take-append-drop (h .section) t) ∙ ap (λ (u : List ℕ). u ++ drop (h .section) t) (sym agree ∙ first s all h read) in
     let k =
-    header-back t (h .cipher) (h .kdf) (viewOf s (h .salt)) (h .rounds) (h .algorithm) (viewOf s (h .point)) (drop (h .section) t) small (x .options-fit)
-    (x .long) (x .tag) split in
+    header-back t (h .cipher) (h .kdf) (viewOf s (h .salt)) (h .rounds) (h .algorithm) (publicBytes s (h .public)) (drop (h .section) t) small (x .options-fit)
+    (x .public-fits) split in
     let same : h ≡ k .fields =
     same-header s t all every h (k .fields) read (k .read) (sym (k .same-cipher)) (sym (k .same-kdf)) (sym (k .same-salt)) (sym (k .same-rounds))
-    (sym (k .same-algorithm)) (x .content ∙ sym (k .same-blob)) (sym (k .same-point)) in
+    (sym (k .same-algorithm)) (x .content ∙ sym (k .same-blob)) (sym (k .same-public)) in
     k .read ∙ ap header-read.Header (sym same)

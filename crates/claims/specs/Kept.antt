@@ -7,10 +7,9 @@ use mathlib.Core.List.{List}
 use borrow.Author.Tests.{le-leb}
 use lib.ListN.{length, take}
 use Rattle.fields.specs.Bytes.{AllBytes}
-use Rattle.fields.specs.Fields.{viewOf}
 use Rattle.container.specs.declared.Fields.{Fields}
 use Rattle.container.specs.declared.ImageRead.the-variants as read
-use Rattle.container.specs.Container.{readAt}
+use Rattle.container.specs.Container.{publicIn, privateIn, readAt}
 use Rattle.reply.specs.declared.Written.the-variants as written
 use Rattle.plain.specs.Plain.{plainReply}
 use Rattle.comment.specs.Change.{afresh, acceptedReply, changeReply, changeLeft}
@@ -39,7 +38,7 @@ pub record Kept (s : State) (comment : List ℕ) (far : ℕ) (u : State) : Type 
   pub base : Base (take (s .n) (s .buf)) fields
   pub answered : changeReply (s .buf) (s .n) comment ≡ written.Length (u .n)
   pub writes :
-      plainReply (fields .header .algorithm) (viewOf (take (s .n) (s .buf)) (fields .header .point)) (viewOf (take (s .n) (s .buf)) (fields .section .scalar))
+      plainReply (fields .header .algorithm) (publicIn (take (s .n) (s .buf)) fields) (privateIn (take (s .n) (s .buf)) fields)
       (fields .section .checkint) comment (length (s .buf))
       ≡ written.Length (u .n)
   pub bytes : AllBytes comment

@@ -20,3 +20,4 @@ pub mod Sizes
 pub mod Marked
 pub mod ShutOut
 pub mod Printed
+pub mod Rsa

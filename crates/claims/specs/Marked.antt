@@ -13,14 +13,15 @@ use Rattle.fields.specs.Refusals.{numberOf, countOf}
 use Rattle.fields.specs.declared.Refusal.{Refusal}
 use Rattle.fields.specs.declared.Refusal.the-variants.{Length, FormatEncoding, TrailingData}
 use Rattle.names.specs.declared.Algorithm.{Algorithm}
-use Rattle.names.specs.declared.Algorithm.the-variants.{Ecdsa}
+use Rattle.names.specs.declared.Algorithm.the-variants.{Elliptic as OnCurve}
+use Rattle.names.specs.declared.Elliptic.the-variants.{Ecdsa}
 use Rattle.names.specs.declared.Curve.the-variants.{Nistp256}
 use Rattle.names.specs.Algorithms.{algorithmNamed, curveNamed, sameAlgorithm}
 use Rattle.names.specs.Ciphers.{cipherNamed, kdfNamed}
 use Rattle.utf8.specs.Utf8.{utf8}
-use Rattle.format.specs.Format.{magic, blob, standing, needsLeadingZero, content, section, header, plainImage}
-use Rattle.keys.specs.Keys.{pointAt, ecdsaPublicAt, ecdsaKeyAt, publicKeyAt, blobAt}
-use Rattle.pairs.specs.Pairs.{scalarAt, ecdsaPairAt, keypairAt}
+use Rattle.format.specs.Format.{PublicBytes, PrivateBytes, ofPoint, ofScalar, magic, blob, keypair, needsLeadingZero, content, section, header, plainImage}
+use Rattle.keys.specs.Keys.{pointAt, ecdsaPublicAt, pointPlace, ecdsaKeyAt, ellipticKeyAt, publicKeyAt, blobAt}
+use Rattle.pairs.specs.Pairs.{scalarAt, ecdsaPairAt, ellipticPairAt, keypairAt}
 use Rattle.material.specs.Material.{derivedCheckint}
 use Rattle.material.specs.Laws.{derived-m16}
 use Rattle.header.specs.Header.{magicAt, cipherAt, noneAt, kdfAt, countAt, blobFieldAt, headerAt}
@@ -61,7 +62,10 @@ magic-alone = record { why = Length; read = refl; number-is = refl; count-is = r
 
 -- a P-256 image without comment, in which these bytes stand as the scalar's field
 unfoldable pub p256Image : List ℕ → List ℕ
-p256Image stored = plainImage 7 (Ecdsa Nistp256) (4 ∷ replicate 64 9) stored []
+p256Image stored =
+    let p256 = OnCurve (Ecdsa Nistp256) in
+    let key = ofPoint (4 ∷ replicate 64 9) in
+    plainImage 7 (blob p256 key) (keypair p256 false key (ofScalar stored)) []
 
 -- what the reader answers to fields of 33 bytes that begin with 1, of 34, of 31 and of 35 bytes
 pub other-scalars :
@@ -69,9 +73,9 @@ pub other-scalars :
     × Refuses (p256Image (replicate 34 9)) 6 2 299
     × Refuses (p256Image (replicate 31 9)) 1 0 263
     × Refuses (p256Image (replicate 35 9)) 6 3 299
-unfolding p256Image plainImage header section content blob string uint32 magic
+unfolding p256Image plainImage header section content blob keypair string uint32 magic
     readAt headerAt cipherAt magicAt kdfAt noneAt countAt blobFieldAt sectionAt plainAt contentAt checkintsAt entryAt
-    blobAt publicKeyAt ecdsaKeyAt ecdsaPublicAt pointAt keypairAt ecdsaPairAt scalarAt cipherNamed kdfNamed algorithmNamed curveNamed sameAlgorithm
+    blobAt publicKeyAt ellipticKeyAt ecdsaKeyAt ecdsaPublicAt pointAt pointPlace keypairAt ellipticPairAt ecdsaPairAt scalarAt cipherNamed kdfNamed algorithmNamed curveNamed sameAlgorithm
     stringAt uint32At fixedAt bytesAt endAt hasRoom viewOf
 other-scalars = (
   record { why = FormatEncoding; read = refl; number-is = refl; count-is = refl },
@@ -90,33 +94,37 @@ pub record NotInForm (s : List ℕ) : Type 0 where
 
 -- a key's image in which the zero doesn't stand by the writer's rule
 against-rule :
-    (n : ℕ) (a : Algorithm) (zero : Bool) (point scalar comment : List ℕ) → n < 2 ^ 32 → KeyFits a zero point scalar comment
-    → length (plainImage n a point (standing zero scalar) comment) ≤ 65535 → needsLeadingZero a scalar ≡ not zero
-    → NotInForm (plainImage n a point (standing zero scalar) comment)
-against-rule n a zero point scalar comment fit fits small rule =
-    let s = plainImage n a point (standing zero scalar) comment in
-    let b = plain-image-back s n a zero point scalar comment small fit fits refl in
+    (n : ℕ) (a : Algorithm) (zero : Bool) (key : PublicBytes) (x : PrivateBytes) (comment : List ℕ) → n < 2 ^ 32 → KeyFits a zero key x comment
+    → length (plainImage n (blob a key) (keypair a zero key x) comment) ≤ 65535 → needsLeadingZero a x ≡ not zero
+    → NotInForm (plainImage n (blob a key) (keypair a zero key x) comment)
+against-rule n a zero key x comment fit fits small rule =
+    let s = plainImage n (blob a key) (keypair a zero key x) comment in
+    let b = plain-image-back s n a zero key x comment small fit fits refl in
     record {
       fields = b .fields;
       read = b .read;
-      form = form-back s n a zero point scalar comment _ fits refl b ∙ ap (λ (w : Bool). agree w zero) rule ∙ never zero;
+      form = form-back s n a zero key x comment _ fits refl b ∙ ap (λ (w : Bool). agree w zero) rule ∙ never zero;
     }
   where
     never : (z : Bool) → agree (not z) z ≡ false
     never true = refl
     never false = refl
 
+-- a P-256 image of these parts, the scalar after a zero or not
+abbrev pub p256Of : ℕ → Bool → List ℕ → List ℕ → List ℕ → List ℕ
+p256Of n zero point scalar comment =
+    plainImage n (blob (OnCurve (Ecdsa Nistp256)) (ofPoint point)) (keypair (OnCurve (Ecdsa Nistp256)) zero (ofPoint point) (ofScalar scalar)) comment
+
 -- every P-256 image whose scalar begins with this byte and stands so, after a zero or not, with any checkint and comment
 abbrev pub P256NotInForm : ℕ → Bool → Type 0
 P256NotInForm first zero =
     (n : ℕ) (point scalar comment : List ℕ) → n < 2 ^ 32 → Key (Ecdsa Nistp256) point scalar → getD scalar 0 0 ≡ first → utf8 comment ≡ true
-    → length (plainImage n (Ecdsa Nistp256) point (standing zero scalar) comment) ≤ 65535
-    → NotInForm (plainImage n (Ecdsa Nistp256) point (standing zero scalar) comment)
+    → length (p256Of n zero point scalar comment) ≤ 65535 → NotInForm (p256Of n zero point scalar comment)
 
 p256-not-in-form : (first : ℕ) (zero : Bool) → leb 0x80 first ≡ not zero → P256NotInForm first zero
 p256-not-in-form first zero rule n point scalar comment fit key begins text small =
-    against-rule n (Ecdsa Nistp256) zero point scalar comment fit
-    (record { long = key .long; tag = key .tag; private = key .private; may = refl; text = text }) small (rw begins rule)
+    against-rule n (OnCurve (Ecdsa Nistp256)) zero (ofPoint point) (ofScalar scalar) comment fit
+    (record { public = (key .long, key .tag, refl); private = (key .private, refl); may = refl; text = text }) small (rw begins rule)
 
 -- ---- the table
 

@@ -1,4 +1,4 @@
--- Document 01, 'Writing': the conditions of the two writers and of the comment change, as lists in the paper's order, each with its
+-- Document 01, 'Writing', and document 02, request Two: the conditions of the writers and of the comment change, as lists in the paper's order, each with its
 -- number. The reply is the first that holds, for every input; where none does it is 0 0 0 and the length.
 use Prim.Native.Nat.{ℕ, _%_}
 use mathlib.Core.Path.{_≡_, refl, sym, _∙_, ap}
@@ -16,11 +16,12 @@ use Rattle.fields.specs.declared.Refusal.{Refusal}
 use Rattle.fields.specs.declared.Refusal.the-variants.{Length, FormatEncoding, Crypto, CharacterEncoding, Encrypted, Form, Size, Room}
 use Rattle.names.specs.Ciphers.{isNone, blockSize, tagLength}
 use Rattle.names.specs.declared.Algorithm.{Algorithm}
+use Rattle.names.specs.declared.Algorithm.the-variants.{Elliptic as OnCurve, Rsa}
 use Rattle.names.specs.declared.Cipher.{Cipher}
 use Rattle.names.specs.declared.Kdf.{Kdf}
 use Rattle.names.specs.declared.Kdf.the-variants as kdf
 use Rattle.utf8.specs.Utf8.{utf8}
-use Rattle.format.specs.Format.{publicLength, privateLength, pointTag, writtenImage, encryptedImage}
+use Rattle.format.specs.Format.{PublicBytes, PrivateBytes, publicLength, privateLength, pointTag, writtenImage, encryptedImage}
 use Rattle.keys.specs.Keys.{onBlob, blobAt}
 use Rattle.keys.specs.declared.Blob.{Blob}
 use Rattle.keys.specs.declared.Blob.the-variants as blob
@@ -34,7 +35,7 @@ use Rattle.container.specs.FormLaws.{by-read, plain-of}
 use Rattle.reply.specs.declared.Written.{Written}
 use Rattle.reply.specs.declared.Written.the-variants as written
 use Rattle.reply.specs.Reply.{Told, told, refused, unless, sized}
-use Rattle.plain.specs.Plain.{plainReply}
+use Rattle.plain.specs.Plain.{allMpints, sizesFit, keyChecked, plainReply}
 use Rattle.encrypted.specs.Encrypted.{optionsFit, encryptedReply}
 use Rattle.comment.specs.Change.{afresh, afreshReply, commentField, acceptedReply, changeReply}
 use Rattle.comment.specs.Afresh.{afresh-sized}
@@ -62,13 +63,15 @@ first (c ∷ more) length = cond (c .holds) (record { number = c .number; count 
 abbrev pub sizes : List ℕ → ℕ → List Condition
 sizes image room = says (ltb 65535 (length image)) 11 ∷ says (ltb room (length image)) 9 ∷ []
 
--- a length wrong for the kind 1; point tag 2; comment 7; size 11; room 9
-abbrev pub plainConditions : Algorithm → List ℕ → List ℕ → ℕ → List ℕ → ℕ → List Condition
-plainConditions a public private checkint comment room =
-    says (not (eqb (length public) (publicLength a)) || not (eqb (length private) (privateLength a))) 1
-    ∷ says (not (pointTag a public)) 2
-    ∷ says (not (utf8 comment)) 7
-    ∷ sizes (writtenImage checkint a public private comment) room
+-- a length wrong for the kind 1; point tag 2; or RSA's numbers, 2 over all six, then 1 over all six
+abbrev pub keyConditions : Algorithm → PublicBytes → PrivateBytes → List Condition → List Condition
+keyConditions (OnCurve e) key x more =
+    says (not (eqb (length (key .point)) (publicLength e)) || not (eqb (length (x .scalar)) (privateLength e))) 1 ∷ says (not (pointTag e (key .point))) 2 ∷ more
+keyConditions Rsa key x more = says (not (allMpints key x)) 2 ∷ says (not (sizesFit key x)) 1 ∷ more
+
+-- then comment 7; size 11; room 9
+abbrev pub plainConditions : Algorithm → PublicBytes → PrivateBytes → ℕ → List ℕ → ℕ → List Condition
+plainConditions a key x checkint comment room = keyConditions a key x (says (not (utf8 comment)) 7 ∷ sizes (writtenImage checkint a key x comment) room)
 
 -- KDF `none` with salt bytes or rounds other than 0
 abbrev pub misused : Kdf → List ℕ → ℕ → Bool
@@ -173,25 +176,33 @@ passed-first number count at more n = refl
 
 -- ---- the claims
 
-pub plain-first :
-    (a : Algorithm) (public private : List ℕ) (checkint : ℕ) (comment : List ℕ) (room : ℕ)
-    → told (plainReply a public private checkint comment room)
-    ≡ first (plainConditions a public private checkint comment room) (length (writtenImage checkint a public private comment))
-unfolding plainReply
-plain-first a public private checkint comment room =
-    let image = writtenImage checkint a public private comment in
-    let n = length image in
-    let long = eqb (length public) (publicLength a) in
-    let private-long = eqb (length private) (privateLength a) in
-    let w₇ = unless (utf8 comment) CharacterEncoding (sized image room) in
-    let w₂ = unless (pointTag a public) FormatEncoding w₇ in
-    let c₇ = says (not (utf8 comment)) 7 ∷ sizes image room in
-    let c₂ = says (not (pointTag a public)) 2 ∷ c₇ in
+key-first :
+    (a : Algorithm) (key : PublicBytes) (x : PrivateBytes) (w : Written) (c : List Condition) (n : ℕ) → told w ≡ first c n
+    → told (keyChecked a key x w) ≡ first (keyConditions a key x c) n
+unfolding keyChecked
+key-first (OnCurve e) key x w c n h =
+    let long = eqb (length (key .point)) (publicLength e) in
+    let private-long = eqb (length (x .scalar)) (privateLength e) in
+    let tag = pointTag e (key .point) in
+    let w₂ = unless tag FormatEncoding w in
     ap told (either-fails long private-long Length w₂)
-    ∙ then-first (not long || not private-long) (long && private-long) (not-both long private-long) Length refl w₂ c₂ n
-    (then-first (not (pointTag a public)) (pointTag a public) refl FormatEncoding refl w₇ c₇ n
+    ∙ then-first (not long || not private-long) (long && private-long) (not-both long private-long) Length refl w₂ (says (not tag) 2 ∷ c) n
+    (then-first (not tag) tag refl FormatEncoding refl w c n h)
+key-first Rsa key x w c n h =
+    then-first (not (allMpints key x)) (allMpints key x) refl FormatEncoding refl (unless (sizesFit key x) Length w) (says (not (sizesFit key x)) 1 ∷ c) n
+    (then-first (not (sizesFit key x)) (sizesFit key x) refl Length refl w c n h)
+
+pub plain-first :
+    (a : Algorithm) (key : PublicBytes) (x : PrivateBytes) (checkint : ℕ) (comment : List ℕ) (room : ℕ)
+    → told (plainReply a key x checkint comment room)
+    ≡ first (plainConditions a key x checkint comment room) (length (writtenImage checkint a key x comment))
+unfolding plainReply
+plain-first a key x checkint comment room =
+    let image = writtenImage checkint a key x comment in
+    let n = length image in
+    key-first a key x (unless (utf8 comment) CharacterEncoding (sized image room)) (says (not (utf8 comment)) 7 ∷ sizes image room) n
     (then-first (not (utf8 comment)) (utf8 comment) refl CharacterEncoding refl (sized image room) (sizes image room) n
-    (sized-first image room)))
+    (sized-first image room))
 
 misused-not : (k : Kdf) (salt : List ℕ) (rounds : ℕ) → misused k salt rounds ≡ not (optionsFit k salt rounds)
 misused-not kdf.None salt rounds = not-both (eqb (length salt) 0) (eqb rounds 0)

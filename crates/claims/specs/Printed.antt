@@ -1,11 +1,12 @@
 -- Document 01, 'Views and the inspection program': the program prints no private byte. What it prints of every image: of an accepted one its
 -- kind, its names, its lengths and its form, of a refused one number and count. Images that are alike in these have the same report,
 -- whatever their private bytes. (Length and form of an ECDSA image together tell whether its scalar's first byte is 0x80 or more.)
-use Prim.Native.Nat.{ℕ, _+_, _≤_, _<_, _^_}
+use Prim.Native.Nat.{ℕ, _+_, _*_, _≤_, _<_, _^_}
 use native.Mathlib.Omega.{arith}
 use mathlib.Core.Path.{_≡_, refl, sym, _∙_, ap}
 use mathlib.Core.Bool.{Bool, true, false}
 use mathlib.Core.List.{List, [], _∷_}
+use lib.Count.{leadingZeros}
 use lib.ListN.{length, length-append}
 use Rattle.fields.specs.Bytes.{ascii, AllBytes}
 use Rattle.fields.specs.Fields.{viewOf}
@@ -13,91 +14,115 @@ use Rattle.fields.specs.Place.{clash}
 use Rattle.fields.specs.Refusals.{numberOf, countOf}
 use Rattle.fields.specs.Rest.{length-string}
 use Rattle.fields.specs.declared.Fault.{Fault}
+use Rattle.names.specs.declared.Elliptic.{Elliptic}
+use Rattle.names.specs.declared.Elliptic.the-variants.{Ed25519, Ecdsa}
+use Rattle.names.specs.declared.Curve.the-variants.{Nistp256, Nistp384, Nistp521}
 use Rattle.names.specs.declared.Algorithm.{Algorithm}
-use Rattle.names.specs.declared.Algorithm.the-variants.{Ed25519, Ecdsa}
+use Rattle.names.specs.declared.Algorithm.the-variants.{Elliptic as OnCurve, Rsa}
 use Rattle.names.specs.declared.Cipher.{Cipher}
 use Rattle.names.specs.declared.Cipher.the-variants as cipher
 use Rattle.names.specs.declared.Kdf.{Kdf}
 use Rattle.names.specs.declared.Kdf.the-variants as kdf
 use Rattle.names.specs.Algorithms.{sizeOf}
 use Rattle.utf8.specs.Utf8.{UTF8-char, utf8, utf8From}
-use Rattle.format.specs.Format.{blob, privateField, standing, needsLeadingZero, paddingLength, content, plainImage, writtenImage, encryptedImage}
+use Rattle.mpint.specs.Mpint.{zerosBefore, bits}
+use Rattle.format.specs.Format.{PublicBytes, PrivateBytes, ofPoint, ofScalar, scalarZero, blob, keypair, needsLeadingZero, paddingLength, content, plainImage, writtenImage, encryptedImage}
 use Rattle.format.specs.Laws.{section-length}
-use Rattle.format.specs.Lengths.{blobLength, blob-length, zeroLength, standing-length, content-length, plain-length}
+use Rattle.format.specs.Lengths.{LengthsFit, blobLength, keypairLength, blob-length, zeroLength, standing-length, content-length, plain-length}
 use Rattle.section.specs.Back.{KeyFits}
 use Rattle.section.specs.declared.Kind.the-variants as kind
 use Rattle.container.specs.declared.Fields.{Fields}
 use Rattle.container.specs.declared.ImageRead.the-variants as read
-use Rattle.container.specs.Container.{readAt}
+use Rattle.container.specs.Container.{publicIn, privateIn, readAt}
 use Rattle.container.specs.Back.{plain-image-back, SealFits, encrypted-image-back}
 use Rattle.container.specs.Read.{ImageText, plain-text, encrypted-text, image-text}
 use Rattle.container.specs.FormLaws.{agree, form-back, plain-of}
-use Rattle.report.specs.Report.{Plain, Encrypted, Refused, accepted, summaryOf, lines, reportOf}
+use Rattle.report.specs.Report.{Summary, Plain, Encrypted, Refused, accepted, summaryOf, lines, reportOf}
 use Rattle.report.specs.Examples.{printed, oven7}
 use Rattle.claims.specs.Form.{Stands}
 
 -- ---- plain images
 
--- the private field's length, by the kind and whether a zero stands before the scalar
-abbrev pub storedLength : Algorithm → Bool → ℕ
-storedLength Ed25519 zero = 68
-storedLength (Ecdsa k) zero = 4 + sizeOf k + zeroLength zero
+-- the keypair's length, by the kind, whether a zero stands before the scalar, and RSA's numbers' lengths
+abbrev pub pairLength : Algorithm → Bool → PublicBytes → PrivateBytes → ℕ
+pairLength (OnCurve Ed25519) zero key x = 119
+pairLength (OnCurve (Ecdsa k)) zero key x = 40 + 2 * sizeOf k + (4 + sizeOf k + zeroLength zero)
+pairLength Rsa zero key x = keypairLength Rsa key x
+
+pair-length :
+    (a : Algorithm) (zero : Bool) (key : PublicBytes) (x : PrivateBytes) (comment : List ℕ) → KeyFits a zero key x comment
+    → length (keypair a zero key x) ≡ pairLength a zero key x
+unfolding keypair
+pair-length (OnCurve Ed25519) true key x comment fits = let never = fits .may in clash cc
+pair-length (OnCurve Ed25519) false key x comment fits =
+    simp (length-append, length-string) (omega (arith, fits .public .0, fits .private .0))
+pair-length (OnCurve (Ecdsa Nistp256)) zero key x comment fits =
+    simp (length-append, length-string, standing-length) (omega (arith, fits .public .0, fits .private .0))
+pair-length (OnCurve (Ecdsa Nistp384)) zero key x comment fits =
+    simp (length-append, length-string, standing-length) (omega (arith, fits .public .0, fits .private .0))
+pair-length (OnCurve (Ecdsa Nistp521)) zero key x comment fits =
+    simp (length-append, length-string, standing-length) (omega (arith, fits .public .0, fits .private .0))
+pair-length Rsa zero key x comment fits = simp (length-append, length-string) (omega arith)
 
 -- the section's but for its padding, with a comment of c bytes
-abbrev pub sectionSize : Algorithm → Bool → ℕ → ℕ
-sectionSize a zero c = 8 + (blobLength a + storedLength a zero) + (4 + c)
+abbrev pub sectionSize : Algorithm → Bool → PublicBytes → PrivateBytes → ℕ → ℕ
+sectionSize a zero key x c = 8 + pairLength a zero key x + (4 + c)
 
-stored-length :
-    (a : Algorithm) (zero : Bool) (point scalar comment : List ℕ) → KeyFits a zero point scalar comment
-    → length (privateField a point (standing zero scalar)) ≡ storedLength a zero
-stored-length Ed25519 true point scalar comment fits = let never = fits .may in clash cc
-stored-length Ed25519 false point scalar comment fits =
-    let h = fits .long in
-    let k = fits .private in
-    simp (length-string, length-append) (omega arith)
-stored-length (Ecdsa curve) zero point scalar comment fits =
-    let k = fits .private in
-    simp (length-string, standing-length) (omega arith)
+-- what is printed: by the kind, the lengths, the bits of a modulus, and how a scalar stands
+abbrev pub shown : Algorithm → Bool → PublicBytes → PrivateBytes → ℕ → Summary
+shown a zero key x c =
+    Plain a (bits (key .modulus)) cipher.None kdf.None c (paddingLength (sectionSize a zero key x c))
+    (47 + blobLength a key + (sectionSize a zero key x c + paddingLength (sectionSize a zero key x c)))
+    (agree (needsLeadingZero a x) zero)
 
-module _ (n : ℕ) (a : Algorithm) (zero : Bool) (point scalar comment : List ℕ) (small : n < 2 ^ 32) (fits : KeyFits a zero point scalar comment) where
+lengths-fit : (a : Algorithm) (zero : Bool) (key : PublicBytes) (x : PrivateBytes) (comment : List ℕ) → KeyFits a zero key x comment → LengthsFit a key x
+lengths-fit (OnCurve e) zero key x comment fits = (fits .public .0, fits .private .0)
+lengths-fit Rsa zero key x comment fits = tt
+
+module _ (n : ℕ) (a : Algorithm) (zero : Bool) (key : PublicBytes) (x : PrivateBytes) (comment : List ℕ) (small : n < 2 ^ 32) (fits : KeyFits a zero key x comment) where
   abbrev image : List ℕ
-  image = plainImage n a point (standing zero scalar) comment
+  image = plainImage n (blob a key) (keypair a zero key x) comment
 
   -- the lengths that are printed
-  size-is : length (content n a point (standing zero scalar) comment) ≡ sectionSize a zero (length comment)
-  size-is =
-      content-length n a point (standing zero scalar) comment
-      ∙ rw (blob-length a point (fits .long), stored-length a zero point scalar comment fits)
+  size-is : length (content n (keypair a zero key x) comment) ≡ sectionSize a zero key x (length comment)
+  size-is = content-length n (keypair a zero key x) comment ∙ rw (pair-length a zero key x comment fits)
 
   length-is :
-      length image ≡ 47 + blobLength a + (sectionSize a zero (length comment) + paddingLength (sectionSize a zero (length comment)))
+      length image
+      ≡ 47 + blobLength a key + (sectionSize a zero key x (length comment) + paddingLength (sectionSize a zero key x (length comment)))
   length-is =
-      plain-length n a point (standing zero scalar) comment
-      ∙ rw (section-length n a point (standing zero scalar) comment, size-is, blob-length a point (fits .long))
+      plain-length n (blob a key) (keypair a zero key x) comment
+      ∙ rw (section-length n (keypair a zero key x) comment, size-is, blob-length key x a (lengths-fit a zero key x comment fits))
 
   -- what is printed of a plain image
-  pub report-plain :
-      length image ≤ 65535
-      → reportOf image
-      ≡ lines
-      (Plain a cipher.None kdf.None (length comment) (paddingLength (sectionSize a zero (length comment)))
-      (47 + blobLength a + (sectionSize a zero (length comment) + paddingLength (sectionSize a zero (length comment))))
-      (agree (needsLeadingZero a scalar) zero))
+  pub report-plain : length image ≤ 65535 → reportOf image ≡ lines (shown a zero key x (length comment))
   unfolding reportOf summaryOf accepted
   report-plain limit =
-      let b = plain-image-back image n a zero point scalar comment limit small fits refl in
-      rw (b .read, b .plain, form-back image n a zero point scalar comment _ fits refl b, b .same-algorithm, b .no-cipher, b .no-kdf, b .comment-size, b .same-padding, size-is, length-is)
+      let b = plain-image-back image n a zero key x comment limit small fits refl in
+      rw (b .read, b .plain, form-back image n a zero key x comment _ fits refl b, b .same-algorithm, b .same-bits, b .no-cipher, b .no-kdf, b .comment-size, b .same-padding, size-is, length-is)
 
--- no private byte: two keys of a kind, with comments of one length, whose scalars both stand after a zero or both don't, and begin on the
--- same side of 0x80, have the same report, whatever else their private bytes are, and whatever their points, checkints and comments
+-- no private byte: two keys whose kind, lengths, bits of a modulus and form are the same have the same report, whatever their private
+-- bytes are, and whatever their points, numbers, checkints and comments
 pub no-private-byte :
-    (a : Algorithm) (zero : Bool) (n m : ℕ) (point q scalar x comment d : List ℕ) → n < 2 ^ 32 → m < 2 ^ 32 → KeyFits a zero point scalar comment
-    → KeyFits a zero q x d → length comment ≡ length d → needsLeadingZero a scalar ≡ needsLeadingZero a x
-    → length (plainImage n a point (standing zero scalar) comment) ≤ 65535 → length (plainImage m a q (standing zero x) d) ≤ 65535
-    → reportOf (plainImage n a point (standing zero scalar) comment) ≡ reportOf (plainImage m a q (standing zero x) d)
-no-private-byte a zero n m point q scalar x comment d hn hm fits also-fits long alike limit also-limit =
-    report-plain n a zero point scalar comment hn fits limit
-    ∙ rw (long, alike) (sym (report-plain m a zero q x d hm also-fits also-limit))
+    (a : Algorithm) (zero : Bool) (n m : ℕ) (key : PublicBytes) (x : PrivateBytes) (comment : List ℕ) (key′ : PublicBytes) (x′ : PrivateBytes) (comment′ : List ℕ)
+    → n < 2 ^ 32 → m < 2 ^ 32 → KeyFits a zero key x comment → KeyFits a zero key′ x′ comment′
+    → shown a zero key x (length comment) ≡ shown a zero key′ x′ (length comment′)
+    → length (plainImage n (blob a key) (keypair a zero key x) comment) ≤ 65535
+    → length (plainImage m (blob a key′) (keypair a zero key′ x′) comment′) ≤ 65535
+    → reportOf (plainImage n (blob a key) (keypair a zero key x) comment) ≡ reportOf (plainImage m (blob a key′) (keypair a zero key′ x′) comment′)
+no-private-byte a zero n m key x comment key′ x′ comment′ hn hm fits also-fits alike limit also-limit =
+    report-plain n a zero key x comment hn fits limit ∙ ap lines alike ∙ sym (report-plain m a zero key′ x′ comment′ hm also-fits also-limit)
+
+-- of a key over a curve that is its kind, its comment's length, and its scalar's first byte against 0x80; of an RSA key the numbers' lengths and the
+-- modulus's bits
+pub elliptic-alike :
+    (e : Elliptic) (zero : Bool) (key : PublicBytes) (x : PrivateBytes) (key′ : PublicBytes) (x′ : PrivateBytes) (c : ℕ)
+    → key ≡ ofPoint (key .point) → key′ ≡ ofPoint (key′ .point) → scalarZero e (x .scalar) ≡ scalarZero e (x′ .scalar)
+    → shown (OnCurve e) zero key x c ≡ shown (OnCurve e) zero key′ x′ c
+elliptic-alike Ed25519 zero key x key′ x′ c own own′ rule =
+    rw (ap (λ (k : PublicBytes). bits (k .modulus)) own, ap (λ (k : PublicBytes). bits (k .modulus)) own′)
+elliptic-alike (Ecdsa k) zero key x key′ x′ c own own′ rule =
+    rw (ap (λ (k : PublicBytes). bits (k .modulus)) own, ap (λ (k : PublicBytes). bits (k .modulus)) own′, rule)
 
 oven7-text : utf8 (ascii "oven7") ≡ true
 unfolding utf8 utf8From UTF8-char
@@ -106,26 +131,30 @@ oven7-text = refl
 -- the paper's example: an Ed25519 image with comment `oven7`, whatever the key and the checkint
 pub oven7-report :
     (n : ℕ) (point seed : List ℕ) → n < 2 ^ 32 → length point ≡ 32 → length seed ≡ 32
-    → reportOf (writtenImage n Ed25519 point seed (ascii "oven7"))
+    → reportOf (writtenImage n (OnCurve Ed25519) (ofPoint point) (ofScalar seed) (ascii "oven7"))
     ≡ printed
     ("kind plain" ∷ "algorithm ssh-ed25519" ∷ "cipher none" ∷ "kdf none" ∷ "comment 5" ∷ "padding 0" ∷ "image 234" ∷ "form yes" ∷ [])
-unfolding writtenImage
+unfolding writtenImage bits zerosBefore leadingZeros
 oven7-report n point seed small long private =
-    let fits : KeyFits Ed25519 false point seed (ascii "oven7") = record { long = long; tag = refl; private = private; may = refl; text = oven7-text } in
-    let limit : length (plainImage n Ed25519 point seed (ascii "oven7")) ≤ 65535 = omega (arith, length-is n Ed25519 false point seed (ascii "oven7") small fits) in
-    report-plain n Ed25519 false point seed (ascii "oven7") small fits limit ∙ oven7
+    let ed25519 = OnCurve Ed25519 in
+    let key = ofPoint point in
+    let x = ofScalar seed in
+    let fits : KeyFits ed25519 false key x (ascii "oven7") = record { public = (long, refl, refl); private = (private, refl); may = refl; text = oven7-text } in
+    let limit : length (plainImage n (blob ed25519 key) (keypair ed25519 false key x) (ascii "oven7")) ≤ 65535 =
+    omega (arith, length-is n ed25519 false key x (ascii "oven7") small fits) in
+    report-plain n ed25519 false key x (ascii "oven7") small fits limit ∙ oven7
 
 -- ---- encrypted images
 
 pub report-encrypted :
-    (c : Cipher) (k : Kdf) (salt : List ℕ) (rounds : ℕ) (a : Algorithm) (point ciphertext tag : List ℕ) → SealFits c k salt rounds a point ciphertext tag
-    → length (encryptedImage c k salt rounds (blob a point) ciphertext tag) ≤ 65535
-    → reportOf (encryptedImage c k salt rounds (blob a point) ciphertext tag)
-    ≡ lines (Encrypted a c k (length ciphertext) (length tag) (length (encryptedImage c k salt rounds (blob a point) ciphertext tag)))
+    (c : Cipher) (k : Kdf) (salt : List ℕ) (rounds : ℕ) (a : Algorithm) (key : PublicBytes) (ciphertext tag : List ℕ) → SealFits c k salt rounds a key ciphertext tag
+    → length (encryptedImage c k salt rounds (blob a key) ciphertext tag) ≤ 65535
+    → reportOf (encryptedImage c k salt rounds (blob a key) ciphertext tag)
+    ≡ lines (Encrypted a (bits (key .modulus)) c k (length ciphertext) (length tag) (length (encryptedImage c k salt rounds (blob a key) ciphertext tag)))
 unfolding reportOf summaryOf accepted
-report-encrypted c k salt rounds a point ciphertext tag fits limit =
-    let b = encrypted-image-back (encryptedImage c k salt rounds (blob a point) ciphertext tag) c k salt rounds a point ciphertext tag limit fits refl in
-    rw (b .read, b .encrypted, b .same-algorithm, b .same-cipher, b .same-kdf, b .ciphertext-size, b .tag-size)
+report-encrypted c k salt rounds a key ciphertext tag fits limit =
+    let b = encrypted-image-back (encryptedImage c k salt rounds (blob a key) ciphertext tag) c k salt rounds a key ciphertext tag limit fits refl in
+    rw (b .read, b .encrypted, b .same-algorithm, b .same-bits, b .same-cipher, b .same-kdf, b .ciphertext-size, b .tag-size)
 
 -- ---- every image
 
@@ -134,24 +163,17 @@ pub report-accepted :
     (s : List ℕ) (all : AllBytes s) (f : Fields) → readAt s ≡ read.Record f → f .section .kind ≡ kind.Plain
     → (zero : Bool)
     × Stands s f zero
-    × (reportOf s
-    ≡ lines
-    (Plain (f .header .algorithm) cipher.None kdf.None (length (viewOf s (f .section .comment)))
-    (paddingLength (sectionSize (f .header .algorithm) zero (length (viewOf s (f .section .comment)))))
-    (47 + blobLength (f .header .algorithm)
-    + (sectionSize (f .header .algorithm) zero (length (viewOf s (f .section .comment)))
-    + paddingLength (sectionSize (f .header .algorithm) zero (length (viewOf s (f .section .comment))))))
-    (agree (needsLeadingZero (f .header .algorithm) (viewOf s (f .section .scalar))) zero)))
+    × (reportOf s ≡ lines (shown (f .header .algorithm) zero (publicIn s f) (privateIn s f) (length (viewOf s (f .section .comment)))))
 report-accepted s all f e plain =
     let p = plain-of s all f e plain in
-    let image = plainImage (f .section .checkint) (f .header .algorithm) (viewOf s (f .header .point)) (standing (p .zero) (viewOf s (f .section .scalar)))
-    (viewOf s (f .section .comment)) in
+    let a = f .header .algorithm in
+    let image = plainImage (f .section .checkint) (blob a (publicIn s f)) (keypair a (p .zero) (publicIn s f) (privateIn s f)) (viewOf s (f .section .comment)) in
     let limit : length image ≤ 65535 = omega (arith, ap length (p .text), p .fits) in (
       p .zero,
       p .text,
       ap reportOf (p .text)
-          ∙ report-plain (f .section .checkint) (f .header .algorithm) (p .zero) (viewOf s (f .header .point)) (viewOf s (f .section .scalar))
-          (viewOf s (f .section .comment)) (p .checkint-fits) (p .key-fits) limit,
+          ∙ report-plain (f .section .checkint) a (p .zero) (publicIn s f) (privateIn s f) (viewOf s (f .section .comment)) (p .checkint-fits) (p .key-fits)
+          limit,
     )
 
 -- accepted, encrypted
@@ -159,7 +181,7 @@ pub report-accepted-encrypted :
     (s : List ℕ) (all : AllBytes s) (f : Fields) → readAt s ≡ read.Record f → f .section .kind ≡ kind.Encrypted
     → reportOf s
     ≡ lines
-    (Encrypted (f .header .algorithm) (f .header .cipher) (f .header .kdf) (length (viewOf s (f .section .ciphertext)))
+    (Encrypted (f .header .algorithm) (bits (publicIn s f .modulus)) (f .header .cipher) (f .header .kdf) (length (viewOf s (f .section .ciphertext)))
     (length (viewOf s (f .section .tag))) (length s))
 report-accepted-encrypted s all f e sealed = go (image-text s all f e)
   where
@@ -168,21 +190,21 @@ report-accepted-encrypted s all f e sealed = go (image-text s all f e)
         encryptedImage (f .header .cipher) (f .header .kdf) (viewOf s (f .header .salt)) (f .header .rounds) key (viewOf s (f .section .ciphertext))
         (viewOf s (f .section .tag))
 
-    shown : ℕ → List ℕ
-    shown n =
+    printed-as : ℕ → List ℕ
+    printed-as n =
         lines
-        (Encrypted (f .header .algorithm) (f .header .cipher) (f .header .kdf) (length (viewOf s (f .section .ciphertext)))
+        (Encrypted (f .header .algorithm) (bits (publicIn s f .modulus)) (f .header .cipher) (f .header .kdf) (length (viewOf s (f .section .ciphertext)))
         (length (viewOf s (f .section .tag))) n)
 
-    go : ImageText s all f e → reportOf s ≡ shown (length s)
+    go : ImageText s all f e → reportOf s ≡ printed-as (length s)
     go (plain-text plain p) = clash (let o : kind.Plain ≡ kind.Encrypted = sym plain ∙ sealed in cc)
     go (encrypted-text encrypted p) =
-        let joined : s ≡ image-of (blob (f .header .algorithm) (viewOf s (f .header .point))) = p .text ∙ ap image-of (p .content) in
-        let limit : length (image-of (blob (f .header .algorithm) (viewOf s (f .header .point)))) ≤ 65535 = omega (arith, ap length joined, p .fits) in
+        let joined : s ≡ image-of (blob (f .header .algorithm) (publicIn s f)) = p .text ∙ ap image-of (p .content) in
+        let limit : length (image-of (blob (f .header .algorithm) (publicIn s f))) ≤ 65535 = omega (arith, ap length joined, p .fits) in
         ap reportOf joined
-        ∙ report-encrypted (f .header .cipher) (f .header .kdf) (viewOf s (f .header .salt)) (f .header .rounds) (f .header .algorithm) (viewOf s (f .header .point))
+        ∙ report-encrypted (f .header .cipher) (f .header .kdf) (viewOf s (f .header .salt)) (f .header .rounds) (f .header .algorithm) (publicIn s f)
         (viewOf s (f .section .ciphertext)) (viewOf s (f .section .tag)) (p .seal-fits) limit
-        ∙ ap shown (sym (ap length joined))
+        ∙ ap printed-as (sym (ap length joined))
 
 -- refused
 pub report-refused : (s : List ℕ) (g : Fault) → readAt s ≡ read.Refused g → reportOf s ≡ lines (Refused (numberOf (g .why)) (countOf (g .why)))

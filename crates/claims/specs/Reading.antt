@@ -1,4 +1,5 @@
--- Demand 2, plain images: read after write gives the record; what the definition of the format admits within the limits is not refused.
+-- Demand 2, plain images of all five kinds: read after write gives the record; what the definition of the format admits within the limits
+-- is not refused.
 use Prim.Native.Nat.{ℕ, _+_, _≤_, _<_, _^_}
 use native.Mathlib.Omega.{arith}
 use mathlib.Core.Path.{_≡_, refl, sym, ap}
@@ -10,15 +11,18 @@ use lib.ListN.{length, take}
 use Rattle.fields.specs.Place.{clash}
 use Rattle.fields.specs.declared.Refusal.{Refusal}
 use Rattle.names.specs.declared.Algorithm.{Algorithm}
-use Rattle.names.specs.declared.Algorithm.the-variants.{Ed25519, Ecdsa}
-use Rattle.format.specs.Format.{standing, mayStand, needsLeadingZero, paddingLength, content, plainImage, writtenImage}
+use Rattle.names.specs.declared.Algorithm.the-variants.{Elliptic as OnCurve, Rsa}
+use Rattle.format.specs.Format.{PublicBytes, PrivateBytes, ofPoint, ofScalar, ofModulus, ofNumbers, PublicFits, PrivateFits, needsLeadingZero, paddingLength, blob, keypair, content, plainImage, writtenImage}
+use Rattle.format.specs.Laws.{rule-may}
+use Rattle.utf8.specs.Utf8.{utf8}
 use Rattle.section.specs.Back.{KeyFits}
 use Rattle.container.specs.Back.{PlainImageBack, plain-image-back}
 use Rattle.buffer.specs.Puts.{take-splice}
 use Rattle.reply.specs.declared.Written.{Written}
 use Rattle.reply.specs.declared.Written.the-variants as written
 use Rattle.reply.specs.Reply.{unless, sized}
-use Rattle.plain.specs.Plain.{plainReply, plainLeft}
+use Rattle.plain.specs.Plain.{keyChecked, plainReply, plainLeft}
+use Rattle.plain.specs.Fits.{numbers-fit}
 
 -- ---- an accepted write meets every condition
 
@@ -36,71 +40,83 @@ sized-held image room k e =
     let o : length image ≡ k = let q : written.Length (length image) ≡ written.Length k = h₂ .1 in cc in
     (leb-true _ _ (h₁ .0), leb-true _ _ (h₂ .0), sym o)
 
--- a rule's zero may stand
-pub rule-may : (a : Algorithm) (scalar : List ℕ) → mayStand a (needsLeadingZero a scalar) ≡ true
-rule-may Ed25519 scalar = refl
-rule-may (Ecdsa k) scalar = refl
+-- bytes that a kind lacks are none
+abbrev pub Own : Algorithm → PublicBytes → PrivateBytes → Type 0
+Own (OnCurve e) key x = (key ≡ ofPoint (key .point)) × (x ≡ ofScalar (x .scalar))
+Own Rsa key x = (key ≡ ofModulus (key .modulus) (key .exponent)) × (x ≡ ofNumbers (x .d) (x .iqmp) (x .p) (x .q))
 
-module _ (a : Algorithm) (point scalar : List ℕ) (n : ℕ) (comment : List ℕ) where
+pub own-of : (a : Algorithm) (key : PublicBytes) (x : PrivateBytes) → PublicFits a key → PrivateFits a key x → Own a key x
+own-of (OnCurve e) key x fits fit = (fits .2, fit .1)
+own-of Rsa key x fits fit = (fits .1, fit .1)
+
+-- a key that passed its kind's tests fits, if it has no bytes but its own
+pub key-held :
+    (a : Algorithm) (key : PublicBytes) (x : PrivateBytes) (next : Written) (k : ℕ) → keyChecked a key x next ≡ written.Length k
+    → (Own a key x → PublicFits a key × PrivateFits a key x) × (next ≡ written.Length k)
+unfolding keyChecked
+key-held (OnCurve e) key x next k passes =
+    let h₁ = held _ _ _ k passes in
+    let h₂ = held _ _ _ k (h₁ .1) in
+    let h₃ = held _ _ _ k (h₂ .1) in
+    (λ own. ((eqb-true _ _ (h₁ .0), h₃ .0, own .0), (eqb-true _ _ (h₂ .0), own .1)), h₃ .1)
+key-held Rsa key x next k passes =
+    let h₁ = held _ _ _ k passes in
+    let h₂ = held _ _ _ k (h₁ .1) in
+    let fits = numbers-fit key x (h₁ .0) (h₂ .0) in
+    (λ own. ((fits .0, own .0), (fits .1, own .1)), h₂ .1)
+
+module _ (a : Algorithm) (key : PublicBytes) (x : PrivateBytes) (n : ℕ) (comment : List ℕ) where
   -- what an accepted plain write was given
   pub record PlainAccepted (room k : ℕ) : Type 0 where
-    pub fits : KeyFits a (needsLeadingZero a scalar) point scalar comment
-    pub small : length (writtenImage n a point scalar comment) ≤ 65535
-    pub room-enough : length (writtenImage n a point scalar comment) ≤ room
-    pub size : k ≡ length (writtenImage n a point scalar comment)
+    pub fits : Own a key x → KeyFits a (needsLeadingZero a x) key x comment
+    pub text : utf8 comment ≡ true
+    pub small : length (writtenImage n a key x comment) ≤ 65535
+    pub room-enough : length (writtenImage n a key x comment) ≤ room
+    pub size : k ≡ length (writtenImage n a key x comment)
 
-  pub plain-accepted : (room k : ℕ) → plainReply a point scalar n comment room ≡ written.Length k → PlainAccepted room k
+  pub plain-accepted : (room k : ℕ) → plainReply a key x n comment room ≡ written.Length k → PlainAccepted room k
   unfolding plainReply
   plain-accepted room k e =
-      let h₁ = held _ _ _ k e in
+      let h₁ = key-held a key x _ k e in
       let h₂ = held _ _ _ k (h₁ .1) in
-      let h₃ = held _ _ _ k (h₂ .1) in
-      let h₄ = held _ _ _ k (h₃ .1) in
-      let h₅ = sized-held _ room k (h₄ .1) in
+      let h₃ = sized-held _ room k (h₂ .1) in
       record {
-        fits =
-            record {
-              long = eqb-true _ _ (h₁ .0);
-              tag = h₃ .0;
-              private = eqb-true _ _ (h₂ .0);
-              may = rule-may a scalar;
-              text = h₄ .0;
-            };
-        small = h₅ .0;
-        room-enough = h₅ .1;
-        size = h₅ .2;
+        fits = λ own. record { public = h₁ .0 own .0; private = h₁ .0 own .1; may = rule-may a x; text = h₂ .0 };
+        text = h₂ .0;
+        small = h₃ .0;
+        room-enough = h₃ .1;
+        size = h₃ .2;
       }
 
   -- the first bytes of the buffer are then the image
   pub plain-written :
-      (old : List ℕ) (k : ℕ) → plainReply a point scalar n comment (length old) ≡ written.Length k
-      → take k (plainLeft a point scalar n comment old) ≡ writtenImage n a point scalar comment
+      (old : List ℕ) (k : ℕ) → plainReply a key x n comment (length old) ≡ written.Length k → take k (plainLeft a key x n comment old) ≡ writtenImage n a key x comment
   unfolding plainLeft
   plain-written old k e =
       let h = plain-accepted (length old) k e in
-      let image = writtenImage n a point scalar comment in
+      let image = writtenImage n a key x comment in
       let fit : 0 + length image ≤ length old = omega (arith, h .room-enough) in
       let end : k ≡ 0 + length image = omega (arith, h .size) in
       rw (e, end) (take-splice old 0 image fit)
 
   -- read after write gives the record
   pub read-after-write :
-      (old : List ℕ) (k : ℕ) → n < 2 ^ 32 → plainReply a point scalar n comment (length old) ≡ written.Length k
-      → PlainImageBack (take k (plainLeft a point scalar n comment old)) n a point scalar comment
-      (paddingLength (length (content n a point (standing (needsLeadingZero a scalar) scalar) comment)))
+      (old : List ℕ) (k : ℕ) → n < 2 ^ 32 → Own a key x → plainReply a key x n comment (length old) ≡ written.Length k
+      → PlainImageBack (take k (plainLeft a key x n comment old)) n a key x comment
+      (paddingLength (length (content n (keypair a (needsLeadingZero a x) key x) comment)))
   unfolding writtenImage
-  read-after-write old k small e =
+  read-after-write old k small own e =
       let h = plain-accepted (length old) k e in
       let w = plain-written old k e in
-      plain-image-back (take k (plainLeft a point scalar n comment old)) n a (needsLeadingZero a scalar) point scalar comment
-      (omega (arith, ap length w, h .small)) small (h .fits) w
+      plain-image-back (take k (plainLeft a key x n comment old)) n a (needsLeadingZero a x) key x comment
+      (omega (arith, ap length w, h .small)) small (h .fits own) w
 
--- what the definition of the format admits within the limits is not refused: a key that fits, its scalar in either form that it may
+-- what the definition of the format admits within the limits is not refused: a key that fits, a scalar in either form that it may
 -- have
 pub plain-admitted :
-    (n : ℕ) (a : Algorithm) (zero : Bool) (point scalar comment : List ℕ) → n < 2 ^ 32 → KeyFits a zero point scalar comment
-    → length (plainImage n a point (standing zero scalar) comment) ≤ 65535
-    → PlainImageBack (plainImage n a point (standing zero scalar) comment) n a point scalar comment
-    (paddingLength (length (content n a point (standing zero scalar) comment)))
-plain-admitted n a zero point scalar comment small fits limit =
-    plain-image-back (plainImage n a point (standing zero scalar) comment) n a zero point scalar comment limit small fits refl
+    (n : ℕ) (a : Algorithm) (zero : Bool) (key : PublicBytes) (x : PrivateBytes) (comment : List ℕ) → n < 2 ^ 32 → KeyFits a zero key x comment
+    → length (plainImage n (blob a key) (keypair a zero key x) comment) ≤ 65535
+    → PlainImageBack (plainImage n (blob a key) (keypair a zero key x) comment) n a key x comment
+    (paddingLength (length (content n (keypair a zero key x) comment)))
+plain-admitted n a zero key x comment small fits limit =
+    plain-image-back (plainImage n (blob a key) (keypair a zero key x) comment) n a zero key x comment limit small fits refl

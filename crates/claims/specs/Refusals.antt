@@ -6,13 +6,17 @@ use mathlib.Core.List.{List}
 use lib.ListN.{length}
 use Rattle.fields.specs.Place.{clash, by-bool}
 use Rattle.fields.specs.declared.Fault.{Fault}
+use Rattle.names.specs.declared.Elliptic.{Elliptic}
 use Rattle.names.specs.declared.Algorithm.{Algorithm}
+use Rattle.names.specs.declared.Algorithm.the-variants.{Elliptic as OnCurve, Rsa}
 use Rattle.names.specs.declared.Cipher.{Cipher}
 use Rattle.names.specs.declared.Kdf.{Kdf}
 use Rattle.codes.specs.Codes.{algorithmCoded, cipherCoded, kdfCoded}
+use Rattle.format.specs.Format.{PublicBytes, PrivateBytes, ofPoint, ofScalar, ofModulus, ofNumbers}
 use Rattle.material.specs.Material.{publicOf, privateOf, checkintOf}
 use Rattle.material.specs.declared.Material.{Material}
 use Rattle.material.specs.declared.Checkint.{Checkint}
+use Rattle.keys.specs.Keys.{onAlgorithm}
 use Rattle.key_laws.specs.Read.{by-algorithm}
 use Rattle.header.specs.Place.{by-cipher-name, by-kdf-name}
 use Rattle.section.specs.declared.Kind.{Kind}
@@ -26,18 +30,20 @@ use Rattle.reply.specs.declared.Written.{Written}
 use Rattle.reply.specs.declared.Written.the-variants as written
 use Rattle.plain.specs.Plain.{plainReply, plainLeft, isPlain}
 use Rattle.encrypted.specs.Encrypted.{encryptedReply, encryptedLeft, isEncrypted}
-use Rattle.writer.specs.Rewrite.{recordReply, recordLeft, rewriteReply, rewriteLeft, isRewritten, handedReply, handedLeft, isHanded}
+use Rattle.writer.specs.Rewrite.{plainAgain, plainAgainLeft, recordReply, recordLeft, rewriteReply, rewriteLeft, isRewritten, handedReply, handedLeft, isHanded}
 use Rattle.report.specs.Report.{reportOf, reportReply, isReport}
 use Rattle.buffer.specs.Puts.{placed, fits}
 use Rattle.comment.specs.Change.{changeReply, changeLeft, isChange}
 use Rattle.numbers.specs.Numbers.{replyOf}
 use Rattle.numbers.specs.declared.Reply.{Reply}
-use Rattle.saltorchard.specs.Interface.{checkintFor, codedPlainReply, codedPlainLeft, codedEncryptedReply, codedEncryptedLeft, answersC}
+use Rattle.saltorchard.specs.Interface.{namesNothing, checkintFor, codedPlainReply, codedPlainLeft, codedEncryptedReply, codedEncryptedLeft, answersC}
 use Rattle.claims.specs.Change.{refused-stays}
 
 -- the entries of the library
 pub data Entry : Type 0 where
-  write-parts : Algorithm → List ℕ → List ℕ → ℕ → List ℕ → Entry
+  write-parts : Elliptic → List ℕ → List ℕ → ℕ → List ℕ → Entry
+  write-numbers : List ℕ → List ℕ → List ℕ → List ℕ → List ℕ → List ℕ → ℕ → List ℕ → Entry
+  write-rsa : List ℕ → List ℕ → List ℕ → List ℕ → List ℕ → List ℕ → Checkint → List ℕ → Entry
   write-plain : Material → Checkint → List ℕ → Entry
   write-encrypted : Cipher → Kdf → List ℕ → ℕ → List ℕ → List ℕ → List ℕ → Entry
   rewrite : List ℕ → Entry
@@ -47,8 +53,11 @@ pub data Entry : Type 0 where
   write-report : List ℕ → Entry
 
 abbrev pub Promise : Entry → List ℕ → Written → List ℕ → Type 0
-Promise (write-parts a point scalar checkint comment) old r out = isPlain a point scalar checkint comment old r out
-Promise (write-plain m given comment) old r out = isPlain (m .algorithm) (publicOf m) (privateOf m) (checkintOf given (privateOf m)) comment old r out
+Promise (write-parts e point scalar checkint comment) old r out = isPlain (OnCurve e) (ofPoint point) (ofScalar scalar) checkint comment old r out
+Promise (write-numbers n e d iqmp p q checkint comment) old r out = isPlain Rsa (ofModulus n e) (ofNumbers d iqmp p q) checkint comment old r out
+Promise (write-rsa n e d iqmp p q given comment) old r out = isPlain Rsa (ofModulus n e) (ofNumbers d iqmp p q) (checkintOf given d) comment old r out
+Promise (write-plain m given comment) old r out =
+    isPlain (OnCurve (m .algorithm)) (ofPoint (publicOf m)) (ofScalar (privateOf m)) (checkintOf given (privateOf m)) comment old r out
 Promise (write-encrypted cipher k salt rounds blob ciphertext tag) old r out = isEncrypted cipher k salt rounds blob ciphertext tag old r out
 Promise (rewrite s) old r out = isRewritten s old r out
 Promise (rewrite-record s f) old r out = isHanded s f old r out
@@ -59,6 +68,7 @@ Promise (write-report s) old r out = isReport s old r out
 -- the entries for C
 pub data EntryC : Type 0 where
   saltorchard-write-plain : ℕ → List ℕ → List ℕ → ℕ → ℕ → List ℕ → EntryC
+  saltorchard-write-rsa : List ℕ → List ℕ → List ℕ → List ℕ → List ℕ → List ℕ → ℕ → ℕ → List ℕ → EntryC
   saltorchard-write-encrypted : ℕ → ℕ → List ℕ → ℕ → List ℕ → List ℕ → List ℕ → EntryC
   saltorchard-rewrite : List ℕ → EntryC
   saltorchard-change-comment : ℕ → List ℕ → EntryC
@@ -67,6 +77,9 @@ abbrev pub PromiseC : EntryC → List ℕ → Reply → List ℕ → Type 0
 PromiseC (saltorchard-write-plain code public private derive checkint comment) old r out =
     answersC (codedPlainReply code public private (checkintFor derive checkint private) comment (length old))
     (codedPlainLeft code public private (checkintFor derive checkint private) comment old) r out
+PromiseC (saltorchard-write-rsa n e d iqmp p q derive checkint comment) old r out =
+    answersC (plainReply Rsa (ofModulus n e) (ofNumbers d iqmp p q) (checkintFor derive checkint d) comment (length old))
+    (plainLeft Rsa (ofModulus n e) (ofNumbers d iqmp p q) (checkintFor derive checkint d) comment old) r out
 PromiseC (saltorchard-write-encrypted cipher k salt rounds blob ciphertext tag) old r out =
     answersC (codedEncryptedReply cipher k salt rounds blob ciphertext tag (length old)) (codedEncryptedLeft cipher k salt rounds blob ciphertext tag old) r out
 PromiseC (saltorchard-rewrite s) old r out = answersC (rewriteReply s (length old)) (rewriteLeft s old) r out
@@ -75,10 +88,10 @@ PromiseC (saltorchard-change-comment n comment) old r out = answersC (changeRepl
 -- ---- each by itself
 
 plain-keeps :
-    (a : Algorithm) (point scalar : List ℕ) (checkint : ℕ) (comment old : List ℕ) (g : Fault)
-    → plainReply a point scalar checkint comment (length old) ≡ written.Refused g → plainLeft a point scalar checkint comment old ≡ old
+    (a : Algorithm) (key : PublicBytes) (x : PrivateBytes) (checkint : ℕ) (comment old : List ℕ) (g : Fault)
+    → plainReply a key x checkint comment (length old) ≡ written.Refused g → plainLeft a key x checkint comment old ≡ old
 unfolding plainLeft
-plain-keeps a point scalar checkint comment old g e = rw e
+plain-keeps a key x checkint comment old g e = rw e
 
 encrypted-keeps :
     (cipher : Cipher) (k : Kdf) (salt : List ℕ) (rounds : ℕ) (blob ciphertext tag old : List ℕ) (g : Fault)
@@ -92,7 +105,7 @@ by-kind Plain plain encrypted = plain refl
 by-kind Encrypted plain encrypted = encrypted refl
 
 record-keeps : (s : List ℕ) (f : Fields) (old : List ℕ) (g : Fault) → recordReply s f (length old) ≡ written.Refused g → recordLeft s f old ≡ old
-unfolding recordReply recordLeft
+unfolding recordReply recordLeft plainAgain plainAgainLeft
 record-keeps s f old g e =
     by-kind (f .section .kind)
     (λ k. rw k (plain-keeps _ _ _ _ _ old g (rw k at e)))
@@ -120,7 +133,14 @@ unfolding codedPlainReply codedPlainLeft
 coded-plain-keeps code public private checkint comment old g e =
     by-algorithm (algorithmCoded code)
     (λ w. rw w)
-    (λ a w. rw w (plain-keeps a public private checkint comment old g (rw w at e)))
+    (λ a w. rw w (by-kind-of a (rw w at e)))
+  where
+    by-kind-of :
+        (a : Algorithm)
+        → onAlgorithm a (λ k. plainReply (OnCurve k) (ofPoint public) (ofScalar private) checkint comment (length old)) namesNothing ≡ written.Refused g
+        → onAlgorithm a (λ k. plainLeft (OnCurve k) (ofPoint public) (ofScalar private) checkint comment old) old ≡ old
+    by-kind-of (OnCurve k) f = plain-keeps (OnCurve k) (ofPoint public) (ofScalar private) checkint comment old g f
+    by-kind-of Rsa f = refl
 
 coded-encrypted-keeps :
     (cipher k : ℕ) (salt : List ℕ) (rounds : ℕ) (blob ciphertext tag old : List ℕ) (g : Fault)
@@ -154,10 +174,15 @@ kept w r after out old g keeps p e = p .1 ∙ keeps g (sym (p .0) ∙ e)
 
 -- a refused call of any entry leaves every byte
 pub refused-keeps : (entry : Entry) (old : List ℕ) (r : Written) (out : List ℕ) (g : Fault) → Promise entry old r out → r ≡ written.Refused g → out ≡ old
-refused-keeps (write-parts a point scalar checkint comment) old r out g p e =
-    kept _ r _ out old g (plain-keeps a point scalar checkint comment old) p e
-refused-keeps (write-plain m given comment) old r out g p e =
-    kept _ r _ out old g (plain-keeps (m .algorithm) (publicOf m) (privateOf m) (checkintOf given (privateOf m)) comment old) p e
+refused-keeps (write-parts e point scalar checkint comment) old r out g promise q =
+    kept _ r _ out old g (plain-keeps (OnCurve e) (ofPoint point) (ofScalar scalar) checkint comment old) promise q
+refused-keeps (write-numbers n e d iqmp p q checkint comment) old r out g promise w =
+    kept _ r _ out old g (plain-keeps Rsa (ofModulus n e) (ofNumbers d iqmp p q) checkint comment old) promise w
+refused-keeps (write-rsa n e d iqmp p q given comment) old r out g promise w =
+    kept _ r _ out old g (plain-keeps Rsa (ofModulus n e) (ofNumbers d iqmp p q) (checkintOf given d) comment old) promise w
+refused-keeps (write-plain m given comment) old r out g promise q =
+    kept _ r _ out old g
+    (plain-keeps (OnCurve (m .algorithm)) (ofPoint (publicOf m)) (ofScalar (privateOf m)) (checkintOf given (privateOf m)) comment old) promise q
 refused-keeps (write-encrypted cipher k salt rounds blob ciphertext tag) old r out g p e =
     kept _ r _ out old g (encrypted-keeps cipher k salt rounds blob ciphertext tag old) p e
 refused-keeps (rewrite s) old r out g p e = kept _ r _ out old g (rewrite-keeps s old) p e
@@ -177,6 +202,8 @@ kept-c (written.Length n) r after out old keeps p refused = absurd (refused (ap 
 pub refused-keeps-c : (entry : EntryC) (old : List ℕ) (r : Reply) (out : List ℕ) → PromiseC entry old r out → (r .number ≡ 0 → ⊥) → out ≡ old
 refused-keeps-c (saltorchard-write-plain code public private derive checkint comment) old r out p refused =
     kept-c _ r _ out old (coded-plain-keeps code public private (checkintFor derive checkint private) comment old) p refused
+refused-keeps-c (saltorchard-write-rsa n e d iqmp p q derive checkint comment) old r out promise refused =
+    kept-c _ r _ out old (plain-keeps Rsa (ofModulus n e) (ofNumbers d iqmp p q) (checkintFor derive checkint d) comment old) promise refused
 refused-keeps-c (saltorchard-write-encrypted cipher k salt rounds blob ciphertext tag) old r out p refused =
     kept-c _ r _ out old (coded-encrypted-keeps cipher k salt rounds blob ciphertext tag old) p refused
 refused-keeps-c (saltorchard-rewrite s) old r out p refused = kept-c _ r _ out old (rewrite-keeps s old) p refused

@@ -8,20 +8,20 @@ use borrow.Author.Tests.{eqb-true, not-true}
 use lib.Dec.{eqb}
 use lib.ListN.{length, take}
 use Rattle.fields.specs.Bytes.{AllBytes, both-true, length-zero}
-use Rattle.fields.specs.Fields.{whole, viewOf}
+use Rattle.fields.specs.Fields.{whole}
 use Rattle.fields.specs.Place.{clash}
 use Rattle.fields.specs.Rest.{rest-whole}
-use Rattle.fields.specs.declared.Part.{Part}
 use Rattle.fields.specs.declared.Refusal.the-variants.{Length, Crypto}
 use Rattle.names.specs.declared.Algorithm.{Algorithm}
 use Rattle.names.specs.declared.Cipher.{Cipher}
 use Rattle.names.specs.declared.Kdf.{Kdf}
 use Rattle.names.specs.declared.Kdf.the-variants as kdf
 use Rattle.names.specs.Ciphers.{isNone, blockSize, tagLength}
-use Rattle.format.specs.Format.{OptionsFit, blob, encryptedImage}
+use Rattle.format.specs.Format.{PublicBytes, OptionsFit, blob, encryptedImage}
+use Rattle.keys.specs.declared.Public.{Public}
 use Rattle.keys.specs.declared.Blob.{Blob}
 use Rattle.keys.specs.declared.Blob.the-variants as answer
-use Rattle.keys.specs.Keys.{onBlob, blobAt}
+use Rattle.keys.specs.Keys.{publicBytes, onBlob, blobAt}
 use Rattle.key_laws.specs.Read.{blob-read}
 use Rattle.container.specs.Back.{SealFits, EncryptedImageBack, encrypted-image-back}
 use Rattle.buffer.specs.Puts.{take-splice}
@@ -32,11 +32,11 @@ use Rattle.encrypted.specs.Encrypted.{optionsFit, encryptedReply, encryptedLeft
 use Rattle.claims.specs.Reading.{held, sized-held}
 
 -- a blob of an accepted write is read
-data BlobHeld (key : List ℕ) (P : Algorithm → Part → Written) (k : ℕ) : Type 0 where
-  blob-held : (a : Algorithm) (p : Part) → blobAt key (whole key) ≡ answer.Key a p → P a p ≡ written.Length k → BlobHeld key P k
+data BlobHeld (key : List ℕ) (P : Algorithm → Public → Written) (k : ℕ) : Type 0 where
+  blob-held : (a : Algorithm) (p : Public) → blobAt key (whole key) ≡ answer.Key a p → P a p ≡ written.Length k → BlobHeld key P k
 
 by-blob :
-    (key : List ℕ) (w : Blob) (P : Algorithm → Part → Written) (k : ℕ) → blobAt key (whole key) ≡ w
+    (key : List ℕ) (w : Blob) (P : Algorithm → Public → Written) (k : ℕ) → blobAt key (whole key) ≡ w
     → onBlob w (λ f. refused (f .why)) P ≡ written.Length k → BlobHeld key P k
 by-blob key (answer.Refused f) P k w e = clash cc
 by-blob key (answer.Key a p) P k w e = blob-held a p w e
@@ -51,9 +51,9 @@ module _ (c : Cipher) (k : Kdf) (salt : List ℕ) (rounds : ℕ) (key ciphertext
   -- what an accepted encrypted write was given: its blob is a public key's
   pub record EncryptedAccepted (room m : ℕ) : Type 0 where
     pub algorithm : Algorithm
-    pub point : List ℕ
-    pub public : key ≡ blob algorithm point
-    pub fits : SealFits c k salt rounds algorithm point ciphertext tag
+    pub parts : PublicBytes
+    pub public : key ≡ blob algorithm parts
+    pub fits : SealFits c k salt rounds algorithm parts ciphertext tag
     pub small : length (encryptedImage c k salt rounds key ciphertext tag) ≤ 65535
     pub room-enough : length (encryptedImage c k salt rounds key ciphertext tag) ≤ room
     pub size : m ≡ length (encryptedImage c k salt rounds key ciphertext tag)
@@ -73,14 +73,13 @@ module _ (c : Cipher) (k : Kdf) (salt : List ℕ) (rounds : ℕ) (key ciphertext
       let r = blob-read key all (whole key) a p w in
       record {
         algorithm = a;
-        point = viewOf key p;
-        public = sym (rest-whole key) ∙ r .0;
+        parts = publicBytes key p;
+        public = sym (rest-whole key) ∙ r .text;
         fits =
             record {
               encrypts = none;
               options-fit = options;
-              long = r .1;
-              tag-byte = r .2;
+              public = r .fits;
               blocks = eqb-true _ _ (h₁ .0);
               tag-long = eqb-true _ _ (h₂ .0);
             };
@@ -113,9 +112,9 @@ module _ (c : Cipher) (k : Kdf) (salt : List ℕ) (rounds : ℕ) (key ciphertext
   -- read after write gives the record, with the blob as it was given
   pub record ReadAfterWrite (old : List ℕ) (m : ℕ) : Type 0 where
     pub algorithm : Algorithm
-    pub point : List ℕ
-    pub public : key ≡ blob algorithm point
-    pub back : EncryptedImageBack (take m (encryptedLeft c k salt rounds key ciphertext tag old)) c k salt rounds algorithm point ciphertext tag
+    pub parts : PublicBytes
+    pub public : key ≡ blob algorithm parts
+    pub back : EncryptedImageBack (take m (encryptedLeft c k salt rounds key ciphertext tag old)) c k salt rounds algorithm parts ciphertext tag
 
   pub read-after-encrypted-write :
       (old : List ℕ) (m : ℕ) → AllBytes key → rounds < 2 ^ 32 → encryptedReply c k salt rounds key ciphertext tag (length old) ≡ written.Length m
@@ -125,18 +124,18 @@ module _ (c : Cipher) (k : Kdf) (salt : List ℕ) (rounds : ℕ) (key ciphertext
       let w = encrypted-written old m all small e in
       record {
         algorithm = h .algorithm;
-        point = h .point;
+        parts = h .parts;
         public = h .public;
         back =
-            encrypted-image-back (take m (encryptedLeft c k salt rounds key ciphertext tag old)) c k salt rounds (h .algorithm) (h .point) ciphertext tag
+            encrypted-image-back (take m (encryptedLeft c k salt rounds key ciphertext tag old)) c k salt rounds (h .algorithm) (h .parts) ciphertext tag
             (omega (arith, ap length w, h .small)) (h .fits)
             (w ∙ ap (λ (b : List ℕ). encryptedImage c k salt rounds b ciphertext tag) (h .public));
       }
 
 -- what the definition of the format admits within the limits is not refused
 pub encrypted-admitted :
-    (c : Cipher) (k : Kdf) (salt : List ℕ) (rounds : ℕ) (a : Algorithm) (point ciphertext tag : List ℕ) → SealFits c k salt rounds a point ciphertext tag
-    → length (encryptedImage c k salt rounds (blob a point) ciphertext tag) ≤ 65535
-    → EncryptedImageBack (encryptedImage c k salt rounds (blob a point) ciphertext tag) c k salt rounds a point ciphertext tag
-encrypted-admitted c k salt rounds a point ciphertext tag fits limit =
-    encrypted-image-back (encryptedImage c k salt rounds (blob a point) ciphertext tag) c k salt rounds a point ciphertext tag limit fits refl
+    (c : Cipher) (k : Kdf) (salt : List ℕ) (rounds : ℕ) (a : Algorithm) (key : PublicBytes) (ciphertext tag : List ℕ) → SealFits c k salt rounds a key ciphertext tag
+    → length (encryptedImage c k salt rounds (blob a key) ciphertext tag) ≤ 65535
+    → EncryptedImageBack (encryptedImage c k salt rounds (blob a key) ciphertext tag) c k salt rounds a key ciphertext tag
+encrypted-admitted c k salt rounds a key ciphertext tag fits limit =
+    encrypted-image-back (encryptedImage c k salt rounds (blob a key) ciphertext tag) c k salt rounds a key ciphertext tag limit fits refl

@@ -7,9 +7,9 @@ use mathlib.Core.Path.{_≡_, refl, sym, _∙_, ap}
 use mathlib.Core.List.{List, [], _∷_}
 use lib.ListN.{length, take, drop}
 use Rattle.fields.specs.Bytes.{AllBytes}
-use Rattle.fields.specs.Fields.{viewOf}
 use Rattle.fields.specs.declared.Fault.{Fault}
 use Rattle.container.specs.declared.Fields.{Fields}
+use Rattle.container.specs.Container.{publicIn, privateIn}
 use Rattle.buffer.specs.Puts.{zeros}
 use Rattle.reply.specs.declared.Written.{Written}
 use Rattle.reply.specs.declared.Written.the-variants as written
@@ -189,8 +189,8 @@ pub sequence-afresh :
     → (h : ChangeAccepted (s .buf) (s .n) comment (t .n))
     × (take (t .n) (t .buf)
     ≡ take (t .n)
-    (plainLeft (h .fields .header .algorithm) (viewOf (take (s .n) (s .buf)) (h .fields .header .point))
-    (viewOf (take (s .n) (s .buf)) (h .fields .section .scalar)) (h .fields .section .checkint) comment (s .buf)))
+    (plainLeft (h .fields .header .algorithm) (publicIn (take (s .n) (s .buf)) (h .fields))
+    (privateIn (take (s .n) (s .buf)) (h .fields)) (h .fields .section .checkint) comment (s .buf)))
 sequence-afresh s comment far t e =
     let c = change-changes (s .buf) (s .n) comment (t .n) (e .0) in
     (c .accepted, e .1 ∙ c .written-afresh)

@@ -15,8 +15,9 @@ use Rattle.fields.specs.Place.{clash}
 use Rattle.fields.specs.Refusals.{numberOf, countOf}
 use Rattle.fields.specs.declared.Fault.{Fault}
 use Rattle.names.specs.declared.Algorithm.{Algorithm}
-use Rattle.names.specs.declared.Algorithm.the-variants.{Ed25519}
-use Rattle.format.specs.Format.{magic, blob, header, standing, needsLeadingZero, paddingLength, content, section, plainImage, writtenImage}
+use Rattle.names.specs.declared.Algorithm.the-variants.{Elliptic as OnCurve}
+use Rattle.names.specs.declared.Elliptic.the-variants.{Ed25519}
+use Rattle.format.specs.Format.{PublicBytes, PrivateBytes, ofPoint, ofScalar, magic, blob, keypair, header, needsLeadingZero, paddingLength, content, section, plainImage, writtenImage}
 use Rattle.container.specs.declared.ImageRead.{ImageRead}
 use Rattle.container.specs.declared.ImageRead.the-variants as read
 use Rattle.container.specs.Container.{answersRead}
@@ -26,7 +27,7 @@ use Rattle.reply.specs.declared.Written.{Written}
 use Rattle.reply.specs.declared.Written.the-variants as written
 use Rattle.plain.specs.Plain.{plainReply, plainLeft, isPlain}
 use Rattle.comment.specs.Change.{afreshReply, afreshLeft, acceptedReply, changeReply, changeLeft, isChange}
-use Rattle.claims.specs.Reading.{PlainAccepted, plain-accepted, plain-written}
+use Rattle.claims.specs.Reading.{Own, PlainAccepted, plain-accepted, plain-written}
 use Rattle.claims.specs.Laid.{laid, laid-length, changed-laid, laid-out}
 use Rattle.claims.specs.Again.{back-form}
 use Rattle.claims.specs.Sizes.{Key, Ascii, ed25519-takes}
@@ -36,13 +37,13 @@ use Rattle.claims.specs.Marked.{p256Image, other-scalars, marked}
 
 -- what a writer is given: algorithm, public bytes, private bytes, checkint, comment, and the buffer
 pub record Writer : Type 0 where
-  pub reply : Algorithm → List ℕ → List ℕ → ℕ → List ℕ → List ℕ → Written
-  pub leaves : Algorithm → List ℕ → List ℕ → ℕ → List ℕ → List ℕ → List ℕ
+  pub reply : Algorithm → PublicBytes → PrivateBytes → ℕ → List ℕ → List ℕ → Written
+  pub leaves : Algorithm → PublicBytes → PrivateBytes → ℕ → List ℕ → List ℕ → List ℕ
 
 -- what it can be given
-pub record Given (point scalar : List ℕ) (n : ℕ) (comment old : List ℕ) : Type 0 where
-  pub point-bytes : AllBytes point
-  pub scalar-bytes : AllBytes scalar
+pub record Given (key : PublicBytes) (x : PrivateBytes) (n : ℕ) (comment old : List ℕ) : Type 0 where
+  pub public-bytes : AllBytes (key .point) × AllBytes (key .modulus) × AllBytes (key .exponent)
+  pub private-bytes : AllBytes (x .scalar) × AllBytes (x .d) × AllBytes (x .iqmp) × AllBytes (x .p) × AllBytes (x .q)
   pub checkint-fits : n < 2 ^ 32
   pub comment-bytes : AllBytes comment
   pub buffer-bytes : AllBytes old
@@ -50,15 +51,24 @@ pub record Given (point scalar : List ℕ) (n : ℕ) (comment old : List ℕ) : 
 -- that it meets the contract of a plain write, whatever it is given
 abbrev pub MeetsPlain : Writer → Type 0
 MeetsPlain w =
-    (a : Algorithm) (point scalar : List ℕ) (n : ℕ) (comment old : List ℕ) → Given point scalar n comment old
-    → isPlain a point scalar n comment old (w .reply a point scalar n comment old) (w .leaves a point scalar n comment old)
+    (a : Algorithm) (key : PublicBytes) (x : PrivateBytes) (n : ℕ) (comment old : List ℕ) → Given key x n comment old
+    → isPlain a key x n comment old (w .reply a key x n comment old) (w .leaves a key x n comment old)
 
 -- an Ed25519 key, as good as any
 abbrev bytes32 : List ℕ
 bytes32 = replicate 32 0
 
-key : Key Ed25519 bytes32 bytes32
-key = record { long = refl; tag = refl; private = refl }
+abbrev ed25519 : Algorithm
+ed25519 = OnCurve Ed25519
+
+abbrev public32 : PublicBytes
+public32 = ofPoint bytes32
+
+abbrev private32 : PrivateBytes
+private32 = ofScalar bytes32
+
+parts : Key Ed25519 bytes32 bytes32
+parts = record { long = refl; tag = refl; private = refl }
 
 -- comments of c letters
 letters : (c : ℕ) → Ascii (replicate c 97)
@@ -67,11 +77,11 @@ letters (suc c) zero h = omega arith
 letters (suc c) (suc k) h = letters c k (omega arith)
 
 -- without a comment it takes 234 bytes (M5), with one of 6 bytes 242 (M7)
-takes-234 : plainReply Ed25519 bytes32 bytes32 7 [] 300 ≡ written.Length 234
-takes-234 = marked .m5 bytes32 bytes32 7 [] key (letters 0) refl .answer 300 (omega arith)
+takes-234 : plainReply ed25519 public32 private32 7 [] 300 ≡ written.Length 234
+takes-234 = marked .m5 bytes32 bytes32 7 [] parts (letters 0) refl .answer 300 (omega arith)
 
-takes-242 : plainReply Ed25519 bytes32 bytes32 7 (replicate 6 97) 300 ≡ written.Length 242
-takes-242 = marked .m7 bytes32 bytes32 7 (replicate 6 97) key (letters 6) refl .answer 300 (omega arith)
+takes-242 : plainReply ed25519 public32 private32 7 (replicate 6 97) 300 ≡ written.Length 242
+takes-242 = marked .m7 bytes32 bytes32 7 (replicate 6 97) parts (letters 6) refl .answer 300 (omega arith)
 
 -- a buffer with room for both
 abbrev buffer : List ℕ
@@ -88,57 +98,57 @@ all-below [] e i = omega arith
 all-below (x ∷ xs) e zero = ltb-true x 256 (both-true (ltb x 256) (below xs) e .0)
 all-below (x ∷ xs) e (suc i) = all-below xs (both-true (ltb x 256) (below xs) e .1) i
 
-given : (comment : List ℕ) → below comment ≡ true → Given bytes32 bytes32 7 comment buffer
+given : (comment : List ℕ) → below comment ≡ true → Given public32 private32 7 comment buffer
 unfolding below
 given comment bytes =
     record {
-      point-bytes = all-below bytes32 refl;
-      scalar-bytes = all-below bytes32 refl;
+      public-bytes = (all-below bytes32 refl, all-below [] refl, all-below [] refl);
+      private-bytes = (all-below bytes32 refl, all-below [] refl, all-below [] refl, all-below [] refl, all-below [] refl);
       checkint-fits = omega arith;
       comment-bytes = all-below comment bytes;
       buffer-bytes = all-below buffer refl;
     }
 
-given-none : Given bytes32 bytes32 7 [] buffer
+given-none : Given public32 private32 7 [] buffer
 unfolding below
 given-none = given [] refl
 
-given-six : Given bytes32 bytes32 7 (replicate 6 97) buffer
+given-six : Given public32 private32 7 (replicate 6 97) buffer
 unfolding below
 given-six = given (replicate 6 97) refl
 
 module _ (w : Writer) (meets : MeetsPlain w) where
   -- no writer that meets the contract refuses everything: an Ed25519 key is written
   pub refuses-all :
-      ((a : Algorithm) (point scalar : List ℕ) (n : ℕ) (comment old : List ℕ) → Given point scalar n comment old
-      → (g : Fault) × (w .reply a point scalar n comment old ≡ written.Refused g))
+      ((a : Algorithm) (key : PublicBytes) (x : PrivateBytes) (n : ℕ) (comment old : List ℕ) → Given key x n comment old
+      → (g : Fault) × (w .reply a key x n comment old ≡ written.Refused g))
       → ⊥
   refuses-all refuses =
-      let r = refuses Ed25519 bytes32 bytes32 7 [] buffer given-none in
-      let e : written.Refused (r .0) ≡ written.Length 234 = sym (r .1) ∙ meets Ed25519 bytes32 bytes32 7 [] buffer given-none .0 ∙ takes-234 in
+      let r = refuses ed25519 public32 private32 7 [] buffer given-none in
+      let e : written.Refused (r .0) ≡ written.Length 234 = sym (r .1) ∙ meets ed25519 public32 private32 7 [] buffer given-none .0 ∙ takes-234 in
       clash cc
 
   -- none replies the same always: M5 and M7 have different lengths
   pub replies-same :
       (r : Written)
-      → ((a : Algorithm) (point scalar : List ℕ) (n : ℕ) (comment old : List ℕ) → Given point scalar n comment old → w .reply a point scalar n comment old ≡ r)
+      → ((a : Algorithm) (key : PublicBytes) (x : PrivateBytes) (n : ℕ) (comment old : List ℕ) → Given key x n comment old → w .reply a key x n comment old ≡ r)
       → ⊥
   replies-same r same =
-      let e₁ : r ≡ written.Length 234 = sym (same Ed25519 bytes32 bytes32 7 [] buffer given-none) ∙ meets Ed25519 bytes32 bytes32 7 [] buffer given-none .0 ∙ takes-234 in
+      let e₁ : r ≡ written.Length 234 = sym (same ed25519 public32 private32 7 [] buffer given-none) ∙ meets ed25519 public32 private32 7 [] buffer given-none .0 ∙ takes-234 in
       let e₂ : r ≡ written.Length 242 =
-      sym (same Ed25519 bytes32 bytes32 7 (replicate 6 97) buffer given-six) ∙ meets Ed25519 bytes32 bytes32 7 (replicate 6 97) buffer given-six .0 ∙ takes-242 in
+      sym (same ed25519 public32 private32 7 (replicate 6 97) buffer given-six) ∙ meets ed25519 public32 private32 7 (replicate 6 97) buffer given-six .0 ∙ takes-242 in
       let e : _≡_ {A = ℕ} 234 242 = cc in
       omega arith
 
   -- none stores nothing: where an image was written, the buffer begins with the magic
   pub stores-nothing :
-      ((a : Algorithm) (point scalar : List ℕ) (n : ℕ) (comment old : List ℕ) → Given point scalar n comment old → w .leaves a point scalar n comment old ≡ old)
+      ((a : Algorithm) (key : PublicBytes) (x : PrivateBytes) (n : ℕ) (comment old : List ℕ) → Given key x n comment old → w .leaves a key x n comment old ≡ old)
       → ⊥
   unfolding writtenImage plainImage header magic
   stores-nothing same =
-      let kept : plainLeft Ed25519 bytes32 bytes32 7 [] buffer ≡ buffer = sym (meets Ed25519 bytes32 bytes32 7 [] buffer given-none .1) ∙ same Ed25519 bytes32 bytes32 7 [] buffer given-none in
-      let image : take 234 buffer ≡ writtenImage 7 Ed25519 bytes32 bytes32 [] =
-      ap (take 234) (sym kept) ∙ plain-written Ed25519 bytes32 bytes32 7 [] buffer 234 takes-234 in
+      let kept : plainLeft ed25519 public32 private32 7 [] buffer ≡ buffer = sym (meets ed25519 public32 private32 7 [] buffer given-none .1) ∙ same ed25519 public32 private32 7 [] buffer given-none in
+      let image : take 234 buffer ≡ writtenImage 7 ed25519 public32 private32 [] =
+      ap (take 234) (sym kept) ∙ plain-written ed25519 public32 private32 7 [] buffer 234 takes-234 in
       let e : _≡_ {A = ℕ} 0 111 = ap (λ (l : List ℕ). getD l 0 0) image in
       omega arith
 
@@ -149,7 +159,7 @@ module _ (w : Writer) (meets : MeetsPlain w) where
 pub made-up-count :
     (reader : List ℕ → ImageRead) → ((s : List ℕ) → AllBytes s → answersRead s (reader s))
     → (count : ℕ) → ((s : List ℕ) (g : Fault) → AllBytes s → reader s ≡ read.Refused g → numberOf (g .why) ≡ 6 → countOf (g .why) ≡ count) → ⊥
-unfolding below p256Image plainImage header section content blob string uint32 magic
+unfolding below p256Image plainImage header section content blob keypair string uint32 magic
 made-up-count reader meets count same =
     let two = other-scalars .1 in
     let three = other-scalars .3 in
@@ -175,36 +185,36 @@ MeetsChange w =
     → isChange old n comment (w .reply old n comment) (w .leaves old n comment)
 
 -- a written image in a buffer of its length, changed to a comment that takes the same length, becomes the image with that comment
-module _ (a : Algorithm) (point scalar : List ℕ) (n : ℕ) (fit : n < 2 ^ 32) (first second : List ℕ) (k : ℕ)
-    (was : PlainAccepted a point scalar n first k k) (fits : plainReply a point scalar n second k ≡ written.Length k) where
+module _ (a : Algorithm) (key : PublicBytes) (x : PrivateBytes) (n : ℕ) (fit : n < 2 ^ 32) (own : Own a key x) (first second : List ℕ) (k : ℕ)
+    (was : PlainAccepted a key x n first k k) (fits : plainReply a key x n second k ≡ written.Length k) where
   abbrev s : List ℕ
-  s = writtenImage n a point scalar first
+  s = writtenImage n a key x first
 
-  back : PlainImageBack s n a point scalar first (paddingLength (length (content n a point (standing (needsLeadingZero a scalar) scalar) first)))
+  back : PlainImageBack s n a key x first (paddingLength (length (content n (keypair a (needsLeadingZero a x) key x) first)))
   unfolding writtenImage
-  back = plain-image-back s n a (needsLeadingZero a scalar) point scalar first (was .small) fit (was .fits) refl
+  back = plain-image-back s n a (needsLeadingZero a x) key x first (was .small) fit (was .fits own) refl
 
   all : take k s ≡ s
   all = ap (λ (i : ℕ). take i s) (was .size) ∙ take-length s
 
   in-form : formOf s (back .fields) ≡ true
-  in-form = back-form s n a point scalar first _ refl back
+  in-form = back-form s n a key x first _ refl back
 
   change-reply : changeReply s k second ≡ written.Length k
   unfolding changeReply acceptedReply afreshReply
   change-reply =
-      let will = plain-accepted a point scalar n second k k fits in
+      let will = plain-accepted a key x n second k k fits in
       rw (all, le-leb k 65535 (omega (arith, was .small, was .size)), le-leb k (length s) (omega (arith, was .size)), back .read, back .plain, in-form)
-      (rw (will .fits .text, back .same-checkint, back .same-algorithm, back .same-point, back .same-scalar, sym (was .size)) fits)
+      (rw (will .text, back .same-checkint, back .same-algorithm, back .same-public, back .same-private, sym (was .size)) fits)
 
-  change-leaves : changeLeft s k second ≡ writtenImage n a point scalar second
+  change-leaves : changeLeft s k second ≡ writtenImage n a key x second
   unfolding changeLeft afreshLeft plainLeft
   change-leaves =
-      let will = plain-accepted a point scalar n second k k fits in
-      let image = writtenImage n a point scalar second in
-      let room : plainReply a point scalar n second (length s) ≡ written.Length k = rw (sym (was .size)) fits in
+      let will = plain-accepted a key x n second k k fits in
+      let image = writtenImage n a key x second in
+      let room : plainReply a key x n second (length s) ≡ written.Length k = rw (sym (was .size)) fits in
       let out : changeLeft s k second ≡ laid image (k - length image) s =
-      rw (change-reply, all, back .read, back .same-checkint, back .same-algorithm, back .same-point, back .same-scalar, room)
+      rw (change-reply, all, back .read, back .same-checkint, back .same-algorithm, back .same-public, back .same-private, room)
       (changed-laid s image k k (will .size) (omega (arith, was .size, will .size)) (omega (arith, was .size))) in
       let long : length (changeLeft s k second) ≡ k =
       ap length out ∙ laid-length image (k - length image) s (omega (arith, was .size, will .size)) ∙ sym (was .size) in
@@ -213,10 +223,10 @@ module _ (a : Algorithm) (point scalar : List ℕ) (n : ℕ) (fit : n < 2 ^ 32) 
 
 -- the key's image with a comment of one letter
 abbrev lettered : ℕ → List ℕ
-lettered letter = writtenImage 7 Ed25519 bytes32 bytes32 (letter ∷ [])
+lettered letter = writtenImage 7 ed25519 public32 private32 (letter ∷ [])
 
-takes-letter : (letter : ℕ) → letter < 0x80 → plainReply Ed25519 bytes32 bytes32 7 (letter ∷ []) 234 ≡ written.Length 234
-takes-letter letter h = ed25519-takes 1 234 4 refl (omega arith) refl bytes32 bytes32 7 (letter ∷ []) key text refl .answer 234 (omega arith)
+takes-letter : (letter : ℕ) → letter < 0x80 → plainReply ed25519 public32 private32 7 (letter ∷ []) 234 ≡ written.Length 234
+takes-letter letter h = ed25519-takes 1 234 4 refl (omega arith) refl bytes32 bytes32 7 (letter ∷ []) parts text refl .answer 234 (omega arith)
   where
     text : Ascii (letter ∷ [])
     text zero l = h
@@ -227,19 +237,19 @@ relettered :
     (x y : ℕ) → x < 0x80 → y < 0x80
     → (changeReply (lettered x) 234 (y ∷ []) ≡ written.Length 234) × (changeLeft (lettered x) 234 (y ∷ []) ≡ lettered y)
 relettered x y hx hy =
-    let h = plain-accepted Ed25519 bytes32 bytes32 7 (x ∷ []) 234 234 (takes-letter x hx) in (
-      change-reply Ed25519 bytes32 bytes32 7 (omega arith) (x ∷ []) (y ∷ []) 234 h (takes-letter y hy),
-      change-leaves Ed25519 bytes32 bytes32 7 (omega arith) (x ∷ []) (y ∷ []) 234 h (takes-letter y hy),
+    let h = plain-accepted ed25519 public32 private32 7 (x ∷ []) 234 234 (takes-letter x hx) in (
+      change-reply ed25519 public32 private32 7 (omega arith) (refl, refl) (x ∷ []) (y ∷ []) 234 h (takes-letter y hy),
+      change-leaves ed25519 public32 private32 7 (omega arith) (refl, refl) (x ∷ []) (y ∷ []) 234 h (takes-letter y hy),
     )
 
 -- the letter stands in the image
 letter-at : (letter : ℕ) → getD (lettered letter) 229 0 ≡ letter
-unfolding writtenImage plainImage header magic blob section content string uint32
+unfolding writtenImage plainImage header magic blob keypair section content string uint32
 letter-at letter = refl
 
 -- two of them, made of bytes
 lettered-bytes : AllBytes (lettered 97) × AllBytes (lettered 98)
-unfolding below writtenImage plainImage header magic blob section content string uint32
+unfolding below writtenImage plainImage header magic blob keypair section content string uint32
 lettered-bytes = (all-below (lettered 97) refl, all-below (lettered 98) refl)
 
 letter-bytes : AllBytes (98 ∷ []) × AllBytes (99 ∷ [])

@@ -8,21 +8,22 @@ use mathlib.Core.List.{List, [], _∷_}
 use borrow.Author.Tests.{eq-eqb, le-leb, lt-leb}
 use lib.ListN.{length, getD}
 use Rattle.fields.specs.declared.Refusal.the-variants.{Size}
-use Rattle.names.specs.declared.Algorithm.{Algorithm}
-use Rattle.names.specs.declared.Algorithm.the-variants.{Ed25519, Ecdsa}
+use Rattle.names.specs.declared.Algorithm.the-variants.{Elliptic as OnCurve}
+use Rattle.names.specs.declared.Elliptic.{Elliptic}
+use Rattle.names.specs.declared.Elliptic.the-variants.{Ed25519, Ecdsa}
 use Rattle.names.specs.declared.Curve.the-variants.{Nistp256}
 use Rattle.utf8.specs.Laws.{ascii-utf8}
-use Rattle.format.specs.Format.{publicLength, privateLength, pointTag, needsLeadingZero, paddingLength, writtenImage}
-use Rattle.format.specs.Lengths.{blobLength, contentLength, written-content-length, written-length}
+use Rattle.format.specs.Format.{ofPoint, ofScalar, publicLength, privateLength, pointTag, scalarZero, paddingLength, writtenImage}
+use Rattle.format.specs.Laws.{rule-may}
+use Rattle.format.specs.Lengths.{pointBlobLength, contentLength, written-content-length, written-length}
 use Rattle.section.specs.Back.{KeyFits}
 use Rattle.container.specs.Back.{PlainImageBack, plain-image-back}
 use Rattle.reply.specs.declared.Written.the-variants as written
 use Rattle.reply.specs.Reply.{refused, sized}
-use Rattle.plain.specs.Plain.{plainReply}
-use Rattle.claims.specs.Reading.{rule-may}
+use Rattle.plain.specs.Plain.{keyChecked, plainReply}
 
 -- public and private bytes that make a key: their lengths, and the tag of a point
-pub record Key (a : Algorithm) (point scalar : List ℕ) : Type 0 where
+pub record Key (a : Elliptic) (point scalar : List ℕ) : Type 0 where
   pub long : length point ≡ publicLength a
   pub tag : pointTag a point ≡ true
   pub private : length scalar ≡ privateLength a
@@ -32,46 +33,55 @@ abbrev pub Ascii : List ℕ → Type 0
 Ascii t = (k : ℕ) → k < length t → getD t k 0 < 0x80
 
 -- the length of the image of a key with a comment of c bytes
-abbrev pub imageLength : Algorithm → List ℕ → ℕ → ℕ
-imageLength a scalar c = 47 + blobLength a + (contentLength a scalar c + paddingLength (contentLength a scalar c))
+abbrev pub bodyLength : Elliptic → List ℕ → ℕ → ℕ
+bodyLength a scalar c = contentLength (OnCurve a) (ofPoint []) (ofScalar scalar) c
 
-module _ (a : Algorithm) (point scalar : List ℕ) (n : ℕ) (comment : List ℕ) where
+abbrev pub imageLength : Elliptic → List ℕ → ℕ → ℕ
+imageLength a scalar c = 47 + pointBlobLength a + (bodyLength a scalar c + paddingLength (bodyLength a scalar c))
+
+module _ (a : Elliptic) (point scalar : List ℕ) (n : ℕ) (comment : List ℕ) where
   -- the writer answers this length where there is room for it, and the image is read with this padding
   pub record Takes (size padding : ℕ) : Type 0 where
-    pub answer : (room : ℕ) → size ≤ room → plainReply a point scalar n comment room ≡ written.Length size
-    pub pads : n < 2 ^ 32 → PlainImageBack (writtenImage n a point scalar comment) n a point scalar comment padding
+    pub answer : (room : ℕ) → size ≤ room → plainReply (OnCurve a) (ofPoint point) (ofScalar scalar) n comment room ≡ written.Length size
+    pub pads : n < 2 ^ 32 → PlainImageBack (writtenImage n (OnCurve a) (ofPoint point) (ofScalar scalar) comment) n (OnCurve a) (ofPoint point) (ofScalar scalar) comment padding
 
   -- a key with an ASCII comment is refused for its size or for want of room only
-  sized-alone : Key a point scalar → Ascii comment → (room : ℕ) → plainReply a point scalar n comment room ≡ sized (writtenImage n a point scalar comment) room
-  unfolding plainReply
+  sized-alone : Key a point scalar → Ascii comment → (room : ℕ) → plainReply (OnCurve a) (ofPoint point) (ofScalar scalar) n comment room ≡ sized (writtenImage n (OnCurve a) (ofPoint point) (ofScalar scalar) comment) room
+  unfolding plainReply keyChecked
   sized-alone key text room = rw (eq-eqb _ _ (key .long), eq-eqb _ _ (key .private), key .tag, ascii-utf8 comment text)
 
   -- a key with an ASCII comment fits the format
-  key-fits : Key a point scalar → Ascii comment → KeyFits a (needsLeadingZero a scalar) point scalar comment
-  key-fits key text = record { long = key .long; tag = key .tag; private = key .private; may = rule-may a scalar; text = ascii-utf8 comment text }
+  key-fits : Key a point scalar → Ascii comment → KeyFits (OnCurve a) (scalarZero a scalar) (ofPoint point) (ofScalar scalar) comment
+  key-fits key text =
+      record {
+        public = (key .long, key .tag, refl);
+        private = (key .private, refl);
+        may = rule-may (OnCurve a) (ofScalar scalar);
+        text = ascii-utf8 comment text;
+      }
 
   -- by the lengths of the key and the comment
   takes :
       Key a point scalar → Ascii comment → (size padding : ℕ) → imageLength a scalar (length comment) ≡ size → size ≤ 65535
-      → paddingLength (contentLength a scalar (length comment)) ≡ padding → Takes size padding
+      → paddingLength (bodyLength a scalar (length comment)) ≡ padding → Takes size padding
   unfolding sized writtenImage
   takes key text size padding long small pads =
-      let is : length (writtenImage n a point scalar comment) ≡ size = written-length n a point scalar comment (key .long) (key .private) ∙ long in
+      let is : length (writtenImage n (OnCurve a) (ofPoint point) (ofScalar scalar) comment) ≡ size = written-length n (OnCurve a) (ofPoint point) (ofScalar scalar) comment (key .long, key .private) ∙ long in
       record {
         answer = λ room enough. sized-alone key text room ∙ rw (is, le-leb _ _ small, le-leb _ _ enough);
         pads =
             λ fits.
-            rw (ap paddingLength (written-content-length n a point scalar comment (key .long) (key .private)) ∙ pads) at
-            (plain-image-back (writtenImage n a point scalar comment) n a (needsLeadingZero a scalar) point scalar comment (omega (arith, is, small)) fits
+            rw (ap paddingLength (written-content-length n (OnCurve a) (ofPoint point) (ofScalar scalar) comment (key .long, key .private)) ∙ pads) at
+            (plain-image-back (writtenImage n (OnCurve a) (ofPoint point) (ofScalar scalar) comment) n (OnCurve a) (scalarZero a scalar) (ofPoint point) (ofScalar scalar) comment (omega (arith, is, small)) fits
             (key-fits key text) refl);
       }
 
   -- an image above the limit is refused with 11, whatever the room
   too-long :
-      Key a point scalar → Ascii comment → 65535 < imageLength a scalar (length comment) → (room : ℕ) → plainReply a point scalar n comment room ≡ refused Size
+      Key a point scalar → Ascii comment → 65535 < imageLength a scalar (length comment) → (room : ℕ) → plainReply (OnCurve a) (ofPoint point) (ofScalar scalar) n comment room ≡ refused Size
   unfolding sized
   too-long key text above room =
-      let is = written-length n a point scalar comment (key .long) (key .private) in
+      let is = written-length n (OnCurve a) (ofPoint point) (ofScalar scalar) comment (key .long, key .private) in
       sized-alone key text room ∙ rw (is, lt-leb _ _ above)
 
 -- every Ed25519 key with any checkint and an ASCII comment of c bytes takes this image and padding
@@ -80,7 +90,7 @@ Ed25519Takes c size padding =
     (point seed : List ℕ) (n : ℕ) (comment : List ℕ) → Key Ed25519 point seed → Ascii comment → length comment ≡ c → Takes Ed25519 point seed n comment size padding
 
 pub ed25519-takes :
-    (c size padding : ℕ) → imageLength Ed25519 [] c ≡ size → size ≤ 65535 → paddingLength (contentLength Ed25519 [] c) ≡ padding → Ed25519Takes c size padding
+    (c size padding : ℕ) → imageLength Ed25519 [] c ≡ size → size ≤ 65535 → paddingLength (bodyLength Ed25519 [] c) ≡ padding → Ed25519Takes c size padding
 ed25519-takes c size padding long small pads point seed n comment key text e =
     takes Ed25519 point seed n comment key text size padding (rw e long) small (rw e pads)
 
@@ -88,7 +98,7 @@ ed25519-takes c size padding long small pads point seed n comment key text e =
 abbrev pub Ed25519TooLong : ℕ → Type 0
 Ed25519TooLong c =
     (point seed : List ℕ) (n : ℕ) (comment : List ℕ) (room : ℕ) → Key Ed25519 point seed → Ascii comment → length comment ≡ c
-    → plainReply Ed25519 point seed n comment room ≡ refused Size
+    → plainReply (OnCurve Ed25519) (ofPoint point) (ofScalar seed) n comment room ≡ refused Size
 
 pub ed25519-too-long : (c : ℕ) → 65535 < imageLength Ed25519 [] c → Ed25519TooLong c
 ed25519-too-long c above point seed n comment room key text e = too-long Ed25519 point seed n comment key text (rw e above) room
@@ -101,6 +111,6 @@ P256Takes first c size padding =
 
 pub p256-takes :
     (first c size padding : ℕ) → imageLength (Ecdsa Nistp256) (first ∷ []) c ≡ size → size ≤ 65535
-    → paddingLength (contentLength (Ecdsa Nistp256) (first ∷ []) c) ≡ padding → P256Takes first c size padding
+    → paddingLength (bodyLength (Ecdsa Nistp256) (first ∷ []) c) ≡ padding → P256Takes first c size padding
 p256-takes first c size padding long small pads point scalar n comment key begins text e =
     takes (Ecdsa Nistp256) point scalar n comment key text size padding (rw (begins, e) long) small (rw (begins, e) pads)

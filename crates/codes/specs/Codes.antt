@@ -1,11 +1,11 @@
--- The C interface's codes: algorithm 0 Ed25519, 1 P-256, 2 P-384, 3 P-521; KDF 0 none, 1 bcrypt; ciphers 0 to 9 in document 01's
+-- The C interface's codes: algorithm 0 Ed25519, 1 P-256, 2 P-384, 3 P-521, 4 RSA; KDF 0 none, 1 bcrypt; ciphers 0 to 9 in document 01's
 -- order. Any other number names nothing.
 use Prim.Native.Nat.{ℕ}
 use mathlib.Core.Path.{_≡_, refl, sym, _∙_, ap}
 use mathlib.Core.Bool.{cond}
 use mathlib.Core.List.{List, [], _∷_}
 use lib.Dec.{eqb}
-use Rattle.names.specs.Algorithms.{algorithmCode}
+use Rattle.names.specs.Algorithms.{algorithmCode, algorithms}
 use Rattle.names.specs.declared.Cipher.{Cipher}
 use Rattle.names.specs.declared.Cipher.the-variants.{None, TripleDesCbc, Aes128Cbc, Aes192Cbc, Aes256Cbc, Aes128Ctr, Aes192Ctr, Aes256Ctr, Aes128Gcm, Aes256Gcm}
 use Rattle.names.specs.declared.CipherName.{CipherName}
@@ -15,8 +15,9 @@ use Rattle.names.specs.declared.Kdf.the-variants as kdf
 use Rattle.names.specs.declared.KdfName.{KdfName}
 use Rattle.names.specs.declared.KdfName.the-variants as kdf-name
 use Rattle.names.specs.declared.Curve.the-variants.{Nistp256, Nistp384, Nistp521}
+use Rattle.names.specs.declared.Elliptic.the-variants.{Ed25519, Ecdsa}
 use Rattle.names.specs.declared.Algorithm.{Algorithm}
-use Rattle.names.specs.declared.Algorithm.the-variants.{Ed25519, Ecdsa}
+use Rattle.names.specs.declared.Algorithm.the-variants.{Elliptic as OnCurve, Rsa}
 use Rattle.names.specs.declared.AlgorithmName.{AlgorithmName}
 use Rattle.names.specs.declared.AlgorithmName.the-variants as algorithm-name
 
@@ -42,8 +43,7 @@ coded code known unknown [] n = unknown
 coded code known unknown (a ∷ rows) n = cond (eqb n (code a)) (known a) (coded code known unknown rows n)
 
 unfoldable pub algorithmCoded : ℕ → AlgorithmName
-algorithmCoded =
-    coded algorithmCode algorithm-name.Known algorithm-name.Unknown (Ed25519 ∷ Ecdsa Nistp256 ∷ Ecdsa Nistp384 ∷ Ecdsa Nistp521 ∷ [])
+algorithmCoded = coded algorithmCode algorithm-name.Known algorithm-name.Unknown algorithms
 
 unfoldable pub cipherCoded : ℕ → CipherName
 cipherCoded =
@@ -57,10 +57,11 @@ kdfCoded = coded kdfCode kdf-name.Known kdf-name.Unknown (kdf.None ∷ kdf.Bcryp
 
 pub algorithm-coded : (a : Algorithm) → algorithmCoded (algorithmCode a) ≡ algorithm-name.Known a
 unfolding algorithmCoded
-algorithm-coded Ed25519 = refl
-algorithm-coded (Ecdsa Nistp256) = refl
-algorithm-coded (Ecdsa Nistp384) = refl
-algorithm-coded (Ecdsa Nistp521) = refl
+algorithm-coded (OnCurve Ed25519) = refl
+algorithm-coded (OnCurve (Ecdsa Nistp256)) = refl
+algorithm-coded (OnCurve (Ecdsa Nistp384)) = refl
+algorithm-coded (OnCurve (Ecdsa Nistp521)) = refl
+algorithm-coded Rsa = refl
 
 pub cipher-coded : (c : Cipher) → cipherCoded (cipherCode c) ≡ Known c
 unfolding cipherCoded

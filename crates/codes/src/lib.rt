@@ -7,6 +7,7 @@ use names::AlgorithmName;
 use names::Cipher;
 use names::CipherName;
 use names::Curve;
+use names::Elliptic;
 use names::Kdf;
 use names::KdfName;
 
@@ -40,16 +41,19 @@ pub fn algorithm_coded(code: u8) -> AlgorithmName
     ensures { λ r. ⌜ r ≡ algorithmCoded code ⌝ }
 {
     if code == 0 {
-        return AlgorithmName::Known(Algorithm::Ed25519);
+        return AlgorithmName::Known(Algorithm::Elliptic(Elliptic::Ed25519));
     }
     if code == 1 {
-        return AlgorithmName::Known(Algorithm::Ecdsa(Curve::Nistp256));
+        return AlgorithmName::Known(Algorithm::Elliptic(Elliptic::Ecdsa(Curve::Nistp256)));
     }
     if code == 2 {
-        return AlgorithmName::Known(Algorithm::Ecdsa(Curve::Nistp384));
+        return AlgorithmName::Known(Algorithm::Elliptic(Elliptic::Ecdsa(Curve::Nistp384)));
     }
     if code == 3 {
-        return AlgorithmName::Known(Algorithm::Ecdsa(Curve::Nistp521));
+        return AlgorithmName::Known(Algorithm::Elliptic(Elliptic::Ecdsa(Curve::Nistp521)));
+    }
+    if code == 4 {
+        return AlgorithmName::Known(Algorithm::Rsa);
     }
     AlgorithmName::Unknown
 }

@@ -4,22 +4,22 @@ use native.Mathlib.Omega.{arith}
 use mathlib.Core.Path.{_≡_, refl, sym, _∙_, ap, ap₂}
 use mathlib.Core.Bool.{Bool, true, false}
 use mathlib.Core.List.{List, [], _∷_, _++_, append-assoc, append-nil}
-use borrow.Author.Tests.{eq-eqb, ltb-true, ltb-false}
+use borrow.Author.Tests.{ltb-true, ltb-false}
 use lib.Dec.{ltb}
 use lib.ListN.{length, take, drop, getD, length-append, length-take, List·getD-eq-default}
 use lib.Seq.{slice, length-take-le, take-at, drop-at, take-take, getD-take}
 use Rattle.fields.specs.Bytes.{uint32, string, join, AllBytes}
 use Rattle.fields.specs.Fields.{viewOf}
 use Rattle.fields.specs.Rest.{length-uint32}
-use Rattle.names.specs.declared.Algorithm.{Algorithm}
 use Rattle.names.specs.declared.Cipher.the-variants as cipher
 use Rattle.names.specs.declared.Kdf.the-variants as kdf
 use Rattle.utf8.specs.Utf8.{utf8}
-use Rattle.format.specs.Format.{standing, needsLeadingZero, blob, privateField, paddingLength, paddingBytes, content, section, header, plainImage, writtenImage}
+use Rattle.format.specs.Format.{needsLeadingZero, blob, keypair, paddingLength, paddingBytes, content, section, header, plainImage, writtenImage}
 use Rattle.format.specs.Laws.{content-then, section-length}
 use Rattle.format.specs.Lengths.{content-length}
 use Rattle.section.specs.Read.{beforeComment}
 use Rattle.container.specs.declared.Fields.{Fields}
+use Rattle.container.specs.Container.{publicIn, privateIn}
 use Rattle.container.specs.Form.{formOf}
 use Rattle.container.specs.Read.{PlainText}
 use Rattle.container.specs.FormLaws.{form-rule}
@@ -28,6 +28,7 @@ use Rattle.buffer.specs.Puts.{splice, zeros}
 use Rattle.reply.specs.declared.Written.{Written}
 use Rattle.reply.specs.declared.Written.the-variants as written
 use Rattle.plain.specs.Plain.{plainReply, plainLeft}
+use Rattle.plain.specs.Fits.{checks-pass}
 use Rattle.reply.specs.Reply.{onWritten, left, sized}
 use Rattle.comment.specs.Change.{afresh, afreshReply, afreshLeft, commentField, acceptedReply, acceptedLeft}
 use Rattle.comment.specs.Shell.{bare, shellAt, shellFields, renewed, isRenewed}
@@ -35,53 +36,50 @@ use Rattle.comment.specs.Shell.{bare, shellAt, shellFields, renewed, isR
 -- ---- an image regrouped: only the section's length, the comment and the padding depend on the comment
 
 -- what stands in a section before the comment
-unfoldable pub middle : ℕ → Algorithm → List ℕ → List ℕ → List ℕ
-middle n a point stored = join (uint32 n ∷ uint32 n ∷ blob a point ∷ privateField a point stored ∷ [])
+unfoldable pub middle : ℕ → List ℕ → List ℕ
+middle n pair = join (uint32 n ∷ uint32 n ∷ pair ∷ [])
 
-middle-length : (n : ℕ) (a : Algorithm) (point stored : List ℕ) → length (middle n a point stored) ≡ beforeComment a point stored
+middle-length : (n : ℕ) (pair : List ℕ) → length (middle n pair) ≡ beforeComment pair
 unfolding middle
-middle-length n a point stored = simp (length-append, length-uint32) (omega arith)
+middle-length n pair = simp (length-append, length-uint32) (omega arith)
 
-middle-then :
-    (n : ℕ) (a : Algorithm) (point stored comment t : List ℕ) → content n a point stored comment ++ t ≡ middle n a point stored ++ (string comment ++ t)
+middle-then : (n : ℕ) (pair comment t : List ℕ) → content n pair comment ++ t ≡ middle n pair ++ (string comment ++ t)
 unfolding middle
-middle-then n a point stored comment t = content-then n a point stored comment t ∙ simp append-assoc
+middle-then n pair comment t = content-then n pair comment t ∙ simp append-assoc
 
 -- the section's length without its padding
-abbrev bareOf : ℕ → Algorithm → List ℕ → List ℕ → List ℕ → ℕ
-bareOf n a point stored comment = length (middle n a point stored) + (4 + length comment)
+abbrev bareOf : ℕ → List ℕ → List ℕ → ℕ
+bareOf n pair comment = length (middle n pair) + (4 + length comment)
 
-bare-is : (n : ℕ) (a : Algorithm) (point stored comment : List ℕ) → length (content n a point stored comment) ≡ bareOf n a point stored comment
-bare-is n a point stored comment = content-length n a point stored comment ∙ omega (arith, middle-length n a point stored)
+bare-is : (n : ℕ) (pair comment : List ℕ) → length (content n pair comment) ≡ bareOf n pair comment
+bare-is n pair comment = content-length n pair comment ∙ omega (arith, middle-length n pair)
 
-section-is :
-    (n : ℕ) (a : Algorithm) (point stored comment : List ℕ)
-    → section n a point stored comment ≡ content n a point stored comment ++ take (paddingLength (length (content n a point stored comment))) paddingBytes
+section-is : (n : ℕ) (pair comment : List ℕ) → section n pair comment ≡ content n pair comment ++ take (paddingLength (length (content n pair comment))) paddingBytes
 unfolding section
-section-is n a point stored comment = refl
+section-is n pair comment = refl
 
 section-then :
-    (n : ℕ) (a : Algorithm) (point stored comment : List ℕ)
-    → string (section n a point stored comment)
-    ≡ uint32 (bareOf n a point stored comment + paddingLength (bareOf n a point stored comment))
-    ++ (middle n a point stored ++ (string comment ++ take (paddingLength (bareOf n a point stored comment)) paddingBytes))
+    (n : ℕ) (pair comment : List ℕ)
+    → string (section n pair comment)
+    ≡ uint32 (bareOf n pair comment + paddingLength (bareOf n pair comment))
+    ++ (middle n pair ++ (string comment ++ take (paddingLength (bareOf n pair comment)) paddingBytes))
 unfolding string
-section-then n a point stored comment =
+section-then n pair comment =
     ap₂ (λ (k : ℕ) (l : List ℕ). uint32 k ++ l)
-    (section-length n a point stored comment ∙ ap (λ (k : ℕ). k + paddingLength k) (bare-is n a point stored comment))
-    (section-is n a point stored comment ∙ middle-then n a point stored comment _
-    ∙ ap (λ (k : ℕ). middle n a point stored ++ (string comment ++ take (paddingLength k) paddingBytes)) (bare-is n a point stored comment))
+    (section-length n pair comment ∙ ap (λ (k : ℕ). k + paddingLength k) (bare-is n pair comment))
+    (section-is n pair comment ∙ middle-then n pair comment _
+    ∙ ap (λ (k : ℕ). middle n pair ++ (string comment ++ take (paddingLength k) paddingBytes)) (bare-is n pair comment))
 
 pub regrouped :
-    (n : ℕ) (a : Algorithm) (point stored comment : List ℕ)
-    → plainImage n a point stored comment
-    ≡ header cipher.None kdf.None [] 0 (blob a point)
-    ++ (uint32 (bareOf n a point stored comment + paddingLength (bareOf n a point stored comment))
-    ++ (middle n a point stored ++ (string comment ++ take (paddingLength (bareOf n a point stored comment)) paddingBytes)))
+    (n : ℕ) (key pair comment : List ℕ)
+    → plainImage n key pair comment
+    ≡ header cipher.None kdf.None [] 0 key
+    ++ (uint32 (bareOf n pair comment + paddingLength (bareOf n pair comment))
+    ++ (middle n pair ++ (string comment ++ take (paddingLength (bareOf n pair comment)) paddingBytes)))
 unfolding plainImage
-regrouped n a point stored comment =
-    ap (λ (l : List ℕ). header cipher.None kdf.None [] 0 (blob a point) ++ l)
-    (append-nil (string (section n a point stored comment)) ∙ section-then n a point stored comment)
+regrouped n key pair comment =
+    ap (λ (l : List ℕ). header cipher.None kdf.None [] 0 key ++ l)
+    (append-nil (string (section n pair comment)) ∙ section-then n pair comment)
 
 -- ---- the places of the shell
 
@@ -102,25 +100,24 @@ module _ (old : List ℕ) (n : ℕ) (inside : n ≤ length old) (f : Fields) (p 
     pub middle-stands : slice (f .header .section + 4) (commentField f) old ≡ between
 
   pub stands :
-      Standing (header cipher.None kdf.None [] 0 (blob (f .header .algorithm) (viewOf (take n old) (f .header .point))))
-      (middle (f .section .checkint) (f .header .algorithm) (viewOf (take n old) (f .header .point))
-      (standing (p .zero) (viewOf (take n old) (f .section .scalar))))
+      Standing (header cipher.None kdf.None [] 0 (blob (f .header .algorithm) (publicIn (take n old) f)))
+      (middle (f .section .checkint) (keypair (f .header .algorithm) (p .zero) (publicIn (take n old) f) (privateIn (take n old) f)))
   stands =
       let s = take n old in
       let c = f .section .checkint in
       let a = f .header .algorithm in
-      let point = viewOf s (f .header .point) in
-      let stored = standing (p .zero) (viewOf s (f .section .scalar)) in
+      let key = blob a (publicIn s f) in
+      let pair = keypair a (p .zero) (publicIn s f) (privateIn s f) in
       let comment = viewOf s (f .section .comment) in
-      let front = header cipher.None kdf.None [] 0 (blob a point) in
-      let m = middle c a point stored in
-      let k = uint32 (bareOf c a point stored comment + paddingLength (bareOf c a point stored comment)) in
-      let t = string comment ++ take (paddingLength (bareOf c a point stored comment)) paddingBytes in
-      let text : s ≡ front ++ (k ++ (m ++ t)) = p .text ∙ regrouped c a point stored comment in
+      let front = header cipher.None kdf.None [] 0 key in
+      let m = middle c pair in
+      let k = uint32 (bareOf c pair comment + paddingLength (bareOf c pair comment)) in
+      let t = string comment ++ take (paddingLength (bareOf c pair comment)) paddingBytes in
+      let text : s ≡ front ++ (k ++ (m ++ t)) = p .text ∙ regrouped c key pair comment in
       let text₂ : s ≡ (front ++ k) ++ (m ++ t) = text ∙ sym (append-assoc front k (m ++ t)) in
       let long : n ≡ length front + (4 + (length m + length t)) =
       sym (length-take-le n old inside) ∙ ap length text ∙ simp (length-append, length-uint32) in
-      let ms = middle-length c a point stored in
+      let ms = middle-length c pair in
       let at : f .header .section ≡ length front = p .section-place in
       let field : commentField f ≡ f .header .section + 4 + length m = omega (arith, p .comment-place, ms) in
       record {
@@ -133,24 +130,24 @@ module _ (old : List ℕ) (n : ℕ) (inside : n ≤ length old) (f : Fields) (p 
             ap (drop (f .header .section + 4)) (sym (take-take (commentField f) n old (omega (arith, field, at, long))))
             ∙ ap (slice (f .header .section + 4) (commentField f)) text₂
             ∙ between (front ++ k) m t (f .header .section + 4) (commentField f)
-            (length-append front k ∙ omega (arith, at, length-uint32 (bareOf c a point stored comment + paddingLength (bareOf c a point stored comment))))
-            (omega (arith, field, at, length-append front k, length-uint32 (bareOf c a point stored comment + paddingLength (bareOf c a point stored comment))));
+            (length-append front k ∙ omega (arith, at, length-uint32 (bareOf c pair comment + paddingLength (bareOf c pair comment))))
+            (omega (arith, field, at, length-append front k, length-uint32 (bareOf c pair comment + paddingLength (bareOf c pair comment))));
       }
 
   -- the image written afresh with any comment
   pub afresh-shell :
-      needsLeadingZero (f .header .algorithm) (viewOf (take n old) (f .section .scalar)) ≡ p .zero → (comment : List ℕ)
+      needsLeadingZero (f .header .algorithm) (privateIn (take n old) f) ≡ p .zero → (comment : List ℕ)
       → afresh (take n old) f comment ≡ shellAt old (f .header .section) (commentField f) comment
   unfolding afresh writtenImage shellAt shellFields
   afresh-shell rule comment =
       let s = take n old in
       let c = f .section .checkint in
       let a = f .header .algorithm in
-      let point = viewOf s (f .header .point) in
-      let stored = standing (p .zero) (viewOf s (f .section .scalar)) in
-      let same : bareOf c a point stored comment ≡ bare (f .header .section) (commentField f) comment = omega (arith, stands .apart) in
+      let key = blob a (publicIn s f) in
+      let pair = keypair a (p .zero) (publicIn s f) (privateIn s f) in
+      let same : bareOf c pair comment ≡ bare (f .header .section) (commentField f) comment = omega (arith, stands .apart) in
       rw rule
-      (regrouped c a point stored comment
+      (regrouped c key pair comment
       ∙ rw (stands .before, stands .middle-stands, same, append-nil))
 
 -- ---- the change of an accepted plain image in the form
@@ -177,7 +174,7 @@ pub afresh-sized :
     (s : List ℕ) (f : Fields) → PlainText s f → (comment : List ℕ) → utf8 comment ≡ true → (room : ℕ)
     → afreshReply s f comment room ≡ sized (afresh s f comment) room
 unfolding afreshReply plainReply afresh
-afresh-sized s f p comment text room = rw (eq-eqb _ _ (p .key-fits .long), eq-eqb _ _ (p .key-fits .private), p .key-fits .tag, text)
+afresh-sized s f p comment text room = rw text (checks-pass (f .header .algorithm) (publicIn s f) (privateIn s f) _ (p .key-fits .public) (p .key-fits .private))
 
 record-plain :
     (s : List ℕ) (f : Fields) (comment : List ℕ) (room : ℕ) → f .section .kind ≡ Plain → formOf s f ≡ true → utf8 comment ≡ true

@@ -10,12 +10,14 @@ use Rattle.fields.specs.Refusals.{numberOf, countOf}
 use Rattle.fields.specs.declared.Refusal.the-variants.{Length, Crypto}
 use Rattle.fields.specs.declared.Fault.{Fault}
 use Rattle.fields.specs.Bytes.{string}
-use Rattle.format.specs.Format.{magic}
 use Rattle.header.specs.declared.Header.{Header}
 use Rattle.names.specs.declared.Cipher.the-variants as cipher
 use Rattle.names.specs.Ciphers.{isNone, cipherName}
 use Rattle.header.specs.Header.{onKdf, onHeaderRead, headerAt, noHeader}
 use Rattle.halves.specs.Halves.{isHeader}
+use Rattle.format.specs.Format.{PublicBytes, PrivateBytes, magic}
+use Rattle.keys.specs.Keys.{publicBytes}
+use Rattle.pairs.specs.Pairs.{scalarPlace, privateBytes}
 use Rattle.section.specs.declared.Kind.the-variants.{Plain}
 use Rattle.section.specs.declared.SectionRead.{SectionRead}
 use Rattle.section.specs.declared.SectionRead.the-variants as section-read
@@ -37,7 +39,7 @@ unfoldable pub sectionAt : List ℕ → Header → SectionRead
 sectionAt s h =
     cond (isNone (h .cipher))
     (onKdf (h .kdf)
-    (plainAt s (record { at = h .section; end = length s }) (h .algorithm) (h .point))
+    (plainAt s (record { at = h .section; end = length s }) (h .algorithm) (h .public))
     (section-read.Refused (fault Crypto kdfNamePlace)))
     (encryptedAt s (record { at = h .section; end = length s }) (h .cipher))
 
@@ -53,6 +55,13 @@ readAt s = onHeaderRead (headerAt s) read.Refused (λ h. goOnAt s h)
 unfoldable pub sectionReadAt : List ℕ → Header → ImageRead
 sectionReadAt s half = cond (isHeader s half) (goOnAt s half) (read.Refused (fault Length 0))
 
+-- the bytes of a record's key
+abbrev pub publicIn : List ℕ → Fields → PublicBytes
+publicIn s f = publicBytes s (f .header .public)
+
+abbrev pub privateIn : List ℕ → Fields → PrivateBytes
+privateIn s f = privateBytes s (f .section .private)
+
 -- ---- the paper's reply to a read
 
 -- the record of a refused image: no place, no number; kind and names are the first of theirs
@@ -65,7 +74,7 @@ noFields =
             kind = Plain;
             checkint = 0;
             padding = 0;
-            scalar = absent;
+            private = scalarPlace absent;
             comment = absent;
             ciphertext = absent;
             tag = absent;

@@ -7,7 +7,9 @@ use Rattle.fields.specs.Bytes.{sameBytes}
 use Rattle.fields.specs.Fields.{viewOf}
 use Rattle.fields.specs.declared.Fault.{Fault}
 use Rattle.format.specs.Format.{leadingZero, writtenImage, encryptedImage}
-use Rattle.keys.specs.Keys.{onAlgorithm}
+use Rattle.fields.specs.declared.Part.{Part}
+use Rattle.names.specs.declared.Elliptic.{Elliptic}
+use Rattle.keys.specs.Keys.{onAlgorithm, onElliptic}
 use Rattle.pairs.specs.Pairs.{afterZero}
 use Rattle.header.specs.declared.Header.{Header}
 use Rattle.section.specs.declared.Kind.{Kind}
@@ -17,7 +19,7 @@ use Rattle.container.specs.declared.FormRead.{FormRead}
 use Rattle.container.specs.declared.FormRead.the-variants as form-read
 use Rattle.container.specs.declared.ImageRead.{ImageRead}
 use Rattle.container.specs.declared.ImageRead.the-variants as read
-use Rattle.container.specs.Container.{onRead, readAt, sectionReadAt, ToldRead, toldRead}
+use Rattle.container.specs.Container.{publicIn, privateIn, onRead, readAt, sectionReadAt, ToldRead, toldRead}
 
 abbrev pub onKind : {R : Type 0} → Kind → R → R → R
 onKind Plain plain encrypted = plain
@@ -27,8 +29,7 @@ onKind Encrypted plain encrypted = encrypted
 unfoldable pub rewritten : List ℕ → Fields → List ℕ
 rewritten s f =
     onKind (f .section .kind)
-    (writtenImage (f .section .checkint) (f .header .algorithm) (viewOf s (f .header .point)) (viewOf s (f .section .scalar))
-    (viewOf s (f .section .comment)))
+    (writtenImage (f .section .checkint) (f .header .algorithm) (publicIn s f) (privateIn s f) (viewOf s (f .section .comment)))
     (encryptedImage (f .header .cipher) (f .header .kdf) (viewOf s (f .header .salt)) (f .header .rounds) (viewOf s (f .header .blob))
     (viewOf s (f .section .ciphertext)) (viewOf s (f .section .tag)))
 
@@ -67,9 +68,13 @@ answersSectionForm s half r = answersThis (sectionFormAt s half) r
 -- ---- the form by the scalar alone, which is what the code looks at; `form-scalar` says that it is the same
 
 -- a zero stands before the scalar exactly if its first byte is 0x80 or more; a seed always stands right
+unfoldable pub scalarStands : List ℕ → Elliptic → Part → Bool
+scalarStands s e scalar =
+    onElliptic e true (λ k. cond (leadingZero (viewOf s scalar)) (afterZero s scalar) (not (afterZero s scalar)))
+
+-- RSA has none
 unfoldable pub scalarInForm : List ℕ → Fields → Bool
 scalarInForm s f =
     onKind (f .section .kind)
-    (onAlgorithm (f .header .algorithm) true (λ k.
-    cond (leadingZero (viewOf s (f .section .scalar))) (afterZero s (f .section .scalar)) (not (afterZero s (f .section .scalar)))))
+    (onAlgorithm (f .header .algorithm) (λ e. scalarStands s e (f .section .private .scalar)) true)
     true

@@ -1,19 +1,24 @@
 -- The form by the scalar alone: for an accepted image, writing its record again gives it back exactly where the scalar stands by
 -- the writer's rule.
-use Prim.Native.Nat.{ℕ}
+use Prim.Native.Nat.{ℕ, _<_, _^_}
 use native.Mathlib.Omega.{arith}
 use mathlib.Core.Path.{_≡_, refl, sym, _∙_, ap}
 use mathlib.Core.Bool.{Bool, true, false, cond, not}
 use mathlib.Core.List.{List}
+use lib.ListN.{length}
 use Rattle.fields.specs.Bytes.{AllBytes, sameBytes, same-true, same-self}
 use Rattle.fields.specs.Fields.{viewOf}
 use Rattle.fields.specs.declared.Fault.{Fault}
 use Rattle.fields.specs.Place.{clash, by-bool}
+use Rattle.names.specs.declared.Elliptic.the-variants.{Ed25519, Ecdsa}
 use Rattle.names.specs.declared.Algorithm.{Algorithm}
-use Rattle.names.specs.declared.Algorithm.the-variants.{Ed25519, Ecdsa}
-use Rattle.format.specs.Format.{leadingZero, standing, mayStand, needsLeadingZero, plainImage, writtenImage}
-use Rattle.format.specs.Laws.{key-small, standing-same}
-use Rattle.keys.specs.Keys.{onAlgorithm}
+use Rattle.names.specs.declared.Algorithm.the-variants.{Elliptic as OnCurve, Rsa}
+use Rattle.format.specs.Format.{PublicBytes, PrivateBytes, PrivateFits, leadingZero, mayStand, needsLeadingZero, blob, keypair, plainImage, writtenImage}
+use Rattle.format.specs.Laws.{key-small, rule-may, standing-same}
+use Rattle.fields.specs.declared.Part.{Part}
+use Rattle.keys.specs.Keys.{onAlgorithm, onElliptic}
+use Rattle.pairs.specs.Pairs.{privateBytes, afterZero}
+use Rattle.key_laws.specs.ReadPair.{IfScalar}
 use Rattle.section.specs.declared.Kind.the-variants.{Plain, Encrypted}
 use Rattle.section.specs.Back.{KeyFits}
 use Rattle.container.specs.declared.Fields.{Fields}
@@ -21,8 +26,8 @@ use Rattle.container.specs.declared.ImageRead.{ImageRead}
 use Rattle.container.specs.declared.ImageRead.the-variants as read
 use Rattle.container.specs.declared.FormRead.the-variants as form-read
 use Rattle.container.specs.Back.{PlainImageBack}
-use Rattle.container.specs.Container.{readAt}
-use Rattle.container.specs.Form.{rewritten, formOf, formReadAt, scalarInForm}
+use Rattle.container.specs.Container.{publicIn, privateIn, readAt}
+use Rattle.container.specs.Form.{rewritten, formOf, formReadAt, scalarStands, scalarInForm}
 use Rattle.container.specs.Read.{PlainText, EncryptedText, ImageText, plain-text, encrypted-text, image-text}
 
 -- whether two answers are the same
@@ -40,22 +45,29 @@ agree-self : (z : Bool) → agree z z ≡ true
 agree-self true = refl
 agree-self false = refl
 
+-- a scalar is short, and RSA has none
+pub scalar-short : (a : Algorithm) (key : PublicBytes) (x : PrivateBytes) → PrivateFits a key x → length (x .scalar) < 2 ^ 31
+scalar-short (OnCurve e) key x fits = let small = key-small e in omega (arith, fits .0)
+scalar-short Rsa key x fits =
+    let none : length (x .scalar) ≡ 0 = ap (λ (y : PrivateBytes). length (y .scalar)) (fits .1) in
+    omega (arith, none)
+
 -- the writer's image is the image itself exactly where the zero that stands is the one that the rule asks for
 pub form-stands :
     (s : List ℕ) (f : Fields) (zero : Bool)
-    → s ≡ plainImage (f .section .checkint) (f .header .algorithm) (viewOf s (f .header .point)) (standing zero (viewOf s (f .section .scalar)))
+    → s
+    ≡ plainImage (f .section .checkint) (blob (f .header .algorithm) (publicIn s f)) (keypair (f .header .algorithm) zero (publicIn s f) (privateIn s f))
     (viewOf s (f .section .comment))
-    → KeyFits (f .header .algorithm) zero (viewOf s (f .header .point)) (viewOf s (f .section .scalar)) (viewOf s (f .section .comment))
-    → f .section .kind ≡ Plain → formOf s f ≡ agree (needsLeadingZero (f .header .algorithm) (viewOf s (f .section .scalar))) zero
+    → KeyFits (f .header .algorithm) zero (publicIn s f) (privateIn s f) (viewOf s (f .section .comment))
+    → f .section .kind ≡ Plain → formOf s f ≡ agree (needsLeadingZero (f .header .algorithm) (privateIn s f)) zero
 unfolding formOf rewritten writtenImage
 form-stands s f zero text fits plain =
     let a = f .header .algorithm in
-    let point = viewOf s (f .header .point) in
-    let scalar = viewOf s (f .section .scalar) in
+    let key = publicIn s f in
+    let x = privateIn s f in
     let comment = viewOf s (f .section .comment) in
-    let rule = needsLeadingZero a scalar in
-    let image : Bool → List ℕ = λ z. plainImage (f .section .checkint) a point (standing z scalar) comment in
-    let small = key-small a in
+    let rule = needsLeadingZero a x in
+    let image : Bool → List ℕ = λ z. plainImage (f .section .checkint) (blob a key) (keypair a z key x) comment in
     rw plain
     (by-bool (agree rule zero)
     (λ w. rw w (ap (λ (z : Bool). sameBytes (image z) s) (agree-true rule zero w) ∙ ap (λ (t : List ℕ). sameBytes t s) (sym text) ∙ same-self s))
@@ -64,50 +76,53 @@ form-stands s f zero text fits plain =
     (by-bool (sameBytes (image rule) s)
     (λ v.
     let same : image rule ≡ image zero = same-true (image rule) s v ∙ text in
-    let z = standing-same (f .section .checkint) a point scalar comment rule zero (omega (arith, fits .long)) (omega (arith, fits .private)) same in
+    let z =
+    standing-same (f .section .checkint) a key x comment rule zero (scalar-short a key x (fits .private)) (rule-may a x) (fits .may) same in
     clash (let q : agree rule zero ≡ true = rw z (agree-self zero) in cc))
     (λ v. v))))
 
 pub form-agrees :
     (s : List ℕ) (f : Fields) (p : PlainText s f)
-    → f .section .kind ≡ Plain → formOf s f ≡ agree (needsLeadingZero (f .header .algorithm) (viewOf s (f .section .scalar))) (p .zero)
+    → f .section .kind ≡ Plain → formOf s f ≡ agree (needsLeadingZero (f .header .algorithm) (privateIn s f)) (p .zero)
 form-agrees s f p plain = form-stands s f (p .zero) (p .text) (p .key-fits) plain
 
 -- of an image that the format writes and that is read back
 pub form-back :
-    (s : List ℕ) (n : ℕ) (a : Algorithm) (zero : Bool) (point scalar comment : List ℕ) (padding : ℕ) → KeyFits a zero point scalar comment
-    → s ≡ plainImage n a point (standing zero scalar) comment → (b : PlainImageBack s n a point scalar comment padding)
-    → formOf s (b .fields) ≡ agree (needsLeadingZero a scalar) zero
-form-back s n a zero point scalar comment padding fits text b =
+    (s : List ℕ) (n : ℕ) (a : Algorithm) (zero : Bool) (key : PublicBytes) (x : PrivateBytes) (comment : List ℕ) (padding : ℕ) → KeyFits a zero key x comment
+    → s ≡ plainImage n (blob a key) (keypair a zero key x) comment → (b : PlainImageBack s n a key x comment padding)
+    → formOf s (b .fields) ≡ agree (needsLeadingZero a x) zero
+form-back s n a zero key x comment padding fits text b =
     let form = form-stands s (b .fields) zero
-    (rw (b .same-checkint, b .same-algorithm, b .same-point, b .same-scalar, b .same-comment) text)
-    (rw (b .same-algorithm, b .same-point, b .same-scalar, b .same-comment) fits) (b .plain) in
-    let rule : needsLeadingZero (b .fields .header .algorithm) (viewOf s (b .fields .section .scalar)) ≡ needsLeadingZero a scalar =
-    rw (b .same-algorithm, b .same-scalar) in
+    (rw (b .same-checkint, b .same-algorithm, b .same-public, b .same-private, b .same-comment) text)
+    (rw (b .same-algorithm, b .same-public, b .same-private, b .same-comment) fits) (b .plain) in
+    let rule : needsLeadingZero (b .fields .header .algorithm) (privateIn s (b .fields)) ≡ needsLeadingZero a x =
+    rw (b .same-algorithm, b .same-private) in
     form ∙ ap (λ (w : Bool). agree w zero) rule
 
 -- the same, by the byte before the scalar
 scalar-agrees :
     (s : List ℕ) (f : Fields) (p : PlainText s f) → f .section .kind ≡ Plain
-    → scalarInForm s f ≡ agree (needsLeadingZero (f .header .algorithm) (viewOf s (f .section .scalar))) (p .zero)
-unfolding scalarInForm
-scalar-agrees s f p plain = rw (plain, p .after) (go (f .header .algorithm) (p .key-fits .may))
+    → scalarInForm s f ≡ agree (needsLeadingZero (f .header .algorithm) (privateIn s f)) (p .zero)
+unfolding scalarInForm scalarStands privateBytes
+scalar-agrees s f p plain = rw plain (go (f .header .algorithm) (p .key-fits .may) (p .after))
   where
+    place : Part
+    place = f .section .private .scalar
+
     scalar : List ℕ
-    scalar = viewOf s (f .section .scalar)
+    scalar = viewOf s place
 
-    as-cond : (w z : Bool) → cond w z (not z) ≡ agree w z
-    as-cond true z = refl
-    as-cond false z = refl
-
-    no-zero : (z : Bool) → not z ≡ true → true ≡ not z
-    no-zero z e = sym e
+    as-cond : (w y z : Bool) → y ≡ z → cond w y (not y) ≡ agree w z
+    as-cond true y z e = e
+    as-cond false y z e = ap not e
 
     go :
-        (a : Algorithm) → mayStand a (p .zero) ≡ true
-        → onAlgorithm a true (λ k. cond (leadingZero scalar) (p .zero) (not (p .zero))) ≡ agree (needsLeadingZero a scalar) (p .zero)
-    go Ed25519 may = no-zero (p .zero) may
-    go (Ecdsa k) may = as-cond (leadingZero scalar) (p .zero)
+        (a : Algorithm) → mayStand a (p .zero) ≡ true → IfScalar a (afterZero s place ≡ p .zero)
+        → onAlgorithm a (λ e. onElliptic e true (λ k. cond (leadingZero scalar) (afterZero s place) (not (afterZero s place)))) true
+        ≡ agree (needsLeadingZero a (privateIn s f)) (p .zero)
+    go (OnCurve Ed25519) may after = sym may
+    go (OnCurve (Ecdsa k)) may after = as-cond (leadingZero scalar) (afterZero s place) (p .zero) after
+    go Rsa may after = sym may
 
 -- every accepted encrypted image is in the form
 pub form-encrypted : (s : List ℕ) (f : Fields) → EncryptedText s f → f .section .kind ≡ Encrypted → formOf s f ≡ true
@@ -160,5 +175,5 @@ plain-of s all f e plain = go (image-text s all f e)
 -- in the form the scalar stands by the rule
 pub form-rule :
     (s : List ℕ) (f : Fields) (p : PlainText s f) → f .section .kind ≡ Plain → formOf s f ≡ true
-    → needsLeadingZero (f .header .algorithm) (viewOf s (f .section .scalar)) ≡ p .zero
+    → needsLeadingZero (f .header .algorithm) (privateIn s f) ≡ p .zero
 form-rule s f p plain e = agree-true _ (p .zero) (sym (form-agrees s f p plain) ∙ e)

@@ -11,17 +11,16 @@ use Rattle.fields.specs.Fields.{fault, viewOf}
 use Rattle.fields.specs.Place.{clash, by-bool}
 use Rattle.fields.specs.Rest.{rest}
 use Rattle.fields.specs.declared.Cursor.{Cursor}
-use Rattle.fields.specs.declared.Fault.{Fault}
 use Rattle.fields.specs.declared.Refusal.the-variants.{Crypto}
 use Rattle.names.specs.declared.Cipher.{Cipher}
 use Rattle.names.specs.declared.Cipher.the-variants as cipher
 use Rattle.names.specs.declared.Kdf.{Kdf}
 use Rattle.names.specs.declared.Kdf.the-variants as kdf
 use Rattle.names.specs.Ciphers.{isNone, none-only}
-use Rattle.format.specs.Format.{standing, blob, section, header, plainImage, encryptedImage}
+use Rattle.format.specs.Format.{blob, keypair, section, header, plainImage, encryptedImage}
+use Rattle.key_laws.specs.ReadPair.{IfScalar}
 use Rattle.pairs.specs.Pairs.{afterZero}
 use Rattle.header.specs.declared.Header.{Header}
-use Rattle.header.specs.declared.HeaderRead.{HeaderRead}
 use Rattle.header.specs.declared.HeaderRead.the-variants as header-read
 use Rattle.header.specs.Header.{onKdf, headerAt}
 use Rattle.header.specs.Read.{HeaderText, header-text}
@@ -35,7 +34,7 @@ use Rattle.section.specs.Read.{by-section, beforeComment, PlainRead, plain-read
 use Rattle.section.specs.ReadEncrypted.{EncryptedRead, encrypted-read}
 use Rattle.container.specs.declared.Fields.{Fields}
 use Rattle.container.specs.declared.ImageRead.the-variants as read
-use Rattle.container.specs.Container.{kdfNamePlace, sectionAt, readAt}
+use Rattle.container.specs.Container.{publicIn, privateIn, kdfNamePlace, sectionAt, readAt}
 use Rattle.container.specs.Back.{SealFits}
 
 -- the two reads of an accepted image
@@ -57,7 +56,7 @@ halves s f e =
 
 -- an accepted section is plain where there is no cipher and no KDF, and encrypted where there is a cipher
 data Sections (s : List ℕ) (h : Header) (x : Section) : Type 0 where
-  plain : cipher.None ≡ h .cipher → kdf.None ≡ h .kdf → plainAt s (record { at = h .section; end = length s }) (h .algorithm) (h .point) ≡ section-read.Section x → Sections s h x
+  plain : cipher.None ≡ h .cipher → kdf.None ≡ h .kdf → plainAt s (record { at = h .section; end = length s }) (h .algorithm) (h .public) ≡ section-read.Section x → Sections s h x
   encrypted : isNone (h .cipher) ≡ false → encryptedAt s (record { at = h .section; end = length s }) (h .cipher) ≡ section-read.Section x → Sections s h x
 
 sections : (s : List ℕ) (h : Header) (x : Section) → sectionAt s h ≡ section-read.Section x → Sections s h x
@@ -72,7 +71,7 @@ sections s h x e =
 
     by-kdf :
         (k : Kdf) → k ≡ h .kdf → isNone (h .cipher) ≡ true
-        → onKdf k (plainAt s c (h .algorithm) (h .point)) (section-read.Refused (fault Crypto kdfNamePlace)) ≡ section-read.Section x → Sections s h x
+        → onKdf k (plainAt s c (h .algorithm) (h .public)) (section-read.Refused (fault Crypto kdfNamePlace)) ≡ section-read.Section x → Sections s h x
     by-kdf kdf.None q w g = plain (none-only (h .cipher) w) q g
     by-kdf kdf.Bcrypt q w g = clash cc
 
@@ -81,16 +80,17 @@ pub record PlainText (s : List ℕ) (f : Fields) : Type 0 where
   pub zero : Bool
   pub fits : length s ≤ 65535
   pub text :
-      s ≡ plainImage (f .section .checkint) (f .header .algorithm) (viewOf s (f .header .point)) (standing zero (viewOf s (f .section .scalar)))
+      s
+      ≡ plainImage (f .section .checkint) (blob (f .header .algorithm) (publicIn s f)) (keypair (f .header .algorithm) zero (publicIn s f) (privateIn s f))
       (viewOf s (f .section .comment))
-  pub key-fits : KeyFits (f .header .algorithm) zero (viewOf s (f .header .point)) (viewOf s (f .section .scalar)) (viewOf s (f .section .comment))
+  pub key-fits : KeyFits (f .header .algorithm) zero (publicIn s f) (privateIn s f) (viewOf s (f .section .comment))
   pub checkint-fits : f .section .checkint < 2 ^ 32
-  pub after : afterZero s (f .section .scalar) ≡ zero
-  pub content : viewOf s (f .header .blob) ≡ blob (f .header .algorithm) (viewOf s (f .header .point))
-  pub section-place : f .header .section ≡ length (header cipher.None kdf.None [] 0 (blob (f .header .algorithm) (viewOf s (f .header .point))))
+  pub after : IfScalar (f .header .algorithm) (afterZero s (f .section .private .scalar) ≡ zero)
+  pub content : viewOf s (f .header .blob) ≡ blob (f .header .algorithm) (publicIn s f)
+  pub section-place : f .header .section ≡ length (header cipher.None kdf.None [] 0 (blob (f .header .algorithm) (publicIn s f)))
   pub comment-place :
       f .section .comment .start
-      ≡ f .header .section + 4 + beforeComment (f .header .algorithm) (viewOf s (f .header .point)) (standing zero (viewOf s (f .section .scalar))) + 4
+      ≡ f .header .section + 4 + beforeComment (keypair (f .header .algorithm) zero (publicIn s f) (privateIn s f)) + 4
 
 -- an accepted encrypted image
 pub record EncryptedText (s : List ℕ) (f : Fields) : Type 0 where
@@ -99,9 +99,9 @@ pub record EncryptedText (s : List ℕ) (f : Fields) : Type 0 where
       s ≡ encryptedImage (f .header .cipher) (f .header .kdf) (viewOf s (f .header .salt)) (f .header .rounds) (viewOf s (f .header .blob))
       (viewOf s (f .section .ciphertext)) (viewOf s (f .section .tag))
   pub seal-fits :
-      SealFits (f .header .cipher) (f .header .kdf) (viewOf s (f .header .salt)) (f .header .rounds) (f .header .algorithm) (viewOf s (f .header .point))
+      SealFits (f .header .cipher) (f .header .kdf) (viewOf s (f .header .salt)) (f .header .rounds) (f .header .algorithm) (publicIn s f)
       (viewOf s (f .section .ciphertext)) (viewOf s (f .section .tag))
-  pub content : viewOf s (f .header .blob) ≡ blob (f .header .algorithm) (viewOf s (f .header .point))
+  pub content : viewOf s (f .header .blob) ≡ blob (f .header .algorithm) (publicIn s f)
 
 -- a header with neither cipher nor KDF has no options
 header-plain :
@@ -124,22 +124,22 @@ module _ (s : List ℕ) (all : AllBytes s) (f : Fields) (e : readAt s ≡ read.R
 
   plain-joined :
       cipher.None ≡ f .header .cipher → kdf.None ≡ f .header .kdf
-      → PlainRead s all (record { at = f .header .section; end = length s }) (f .header .algorithm) (f .header .point) (f .section) → PlainText s f
+      → PlainRead s all (record { at = f .header .section; end = length s }) (f .header .algorithm) (f .header .public) (f .section) → PlainText s f
   unfolding plainImage
   plain-joined nc nk x =
       let h = head in
       let a = f .header .algorithm in
-      let point = viewOf s (f .header .point) in
-      let body = section (f .section .checkint) a point (standing (x .zero) (viewOf s (f .section .scalar))) (viewOf s (f .section .comment)) in
-      let front : s ≡ header cipher.None kdf.None [] 0 (blob a point) ++ rest s (record { at = f .header .section; end = length s }) =
+      let key = blob a (publicIn s f) in
+      let body = section (f .section .checkint) (keypair a (x .zero) (publicIn s f) (privateIn s f)) (viewOf s (f .section .comment)) in
+      let front : s ≡ header cipher.None kdf.None [] 0 key ++ rest s (record { at = f .header .section; end = length s }) =
       h .text
       ∙ ap (λ (o : List ℕ). o ++ rest s (record { at = f .header .section; end = length s }))
-      (header-plain (f .header .cipher) (f .header .kdf) (viewOf s (f .header .salt)) (f .header .rounds) (blob a point) nc nk) in
+      (header-plain (f .header .cipher) (f .header .kdf) (viewOf s (f .header .salt)) (f .header .rounds) key nc nk) in
       record {
         zero = x .zero;
         fits = h .fits;
-        text = front ∙ ap (λ (t : List ℕ). header cipher.None kdf.None [] 0 (blob a point) ++ t) (x .text ∙ sym (append-nil (string body)));
-        section-place = section-starts s (f .header .section) (header cipher.None kdf.None [] 0 (blob a point)) (h .good) front;
+        text = front ∙ ap (λ (t : List ℕ). header cipher.None kdf.None [] 0 key ++ t) (x .text ∙ sym (append-nil (string body)));
+        section-place = section-starts s (f .header .section) (header cipher.None kdf.None [] 0 key) (h .good) front;
         comment-place = x .place;
         key-fits = x .fits;
         checkint-fits = x .checkint;
@@ -163,8 +163,7 @@ module _ (s : List ℕ) (all : AllBytes s) (f : Fields) (e : readAt s ≡ read.R
             record {
               encrypts = w;
               options-fit = h .options-fit;
-              long = h .long;
-              tag-byte = h .tag;
+              public = h .public-fits;
               blocks = x .blocks;
               tag-long = x .long;
             };
@@ -183,5 +182,5 @@ module _ (s : List ℕ) (all : AllBytes s) (f : Fields) (e : readAt s ≡ read.R
       c = record { at = f .header .section; end = length s }
 
       go : Sections s (f .header) (f .section) → ImageText
-      go (plain nc nk g) = let x = plain-read s all c (f .header .algorithm) (f .header .point) (f .section) g in plain-text (x .plain) (plain-joined nc nk x)
+      go (plain nc nk g) = let x = plain-read s all c (f .header .algorithm) (f .header .public) (f .section) g in plain-text (x .plain) (plain-joined nc nk x)
       go (encrypted w g) = let x = encrypted-read s all c (f .header .cipher) (f .section) g in encrypted-text (x .encrypted) (encrypted-joined w x)

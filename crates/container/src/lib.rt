@@ -2,7 +2,7 @@
 // section step. The record's fields are plain data, places in the image among them.
 ghost use mathlib.Core.Path.{_≡_};
 ghost use Rattle.container.specs.Container.{sectionAt, goOnAt, answersRead, answersSection};
-ghost use Rattle.container.specs.Form.{scalarInForm, answersForm, answersSectionForm};
+ghost use Rattle.container.specs.Form.{scalarStands, scalarInForm, answersForm, answersSectionForm};
 ghost use Rattle.pairs.specs.Pairs.{afterZero};
 use fields::Cursor;
 use fields::Fault;
@@ -11,6 +11,7 @@ use fields::Refusal;
 use header::Header;
 use header::HeaderRead;
 use names::Algorithm;
+use names::Elliptic;
 use names::Kdf;
 use section::Kind;
 use section::Section;
@@ -38,10 +39,10 @@ fn section_step(image: &[u8], header: Header) -> SectionRead
     let cipher = header.cipher;
     let kdf = header.kdf;
     let algorithm = header.algorithm;
-    let point = header.point;
+    let public = header.public;
     if cipher.is_none() {
         match kdf {
-            Kdf::None => return section::read_plain(c, image, algorithm, point),
+            Kdf::None => return section::read_plain(c, image, algorithm, public),
             Kdf::Bcrypt => {
                 return SectionRead::Refused(Fault {
                     why: Refusal::Crypto,
@@ -99,7 +100,25 @@ fn after_zero(image: &[u8], part: Part) -> bool
     fields::byte(image, start - 1) == 0
 }
 
-// Does the scalar of an accepted image stand as the writer would write it?
+// Does a scalar stand as the writer would write it? A seed always does.
+fn scalar_stands(image: &[u8], e: Elliptic, scalar: Part) -> bool
+    ensures { λ r. ⌜ r ≡ scalarStands (now (image .entry)) e scalar ⌝ }
+{
+    match e {
+        Elliptic::Ed25519 => true,
+        Elliptic::Ecdsa(_) => {
+            if keys::needs_leading_zero(fields::view(image, scalar)) {
+                return after_zero(image, scalar);
+            }
+            if after_zero(image, scalar) {
+                return false;
+            }
+            true
+        }
+    }
+}
+
+// Does the scalar of an accepted image stand so? RSA has none.
 fn scalar_in_form(image: &[u8], f: Fields) -> bool
     ensures { λ r. ⌜ r ≡ scalarInForm (now (image .entry)) f ⌝ }
 {
@@ -107,20 +126,12 @@ fn scalar_in_form(image: &[u8], f: Fields) -> bool
     let algorithm = header.algorithm;
     let section = f.section;
     let kind = section.kind;
-    let scalar = section.scalar;
+    let private = section.private;
     match kind {
         Kind::Encrypted => true,
         Kind::Plain => match algorithm {
-            Algorithm::Ed25519 => true,
-            Algorithm::Ecdsa(_) => {
-                if keys::needs_leading_zero(fields::view(image, scalar)) {
-                    return after_zero(image, scalar);
-                }
-                if after_zero(image, scalar) {
-                    return false;
-                }
-                true
-            }
+            Algorithm::Elliptic(e) => scalar_stands(image, e, private.scalar),
+            Algorithm::Rsa => true,
         },
     }
 }

@@ -2,27 +2,36 @@
 use Prim.Native.Nat.{ℕ, _+_, _≤_, _<_, _^_}
 use native.Mathlib.Omega.{arith}
 use mathlib.Core.Path.{_≡_, refl, sym, _∙_, ap}
-use mathlib.Core.Bool.{Bool, true, false}
+use mathlib.Core.Bool.{Bool, true, false, not}
 use mathlib.Core.List.{List, [], _++_, append-assoc, append-nil}
 use lib.ListN.{length, take, drop, length-append}
 use lib.Seq.{length-take-le, drop-at}
 use Rattle.fields.specs.Rest.{append-cancel, string-same, length-uint32}
-use Rattle.fields.specs.Bytes.{uint32, string}
+use Rattle.fields.specs.Bytes.{uint32, string, join}
+use Rattle.fields.specs.Place.{clash}
 use Rattle.names.specs.declared.Cipher.{Cipher}
 use Rattle.names.specs.declared.Cipher.the-variants as cipher
 use Rattle.names.specs.declared.Kdf.{Kdf}
 use Rattle.names.specs.declared.Kdf.the-variants as kdf
+use Rattle.names.specs.declared.Elliptic.{Elliptic}
+use Rattle.names.specs.declared.Elliptic.the-variants.{Ed25519, Ecdsa}
 use Rattle.names.specs.declared.Algorithm.{Algorithm}
-use Rattle.names.specs.declared.Algorithm.the-variants.{Ed25519, Ecdsa}
+use Rattle.names.specs.declared.Algorithm.the-variants.{Elliptic as OnCurve, Rsa}
 use Rattle.names.specs.declared.Curve.the-variants.{Nistp256, Nistp384, Nistp521}
 use Rattle.names.specs.Algorithms.{algorithmName}
 use Rattle.names.specs.Ciphers.{cipherName, kdfName}
-use Rattle.format.specs.Format.{magic, options, header, curveField, blob, privateField, standing, content, section, plainImage, paddingLength, paddingBytes, publicLength, privateLength}
+use Rattle.format.specs.Format.{PublicBytes, PrivateBytes, magic, options, header, curveField, publicFields, blob, standing, pairFields, keypair, mayStand, needsLeadingZero, content, section, plainImage, paddingLength, paddingBytes, publicLength, privateLength}
 
--- a public key and what comes after it, field by field
-pub blob-then : (a : Algorithm) (point t : List ℕ) → blob a point ++ t ≡ string (algorithmName a) ++ (curveField a ++ (string point ++ t))
+-- a public key or a keypair and what comes after it, field by field
+pub blob-then : (a : Algorithm) (key : PublicBytes) (t : List ℕ) → blob a key ++ t ≡ string (algorithmName a) ++ (join (publicFields a key) ++ t)
 unfolding blob
-blob-then a point t = simp append-assoc
+blob-then a key t = append-assoc (string (algorithmName a)) (join (publicFields a key)) t
+
+pub keypair-then :
+    (a : Algorithm) (zero : Bool) (key : PublicBytes) (x : PrivateBytes) (t : List ℕ)
+    → keypair a zero key x ++ t ≡ string (algorithmName a) ++ (join (pairFields a zero key x) ++ t)
+unfolding keypair
+keypair-then a zero key x t = append-assoc (string (algorithmName a)) (join (pairFields a zero key x)) t
 
 -- a header and what comes after it, field by field
 pub header-then :
@@ -34,25 +43,23 @@ header-then cipher kdf salt rounds key t = simp append-assoc
 
 -- a section's content and what comes after it, field by field
 pub content-then :
-    (n : ℕ) (a : Algorithm) (point stored comment t : List ℕ)
-    → content n a point stored comment ++ t ≡ uint32 n ++ (uint32 n ++ (blob a point ++ (privateField a point stored ++ (string comment ++ t))))
-unfolding content blob
-content-then n a point stored comment t = simp append-assoc
+    (n : ℕ) (pair comment t : List ℕ) → content n pair comment ++ t ≡ uint32 n ++ (uint32 n ++ (pair ++ (string comment ++ t)))
+unfolding content
+content-then n pair comment t = simp append-assoc
 
 -- a padding's length, and that of what it fills up
 pub padding-length : (n : ℕ) → length (take (paddingLength n) paddingBytes) ≡ paddingLength n
 padding-length n = length-take-le (paddingLength n) paddingBytes (omega arith)
 
 pub section-length :
-    (n : ℕ) (a : Algorithm) (point stored comment : List ℕ)
-    → length (section n a point stored comment) ≡ length (content n a point stored comment) + paddingLength (length (content n a point stored comment))
+    (n : ℕ) (pair comment : List ℕ) → length (section n pair comment) ≡ length (content n pair comment) + paddingLength (length (content n pair comment))
 unfolding section
-section-length n a point stored comment =
-    length-append (content n a point stored comment) (take (paddingLength (length (content n a point stored comment))) paddingBytes)
-    ∙ ap (λ (k : ℕ). length (content n a point stored comment) + k) (padding-length (length (content n a point stored comment)))
+section-length n pair comment =
+    length-append (content n pair comment) (take (paddingLength (length (content n pair comment))) paddingBytes)
+    ∙ ap (λ (k : ℕ). length (content n pair comment) + k) (padding-length (length (content n pair comment)))
 
 -- the lengths of a key's parts are small, and its private bytes are some
-pub key-small : (a : Algorithm) → (publicLength a < 134) × (privateLength a < 67) × (0 < privateLength a)
+pub key-small : (e : Elliptic) → (publicLength e < 134) × (privateLength e < 67) × (0 < privateLength e)
 key-small Ed25519 = omega arith
 key-small (Ecdsa Nistp256) = omega arith
 key-small (Ecdsa Nistp384) = omega arith
@@ -60,46 +67,49 @@ key-small (Ecdsa Nistp521) = omega arith
 
 -- ---- an image says in which form its scalar stands
 
-standing-told : (z w : Bool) (x : List ℕ) (k : ℕ) → length (standing z x) + k ≡ length (standing w x) + k → z ≡ w
-standing-told false false x k e = refl
-standing-told false true x k e = absurd (omega arith)
-standing-told true false x k e = absurd (omega arith)
-standing-told true true x k e = refl
+-- the rule asks for no zero where none may stand
+pub rule-may : (a : Algorithm) (x : PrivateBytes) → mayStand a (needsLeadingZero a x) ≡ true
+rule-may (OnCurve Ed25519) x = refl
+rule-may (OnCurve (Ecdsa k)) x = refl
+rule-may Rsa x = refl
+
+-- where none may stand, none does
+no-zeros : (z w : Bool) → not z ≡ true → not w ≡ true → z ≡ w
+no-zeros false false h k = refl
+no-zeros false true h k = k
+no-zeros true w h k = clash cc
+
+standing-told : (z w : Bool) (x : List ℕ) → length (standing z x) ≡ length (standing w x) → z ≡ w
+standing-told false false x e = refl
+standing-told false true x e = absurd (omega arith)
+standing-told true false x e = absurd (omega arith)
+standing-told true true x e = refl
 
 -- how long a scalar stands
 standing-short : (z : Bool) (x : List ℕ) → length (standing z x) ≤ length x + 1
 standing-short false x = omega arith
 standing-short true x = omega arith
 
-private-same :
-    (a : Algorithm) (point x t u : List ℕ) (z w : Bool) → length point < 2 ^ 31 → length x < 2 ^ 31
-    → privateField a point (standing z x) ++ t ≡ privateField a point (standing w x) ++ u → z ≡ w
-private-same Ed25519 point x t u z w hp hx e =
-    let lz = length-append (standing z x) point in
-    let lw = length-append (standing w x) point in
-    let sz = standing-short z x in
-    let sw = standing-short w x in
-    let l = string-same (standing z x ++ point) (standing w x ++ point) t u (omega arith) (omega arith) e in
-    standing-told z w x (length point) (sym lz ∙ l ∙ lw)
-private-same (Ecdsa k) point x t u z w hp hx e =
-    let sz = standing-short z x in
-    let sw = standing-short w x in
-    let l = string-same (standing z x) (standing w x) t u (omega arith) (omega arith) e in
-    standing-told z w x 0 (ap (λ (n : ℕ). n + 0) l)
-
-section-same :
-    (n : ℕ) (a : Algorithm) (point x comment : List ℕ) (z w : Bool) → length point < 2 ^ 31 → length x < 2 ^ 31
-    → section n a point (standing z x) comment ≡ section n a point (standing w x) comment → z ≡ w
-unfolding section
-section-same n a point x comment z w hp hx e =
-    let pad : Bool → List ℕ = λ v. take (paddingLength (length (content n a point (standing v x) comment))) paddingBytes in
-    let tail : Bool → List ℕ = λ v. string comment ++ pad v in
-    let key : Bool → List ℕ = λ v. privateField a point (standing v x) ++ tail v in
-    let e₀ = sym (content-then n a point (standing z x) comment (pad z)) ∙ e ∙ content-then n a point (standing w x) comment (pad w) in
-    let e₁ = append-cancel (uint32 n) (uint32 n ++ (blob a point ++ key z)) (uint32 n ++ (blob a point ++ key w)) e₀ in
-    let e₂ = append-cancel (uint32 n) (blob a point ++ key z) (blob a point ++ key w) e₁ in
-    let e₃ = append-cancel (blob a point) (key z) (key w) e₂ in
-    private-same a point x (tail z) (tail w) z w hp hx e₃
+-- keypairs that begin the same bytes have their scalars in the same form
+keypair-same :
+    (a : Algorithm) (key : PublicBytes) (x : PrivateBytes) (t u : List ℕ) (z w : Bool) → length (x .scalar) < 2 ^ 31 → mayStand a z ≡ true → mayStand a w ≡ true
+    → keypair a z key x ++ t ≡ keypair a w key x ++ u → z ≡ w
+unfolding keypair
+keypair-same (OnCurve Ed25519) key x t u z w hx mz mw e = no-zeros z w mz mw
+keypair-same Rsa key x t u z w hx mz mw e = no-zeros z w mz mw
+keypair-same (OnCurve (Ecdsa k)) key x t u z w hx mz mw e =
+    let name = string (algorithmName (OnCurve (Ecdsa k))) in
+    let curve = curveField (Ecdsa k) in
+    let point = string (key .point) in
+    let stored : Bool → List ℕ → List ℕ = λ v l. string (standing v (x .scalar)) ++ l in
+    let split : (v : Bool) (l : List ℕ) → keypair (OnCurve (Ecdsa k)) v key x ++ l ≡ name ++ (curve ++ (point ++ stored v l)) = λ v l. simp append-assoc in
+    let e₀ = sym (split z t) ∙ e ∙ split w u in
+    let e₁ = append-cancel name (curve ++ (point ++ stored z t)) (curve ++ (point ++ stored w u)) e₀ in
+    let e₂ = append-cancel curve (point ++ stored z t) (point ++ stored w u) e₁ in
+    let e₃ = append-cancel point (stored z t) (stored w u) e₂ in
+    let sz = standing-short z (x .scalar) in
+    let sw = standing-short w (x .scalar) in
+    standing-told z w (x .scalar) (string-same (standing z (x .scalar)) (standing w (x .scalar)) t u (omega arith) (omega arith) e₃)
 
 string-body : (b c : List ℕ) → string b ++ [] ≡ string c ++ [] → b ≡ c
 unfolding string
@@ -108,12 +118,22 @@ string-body b c q =
     ∙ ap (drop 4) (sym (append-nil (string b)) ∙ q ∙ append-nil (string c))
     ∙ drop-at (uint32 (length c)) c 4 (length-uint32 (length c))
 
-pub standing-same :
-    (n : ℕ) (a : Algorithm) (point x comment : List ℕ) (z w : Bool) → length point < 2 ^ 31 → length x < 2 ^ 31
-    → plainImage n a point (standing z x) comment ≡ plainImage n a point (standing w x) comment → z ≡ w
+-- equal images with the same blob have equal sections
+image-body : (n : ℕ) (key pair₁ pair₂ comment : List ℕ) → plainImage n key pair₁ comment ≡ plainImage n key pair₂ comment → section n pair₁ comment ≡ section n pair₂ comment
 unfolding plainImage
-standing-same n a point x comment z w hp hx e =
-    let head = header cipher.None kdf.None [] 0 (blob a point) in
-    let body : Bool → List ℕ = λ v. section n a point (standing v x) comment in
-    let e₁ = append-cancel head (string (body z) ++ []) (string (body w) ++ []) e in
-    section-same n a point x comment z w hp hx (string-body (body z) (body w) e₁)
+image-body n key pair₁ pair₂ comment e =
+    string-body (section n pair₁ comment) (section n pair₂ comment)
+    (append-cancel (header cipher.None kdf.None [] 0 key) (string (section n pair₁ comment) ++ []) (string (section n pair₂ comment) ++ []) e)
+
+pub standing-same :
+    (n : ℕ) (a : Algorithm) (key : PublicBytes) (x : PrivateBytes) (comment : List ℕ) (z w : Bool) → length (x .scalar) < 2 ^ 31 → mayStand a z ≡ true
+    → mayStand a w ≡ true → plainImage n (blob a key) (keypair a z key x) comment ≡ plainImage n (blob a key) (keypair a w key x) comment → z ≡ w
+unfolding section
+standing-same n a key x comment z w hx mz mw e =
+    let pair : Bool → List ℕ = λ v. keypair a v key x in
+    let pad : Bool → List ℕ = λ v. take (paddingLength (length (content n (pair v) comment))) paddingBytes in
+    let tail : Bool → List ℕ = λ v. string comment ++ pad v in
+    let e₀ = sym (content-then n (pair z) comment (pad z)) ∙ image-body n (blob a key) (pair z) (pair w) comment e ∙ content-then n (pair w) comment (pad w) in
+    let e₁ = append-cancel (uint32 n) (uint32 n ++ (pair z ++ tail z)) (uint32 n ++ (pair w ++ tail w)) e₀ in
+    let e₂ = append-cancel (uint32 n) (pair z ++ tail z) (pair w ++ tail w) e₁ in
+    keypair-same a key x (tail z) (tail w) z w hx mz mw e₂

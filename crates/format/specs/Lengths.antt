@@ -6,8 +6,10 @@ use mathlib.Core.Bool.{Bool, true, false}
 use mathlib.Core.List.{List, []}
 use lib.ListN.{length, length-append}
 use Rattle.fields.specs.Rest.{length-uint32, length-string}
+use Rattle.names.specs.declared.Elliptic.{Elliptic}
+use Rattle.names.specs.declared.Elliptic.the-variants.{Ed25519, Ecdsa}
 use Rattle.names.specs.declared.Algorithm.{Algorithm}
-use Rattle.names.specs.declared.Algorithm.the-variants.{Ed25519, Ecdsa}
+use Rattle.names.specs.declared.Algorithm.the-variants.{Elliptic as OnCurve, Rsa}
 use Rattle.names.specs.declared.Cipher.{Cipher}
 use Rattle.names.specs.declared.Cipher.the-variants as cipher
 use Rattle.names.specs.declared.Curve.the-variants.{Nistp256, Nistp384, Nistp521}
@@ -15,20 +17,13 @@ use Rattle.names.specs.declared.Kdf.{Kdf}
 use Rattle.names.specs.declared.Kdf.the-variants as kdf
 use Rattle.names.specs.Algorithms.{sizeOf}
 use Rattle.names.specs.Ciphers.{cipherName, kdfName}
-use Rattle.format.specs.Format.{magic, options, header, blob, publicLength, privateLength, privateField, standing, needsLeadingZero, paddingLength, content, section, plainImage, writtenImage, encryptedImage}
+use Rattle.format.specs.Format.{PublicBytes, PrivateBytes, magic, options, header, blob, keypair, publicLength, privateLength, standing, scalarZero, needsLeadingZero, paddingLength, content, section, plainImage, writtenImage, encryptedImage}
 use Rattle.format.specs.Laws.{section-length}
 
 -- the length of a blob whose point has its algorithm's length
-abbrev pub blobLength : Algorithm → ℕ
-blobLength Ed25519 = 51
-blobLength (Ecdsa curve) = 40 + 2 * sizeOf curve
-
-pub blob-length : (a : Algorithm) (point : List ℕ) → length point ≡ publicLength a → length (blob a point) ≡ blobLength a
-unfolding blob
-blob-length Ed25519 point h = simp (length-append, length-string) (omega arith)
-blob-length (Ecdsa Nistp256) point h = simp (length-append, length-string) (omega arith)
-blob-length (Ecdsa Nistp384) point h = simp (length-append, length-string) (omega arith)
-blob-length (Ecdsa Nistp521) point h = simp (length-append, length-string) (omega arith)
+abbrev pub pointBlobLength : Elliptic → ℕ
+pointBlobLength Ed25519 = 51
+pointBlobLength (Ecdsa curve) = 40 + 2 * sizeOf curve
 
 -- a zero takes one byte
 abbrev pub zeroLength : Bool → ℕ
@@ -40,34 +35,55 @@ standing-length true scalar = omega arith
 standing-length false scalar = omega arith
 
 -- the length of the private field, of private bytes that have their algorithm's length
-abbrev pub privateFieldLength : Algorithm → List ℕ → ℕ
+abbrev pub privateFieldLength : Elliptic → List ℕ → ℕ
 privateFieldLength Ed25519 seed = 68
-privateFieldLength (Ecdsa curve) scalar = 4 + sizeOf curve + zeroLength (needsLeadingZero (Ecdsa curve) scalar)
+privateFieldLength (Ecdsa curve) scalar = 4 + sizeOf curve + zeroLength (scalarZero (Ecdsa curve) scalar)
 
-private-field-length :
-    (a : Algorithm) (point scalar : List ℕ) → length point ≡ publicLength a → length scalar ≡ privateLength a
-    → length (privateField a point (standing (needsLeadingZero a scalar) scalar)) ≡ privateFieldLength a scalar
-private-field-length Ed25519 point scalar h k = simp (length-string, length-append) (omega arith)
-private-field-length (Ecdsa curve) point scalar h k =
-    simp (length-string, standing-length) (omega arith)
+-- the length of a blob, and of a keypair as the writer writes it
+abbrev pub blobLength : Algorithm → PublicBytes → ℕ
+blobLength (OnCurve e) key = pointBlobLength e
+blobLength Rsa key = 19 + length (key .exponent) + length (key .modulus)
+
+abbrev pub keypairLength : Algorithm → PublicBytes → PrivateBytes → ℕ
+keypairLength (OnCurve e) key x = pointBlobLength e + privateFieldLength e (x .scalar)
+keypairLength Rsa key x =
+    35 + length (key .modulus) + length (key .exponent) + length (x .d) + length (x .iqmp) + length (x .p) + length (x .q)
+
+-- of bytes that have their kind's lengths
+abbrev pub LengthsFit : Algorithm → PublicBytes → PrivateBytes → Type 0
+LengthsFit (OnCurve e) key x = (length (key .point) ≡ publicLength e) × (length (x .scalar) ≡ privateLength e)
+LengthsFit Rsa key x = Unit {0}
+
+module _ (key : PublicBytes) (x : PrivateBytes) where
+  pub blob-length : (a : Algorithm) → LengthsFit a key x → length (blob a key) ≡ blobLength a key
+  unfolding blob
+  blob-length (OnCurve Ed25519) h = simp (length-append, length-string) (omega (arith, h .0))
+  blob-length (OnCurve (Ecdsa Nistp256)) h = simp (length-append, length-string) (omega (arith, h .0))
+  blob-length (OnCurve (Ecdsa Nistp384)) h = simp (length-append, length-string) (omega (arith, h .0))
+  blob-length (OnCurve (Ecdsa Nistp521)) h = simp (length-append, length-string) (omega (arith, h .0))
+  blob-length Rsa h = simp (length-append, length-string) (omega arith)
+
+  pub keypair-length : (a : Algorithm) → LengthsFit a key x → length (keypair a (needsLeadingZero a x) key x) ≡ keypairLength a key x
+  unfolding keypair
+  keypair-length (OnCurve Ed25519) h = simp (length-append, length-string) (omega (arith, h .0, h .1))
+  keypair-length (OnCurve (Ecdsa Nistp256)) h = simp (length-append, length-string, standing-length) (omega (arith, h .0, h .1))
+  keypair-length (OnCurve (Ecdsa Nistp384)) h = simp (length-append, length-string, standing-length) (omega (arith, h .0, h .1))
+  keypair-length (OnCurve (Ecdsa Nistp521)) h = simp (length-append, length-string, standing-length) (omega (arith, h .0, h .1))
+  keypair-length Rsa h = simp (length-append, length-string) (omega arith)
 
 -- a section's length but for its padding, by what stands before the comment
-pub content-length :
-    (n : ℕ) (a : Algorithm) (point stored comment : List ℕ)
-    → length (content n a point stored comment) ≡ 8 + (length (blob a point) + length (privateField a point stored)) + (4 + length comment)
-unfolding content blob
-content-length n a point stored comment = simp (length-append, length-string, length-uint32) (omega arith)
+pub content-length : (n : ℕ) (pair comment : List ℕ) → length (content n pair comment) ≡ 8 + length pair + (4 + length comment)
+unfolding content
+content-length n pair comment = simp (length-append, length-string, length-uint32) (omega arith)
 
--- the same, for the writer's scalar
-abbrev pub contentLength : Algorithm → List ℕ → ℕ → ℕ
-contentLength a scalar comment = 8 + (blobLength a + privateFieldLength a scalar) + (4 + comment)
+-- the same, for what the writer writes
+abbrev pub contentLength : Algorithm → PublicBytes → PrivateBytes → ℕ → ℕ
+contentLength a key x comment = 8 + keypairLength a key x + (4 + comment)
 
 pub written-content-length :
-    (n : ℕ) (a : Algorithm) (point scalar comment : List ℕ) → length point ≡ publicLength a → length scalar ≡ privateLength a
-    → length (content n a point (standing (needsLeadingZero a scalar) scalar) comment) ≡ contentLength a scalar (length comment)
-written-content-length n a point scalar comment h k =
-    content-length n a point (standing (needsLeadingZero a scalar) scalar) comment
-    ∙ rw (blob-length a point h, private-field-length a point scalar h k)
+    (n : ℕ) (a : Algorithm) (key : PublicBytes) (x : PrivateBytes) (comment : List ℕ) → LengthsFit a key x
+    → length (content n (keypair a (needsLeadingZero a x) key x) comment) ≡ contentLength a key x (length comment)
+written-content-length n a key x comment h = content-length n (keypair a (needsLeadingZero a x) key x) comment ∙ rw (keypair-length key x a h)
 
 -- the header of a plain image
 plain-header-length : (key : List ℕ) → length (header cipher.None kdf.None [] 0 key) ≡ 43 + length key
@@ -76,21 +92,20 @@ plain-header-length key = simp (length-append, length-string, length-uint32) (om
 
 -- an image with a section of n bytes
 pub plain-length :
-    (n : ℕ) (a : Algorithm) (point stored comment : List ℕ)
-    → length (plainImage n a point stored comment) ≡ 47 + length (blob a point) + length (section n a point stored comment)
+    (n : ℕ) (key pair comment : List ℕ) → length (plainImage n key pair comment) ≡ 47 + length key + length (section n pair comment)
 unfolding plainImage
-plain-length n a point stored comment = simp (length-append, length-string, plain-header-length) (omega arith)
+plain-length n key pair comment = simp (length-append, length-string, plain-header-length) (omega arith)
 
--- the length law: an image's length by its algorithm, the scalar's first byte and the comment's length
+-- the length law: an image's length by its kind, its parts' lengths, the scalar's first byte and the comment's length
 pub written-length :
-    (n : ℕ) (a : Algorithm) (point scalar comment : List ℕ) → length point ≡ publicLength a → length scalar ≡ privateLength a
-    → length (writtenImage n a point scalar comment)
-    ≡ 47 + blobLength a + (contentLength a scalar (length comment) + paddingLength (contentLength a scalar (length comment)))
+    (n : ℕ) (a : Algorithm) (key : PublicBytes) (x : PrivateBytes) (comment : List ℕ) → LengthsFit a key x
+    → length (writtenImage n a key x comment)
+    ≡ 47 + blobLength a key + (contentLength a key x (length comment) + paddingLength (contentLength a key x (length comment)))
 unfolding writtenImage
-written-length n a point scalar comment h k =
-    let stored = standing (needsLeadingZero a scalar) scalar in
-    plain-length n a point stored comment
-    ∙ rw (section-length n a point stored comment, written-content-length n a point scalar comment h k, blob-length a point h)
+written-length n a key x comment h =
+    let pair = keypair a (needsLeadingZero a x) key x in
+    plain-length n (blob a key) pair comment
+    ∙ rw (section-length n pair comment, written-content-length n a key x comment h, blob-length key x a h)
 
 -- the length of an encrypted image
 pub encrypted-length :

@@ -12,6 +12,7 @@ use header::Header;
 use header::HeaderRead;
 use names::Algorithm;
 use names::Cipher;
+use names::Elliptic;
 use names::Kdf;
 use section::Kind;
 use section::Section;
@@ -50,9 +51,9 @@ fn no_header() -> Header
         kdf: Kdf::None,
         salt: nowhere(),
         rounds: 0,
-        algorithm: Algorithm::Ed25519,
+        algorithm: Algorithm::Elliptic(Elliptic::Ed25519),
         blob: nowhere(),
-        point: nowhere(),
+        public: keys::at_point(nowhere()),
         section: 0,
     }
 }
@@ -65,7 +66,7 @@ fn no_fields() -> Fields
         kind: Kind::Plain,
         checkint: 0,
         padding: 0,
-        scalar: nowhere(),
+        private: pairs::at_scalar(nowhere()),
         comment: nowhere(),
         ciphertext: nowhere(),
         tag: nowhere(),
@@ -154,8 +155,8 @@ pub fn held(image: &[u8], found: Found) -> &[u8]
     held_by(image, found.number)
 }
 
-pub fn held_half(image: &[u8], found: FoundHeader) -> &[u8]
-    ensures { λ r. ⌜ isView r (image .entry) (heldPart (now (image .entry)) (found .number)) ⌝ }
+pub fn held_half(image: &[u8], half: FoundHeader) -> &[u8]
+    ensures { λ r. ⌜ isView r (image .entry) (heldPart (now (image .entry)) (half .number)) ⌝ }
 {
-    held_by(image, found.number)
+    held_by(image, half.number)
 }

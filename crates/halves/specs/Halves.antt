@@ -1,5 +1,5 @@
 -- Document 01, 'Views', and document 02, request One: an entry that is handed the first half of a record that isn't what an accepted
--- header read of its image gives replies 1 before all else. So every field is compared: names, rounds and every place.
+-- header read of its image gives replies 1 before all else. So every field is compared: names, rounds, bits and every place.
 use Prim.Native.Nat.{ℕ}
 use mathlib.Core.Path.{_≡_, refl, sym, _∙_, ap, ap₂}
 use mathlib.Core.Bool.{Bool, true, false, _&&_}
@@ -13,6 +13,7 @@ use Rattle.fields.specs.declared.Fault.{Fault}
 use Rattle.fields.specs.declared.Part.{Part}
 use Rattle.names.specs.Algorithms.{algorithmCode, sameAlgorithm, algorithm-same}
 use Rattle.codes.specs.Codes.{cipherCode, kdfCode, cipher-code-same, kdf-code-same}
+use Rattle.keys.specs.declared.Public.{Public}
 use Rattle.header.specs.declared.Header.{Header}
 use Rattle.header.specs.declared.HeaderRead.{HeaderRead}
 use Rattle.header.specs.declared.HeaderRead.the-variants as header-read
@@ -20,6 +21,10 @@ use Rattle.header.specs.Header.{onHeaderRead, headerAt}
 
 abbrev pub samePart : Part → Part → Bool
 samePart a b = eqb (a .start) (b .start) && eqb (a .length) (b .length)
+
+unfoldable pub samePublic : Public → Public → Bool
+samePublic a b =
+    samePart (a .point) (b .point) && samePart (a .modulus) (b .modulus) && samePart (a .exponent) (b .exponent) && eqb (a .bits) (b .bits)
 
 unfoldable pub sameHeader : Header → Header → Bool
 sameHeader a b =
@@ -29,7 +34,7 @@ sameHeader a b =
     && eqb (a .rounds) (b .rounds)
     && eqb (algorithmCode (a .algorithm)) (algorithmCode (b .algorithm))
     && samePart (a .blob) (b .blob)
-    && samePart (a .point) (b .point)
+    && samePublic (a .public) (b .public)
     && eqb (a .section) (b .section)
 
 unfoldable pub isHeader : List ℕ → Header → Bool
@@ -44,11 +49,24 @@ part-same a b e =
     let length : a .length ≡ b .length = eqb-true _ _ (ok .1) in
     ap₂ part start length
 
+pub public-same : (a b : Public) → samePublic a b ≡ true → a ≡ b
+unfolding samePublic
+public-same a b e =
+    let e₃ = both-true _ (eqb (a .bits) (b .bits)) e in
+    let e₂ = both-true _ (samePart (a .exponent) (b .exponent)) (e₃ .0) in
+    let e₁ = both-true _ (samePart (a .modulus) (b .modulus)) (e₂ .0) in
+    let point : a .point ≡ b .point = part-same _ _ (e₁ .0) in
+    let modulus : a .modulus ≡ b .modulus = part-same _ _ (e₁ .1) in
+    let exponent : a .exponent ≡ b .exponent = part-same _ _ (e₂ .1) in
+    let bits : a .bits ≡ b .bits = eqb-true _ _ (e₃ .1) in
+    let whole : _≡_ {A = Public} (record { point = a .point; modulus = a .modulus; exponent = a .exponent; bits = a .bits }) (record { point = b .point; modulus = b .modulus; exponent = b .exponent; bits = b .bits }) = cc in
+    whole
+
 pub header-same : (a b : Header) → sameHeader a b ≡ true → a ≡ b
 unfolding sameHeader sameAlgorithm
 header-same a b e =
     let e₇ = both-true _ (eqb (a .section) (b .section)) e in
-    let e₆ = both-true _ (samePart (a .point) (b .point)) (e₇ .0) in
+    let e₆ = both-true _ (samePublic (a .public) (b .public)) (e₇ .0) in
     let e₅ = both-true _ (samePart (a .blob) (b .blob)) (e₆ .0) in
     let e₄ = both-true _ (eqb (algorithmCode (a .algorithm)) (algorithmCode (b .algorithm))) (e₅ .0) in
     let e₃ = both-true _ (eqb (a .rounds) (b .rounds)) (e₄ .0) in
@@ -60,16 +78,16 @@ header-same a b e =
     let rounds : a .rounds ≡ b .rounds = eqb-true _ _ (e₃ .1) in
     let algorithm : a .algorithm ≡ b .algorithm = algorithm-same _ _ (e₄ .1) in
     let blob : a .blob ≡ b .blob = part-same _ _ (e₅ .1) in
-    let point : a .point ≡ b .point = part-same _ _ (e₆ .1) in
+    let public : a .public ≡ b .public = public-same _ _ (e₆ .1) in
     let section : a .section ≡ b .section = eqb-true _ _ (e₇ .1) in
-    let whole : _≡_ {A = Header} (record { cipher = a .cipher; kdf = a .kdf; salt = a .salt; rounds = a .rounds; algorithm = a .algorithm; blob = a .blob; point = a .point; section = a .section }) (record { cipher = b .cipher; kdf = b .kdf; salt = b .salt; rounds = b .rounds; algorithm = b .algorithm; blob = b .blob; point = b .point; section = b .section }) = cc in
+    let whole : _≡_ {A = Header} (record { cipher = a .cipher; kdf = a .kdf; salt = a .salt; rounds = a .rounds; algorithm = a .algorithm; blob = a .blob; public = a .public; section = a .section }) (record { cipher = b .cipher; kdf = b .kdf; salt = b .salt; rounds = b .rounds; algorithm = b .algorithm; blob = b .blob; public = b .public; section = b .section }) = cc in
     whole
 
 pub eqb-self : (n : ℕ) → eqb n n ≡ true
 eqb-self n = eq-eqb n n refl
 
 pub header-self : (a : Header) → sameHeader a a ≡ true
-unfolding sameHeader
+unfolding sameHeader samePublic
 header-self a = simp (eqb-self)
 
 pub by-header : {P : Type 0} (w : HeaderRead) → ((f : Fault) → w ≡ header-read.Refused f → P) → ((h : Header) → w ≡ header-read.Header h → P) → P

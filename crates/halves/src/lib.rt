@@ -1,16 +1,26 @@
 // Halves that are handed in: is every field what an accepted header read of the image gives?
 ghost use mathlib.Core.Path.{_≡_};
-ghost use Rattle.halves.specs.Halves.{samePart, sameHeader, isHeader};
+ghost use Rattle.halves.specs.Halves.{samePart, samePublic, sameHeader, isHeader};
 use codes::cipher_code;
 use codes::kdf_code;
 use fields::Part;
 use header::Header;
 use header::HeaderRead;
+use keys::Public;
 
 pub fn same_part(a: Part, b: Part) -> bool
     ensures { λ r. ⌜ r ≡ samePart a b ⌝ }
 {
     (a.start == b.start) & (a.length == b.length)
+}
+
+pub fn same_public(a: Public, b: Public) -> bool
+    ensures { λ r. ⌜ r ≡ samePublic a b ⌝ }
+{
+    same_part(a.point, b.point)
+        & same_part(a.modulus, b.modulus)
+        & same_part(a.exponent, b.exponent)
+        & (a.bits == b.bits)
 }
 
 pub fn same_header(a: Header, b: Header) -> bool
@@ -28,7 +38,7 @@ pub fn same_header(a: Header, b: Header) -> bool
         & (a.rounds == b.rounds)
         & (a_algorithm.code() == b_algorithm.code())
         & same_part(a.blob, b.blob)
-        & same_part(a.point, b.point)
+        & same_public(a.public, b.public)
         & (a.section == b.section)
 }
 

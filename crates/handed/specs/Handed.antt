@@ -9,6 +9,7 @@ use Rattle.names.specs.declared.Algorithm.{Algorithm}
 use Rattle.names.specs.declared.Cipher.{Cipher}
 use Rattle.names.specs.declared.Kdf.{Kdf}
 use Rattle.codes.specs.Codes.{algorithmCoded, cipherCoded, kdfCoded}
+use Rattle.keys.specs.declared.Public.{Public}
 use Rattle.keys.specs.Keys.{onAlgorithmName}
 use Rattle.header.specs.declared.Header.{Header}
 use Rattle.header.specs.Header.{onCipherName, onKdfName}
@@ -43,6 +44,13 @@ sameImage a b =
     && samePlace (a .ciphertext) (b .ciphertext)
     && samePlace (a .tag) (b .tag)
     && eqb (a .section) (b .section)
+    && eqb (a .bits) (b .bits)
+    && samePlace (a .modulus) (b .modulus)
+    && samePlace (a .exponent) (b .exponent)
+    && samePlace (a .d) (b .d)
+    && samePlace (a .iqmp) (b .iqmp)
+    && samePlace (a .p) (b .p)
+    && samePlace (a .q) (b .q)
 
 abbrev pub partOf : Place → Part
 partOf p = part (p .start) (p .length)
@@ -54,6 +62,10 @@ codeOf n = cond (ltb n 255) n 255
 abbrev pub roundsOf : ℕ → ℕ
 roundsOf n = cond (ltb n (2 ^ 32)) n 0
 
+-- the key at the numbers' places
+abbrev pub publicFrom : Image → Public
+publicFrom x = record { point = partOf (x .point); modulus = partOf (x .modulus); exponent = partOf (x .exponent); bits = x .bits }
+
 -- the half with these names and the numbers' places
 unfoldable pub halfFrom : Image → Algorithm → Cipher → Kdf → Header
 halfFrom x a c k =
@@ -64,7 +76,7 @@ halfFrom x a c k =
       rounds = roundsOf (x .rounds);
       algorithm = a;
       blob = partOf (x .blob);
-      point = partOf (x .point);
+      public = publicFrom x;
       section = x .section;
     }
 

@@ -6,6 +6,7 @@ use codes::cipher_coded;
 use codes::kdf_coded;
 use fields::Part;
 use header::Header;
+use keys::Public;
 use names::Algorithm;
 use names::AlgorithmName;
 use names::Cipher;
@@ -48,6 +49,13 @@ fn same_image(a: Image, b: Image) -> bool
         & same_place(a.ciphertext, b.ciphertext)
         & same_place(a.tag, b.tag)
         & (a.section == b.section)
+        & (a.bits == b.bits)
+        & same_place(a.modulus, b.modulus)
+        & same_place(a.exponent, b.exponent)
+        & same_place(a.d, b.d)
+        & same_place(a.iqmp, b.iqmp)
+        & same_place(a.p, b.p)
+        & same_place(a.q, b.q)
 }
 
 fn part_of(p: Place) -> Part
@@ -82,6 +90,12 @@ fn rounds_of(number: u64) -> u32
 fn half_from(x: Image, algorithm: Algorithm, cipher: Cipher, kdf: Kdf) -> Header
     ensures { λ r. ⌜ r ≡ halfFrom x algorithm cipher kdf ⌝ }
 {
+    let public = Public {
+        point: part_of(x.point),
+        modulus: part_of(x.modulus),
+        exponent: part_of(x.exponent),
+        bits: x.bits as usize,
+    };
     Header {
         cipher: cipher,
         kdf: kdf,
@@ -89,7 +103,7 @@ fn half_from(x: Image, algorithm: Algorithm, cipher: Cipher, kdf: Kdf) -> Header
         rounds: rounds_of(x.rounds),
         algorithm: algorithm,
         blob: part_of(x.blob),
-        point: part_of(x.point),
+        public: public,
         section: x.section as usize,
     }
 }

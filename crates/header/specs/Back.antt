@@ -2,7 +2,6 @@
 use Prim.Native.Nat.{ℕ, _≤_, _<_, _^_}
 use native.Mathlib.Omega.{arith}
 use mathlib.Core.Path.{_≡_, refl, sym, _∙_, ap}
-use mathlib.Core.Bool.{true}
 use mathlib.Core.List.{List, [], _++_, append-nil}
 use borrow.Author.Tests.{eq-eqb, le-ltb}
 use lib.ListN.{length, length-append}
@@ -20,7 +19,10 @@ use Rattle.names.specs.declared.Cipher.{Cipher}
 use Rattle.names.specs.declared.Kdf.{Kdf}
 use Rattle.names.specs.declared.Kdf.the-variants as kdf
 use Rattle.names.specs.Ciphers.{cipherName, kdfName, row, kdf-back}
-use Rattle.format.specs.Format.{magic, options, OptionsFit, publicLength, pointTag, blob, header}
+use Rattle.mpint.specs.Mpint.{bits}
+use Rattle.format.specs.Format.{PublicBytes, magic, options, OptionsFit, PublicFits, blob, header}
+use Rattle.keys.specs.declared.Public.{Public}
+use Rattle.keys.specs.Keys.{publicBytes}
 use Rattle.format.specs.Laws.{header-then}
 use Rattle.key_laws.specs.Back.{blob-back}
 use Rattle.header.specs.declared.CipherField.{CipherField}
@@ -143,31 +145,33 @@ count-back s c good t e =
       more = k .more;
     }
 
-record BlobBack (s : List ℕ) (w : BlobField) (a : Algorithm) (x t : List ℕ) : Type 0 where
+record BlobFieldBack (s : List ℕ) (w : BlobField) (a : Algorithm) (key : PublicBytes) (t : List ℕ) : Type 0 where
   pub place : Part
-  pub point : Part
+  pub public : Public
   pub next : Cursor
-  pub read : w ≡ blob-field.Key a place point next
-  pub content : viewOf s place ≡ blob a x
-  pub seen : viewOf s point ≡ x
+  pub read : w ≡ blob-field.Key a place public next
+  pub content : viewOf s place ≡ blob a key
+  pub seen : publicBytes s public ≡ key
+  pub counted : public .bits ≡ bits (key .modulus)
   pub good : Good s next
   pub more : rest s next ≡ t
   pub end : next .end ≡ length s
 
 blob-field-back :
-    (s : List ℕ) (c : Cursor) → Good s c → c .end ≡ length s → length s ≤ 65535 → (a : Algorithm) (x t : List ℕ) → length x ≡ publicLength a → pointTag a x ≡ true
-    → rest s c ≡ string (blob a x) ++ t → BlobBack s (blobFieldAt s c) a x t
+    (s : List ℕ) (c : Cursor) → Good s c → c .end ≡ length s → length s ≤ 65535 → (a : Algorithm) (key : PublicBytes) (t : List ℕ) → PublicFits a key
+    → rest s c ≡ string (blob a key) ++ t → BlobFieldBack s (blobFieldAt s c) a key t
 unfolding blobFieldAt
-blob-field-back s c good end small a x t l four e =
-    let p = string-back s c good (blob a x) t (short-of s c good (omega arith) (blob a x) t e) e in
-    let b = blob-back s (within (p .place)) (omega (arith, p .inside)) a x l four (rest-within s (p .place) (p .inside) ∙ p .seen) in
+blob-field-back s c good end small a key t fits e =
+    let p = string-back s c good (blob a key) t (short-of s c good (omega arith) (blob a key) t e) e in
+    let b = blob-back s (within (p .place)) (omega (arith, p .inside)) (omega arith) a key fits (rest-within s (p .place) (p .inside) ∙ p .seen) in
     record {
       place = p .place;
-      point = b .0;
+      public = b .place;
       next = p .next;
-      read = rw (p .read, b .1);
+      read = rw (p .read, b .read);
       content = p .seen;
-      seen = b .2;
+      seen = b .seen;
+      counted = b .counted;
       good = p .good;
       more = p .more;
       end = string-place s c (p .place) (p .next) (p .read) .placed .end ∙ end;
@@ -178,7 +182,7 @@ to-end : (s : List ℕ) (c : Cursor) (t : List ℕ) → c .end ≡ length s → 
 to-end s c t end e = ap (λ (i : ℕ). slice (c .at) i s) (sym end) ∙ e
 
 -- the fields that a header gives back
-pub record HeaderBack (s : List ℕ) (cipher : Cipher) (k : Kdf) (salt : List ℕ) (rounds : ℕ) (a : Algorithm) (x t : List ℕ) : Type 0 where
+pub record HeaderBack (s : List ℕ) (cipher : Cipher) (k : Kdf) (salt : List ℕ) (rounds : ℕ) (a : Algorithm) (key : PublicBytes) (t : List ℕ) : Type 0 where
   pub fields : Header
   pub read : headerAt s ≡ header-read.Header fields
   pub same-cipher : fields .cipher ≡ cipher
@@ -186,24 +190,25 @@ pub record HeaderBack (s : List ℕ) (cipher : Cipher) (k : Kdf) (salt : List �
   pub same-salt : viewOf s (fields .salt) ≡ salt
   pub same-rounds : fields .rounds ≡ rounds
   pub same-algorithm : fields .algorithm ≡ a
-  pub same-blob : viewOf s (fields .blob) ≡ blob a x
-  pub same-point : viewOf s (fields .point) ≡ x
+  pub same-blob : viewOf s (fields .blob) ≡ blob a key
+  pub same-public : publicBytes s (fields .public) ≡ key
+  pub same-bits : fields .public .bits ≡ bits (key .modulus)
   pub good : fields .section ≤ length s
   pub more : rest s (record { at = fields .section; end = length s }) ≡ t
 
 pub header-back :
-    (s : List ℕ) (cipher : Cipher) (k : Kdf) (salt : List ℕ) (rounds : ℕ) (a : Algorithm) (x t : List ℕ) → length s ≤ 65535
-    → OptionsFit k salt rounds → length x ≡ publicLength a → pointTag a x ≡ true → s ≡ header cipher k salt rounds (blob a x) ++ t
-    → HeaderBack s cipher k salt rounds a x t
+    (s : List ℕ) (cipher : Cipher) (k : Kdf) (salt : List ℕ) (rounds : ℕ) (a : Algorithm) (key : PublicBytes) (t : List ℕ) → length s ≤ 65535
+    → OptionsFit k salt rounds → PublicFits a key → s ≡ header cipher k salt rounds (blob a key) ++ t
+    → HeaderBack s cipher k salt rounds a key t
 unfolding headerAt
-header-back s cipher k salt rounds a x t small fit l four e =
-    let after-count = string (blob a x) ++ t in
+header-back s cipher k salt rounds a key t small fit fits e =
+    let after-count = string (blob a key) ++ t in
     let after-kdf = uint32 1 ++ after-count in
     let after-cipher = string (kdfName k) ++ (string (options k salt rounds) ++ after-kdf) in
-    let c = cipher-back s cipher after-cipher small (e ∙ header-then cipher k salt rounds (blob a x) t) in
+    let c = cipher-back s cipher after-cipher small (e ∙ header-then cipher k salt rounds (blob a key) t) in
     let o = kdf-options-back s (c .next) (c .good) small k salt rounds after-kdf fit (c .more) in
     let n = count-back s (o .next) (o .good) after-count (o .more) in
-    let b = blob-field-back s (n .next) (n .good) (count-place s (o .next) 1 (n .next) (n .read) .1 ∙ kdf-place s (c .next) k (o .place) rounds (o .next) (o .read) .end ∙ cipher-place s cipher (c .next) (c .read) .end) small a x t l four (n .more) in
+    let b = blob-field-back s (n .next) (n .good) (count-place s (o .next) 1 (n .next) (n .read) .1 ∙ kdf-place s (c .next) k (o .place) rounds (o .next) (o .read) .end ∙ cipher-place s cipher (c .next) (c .read) .end) small a key t fits (n .more) in
     record {
       fields =
           record {
@@ -213,7 +218,7 @@ header-back s cipher k salt rounds a x t small fit l four e =
             rounds = rounds;
             algorithm = a;
             blob = b .place;
-            point = b .point;
+            public = b .public;
             section = b .next .at;
           };
       read = rw (c .read, o .read, n .read, b .read);
@@ -223,7 +228,8 @@ header-back s cipher k salt rounds a x t small fit l four e =
       same-rounds = refl;
       same-algorithm = refl;
       same-blob = b .content;
-      same-point = b .seen;
+      same-public = b .seen;
+      same-bits = b .counted;
       good = omega (arith, b .good, b .end);
       more = to-end s (b .next) t (b .end) (b .more);
     }

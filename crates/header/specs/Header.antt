@@ -18,7 +18,8 @@ use Rattle.fields.specs.declared.Uint32.{Uint32}
 use Rattle.fields.specs.declared.Uint32.the-variants as uint32
 use Rattle.fields.specs.declared.Refusal.the-variants.{Length, FormatEncoding, Crypto, AlgorithmUnknown, Size}
 use Rattle.names.specs.declared.Algorithm.{Algorithm}
-use Rattle.names.specs.declared.Algorithm.the-variants.{Ed25519}
+use Rattle.names.specs.declared.Algorithm.the-variants.{Elliptic as OnCurve}
+use Rattle.names.specs.declared.Elliptic.the-variants.{Ed25519}
 use Rattle.names.specs.declared.Cipher.{Cipher}
 use Rattle.names.specs.declared.Cipher.the-variants as cipher
 use Rattle.names.specs.declared.CipherName.{CipherName}
@@ -29,7 +30,8 @@ use Rattle.names.specs.declared.KdfName.{KdfName}
 use Rattle.names.specs.declared.KdfName.the-variants as kdf-name
 use Rattle.names.specs.Ciphers.{cipherNamed, kdfNamed}
 use Rattle.format.specs.Format.{magic}
-use Rattle.keys.specs.Keys.{onBlob, blobAt}
+use Rattle.keys.specs.declared.Public.{Public}
+use Rattle.keys.specs.Keys.{onBlob, pointPlace, blobAt}
 use Rattle.header.specs.declared.CipherField.{CipherField}
 use Rattle.header.specs.declared.CipherField.the-variants as cipher-field
 use Rattle.header.specs.declared.KdfField.{KdfField}
@@ -61,9 +63,9 @@ abbrev pub onKdfField : {R : Type 0} → KdfField → (Fault → R) → (Kdf →
 onKdfField (kdf-field.Refused f) refused read = refused f
 onKdfField (kdf-field.Options k salt rounds c) refused read = read k salt rounds c
 
-abbrev pub onBlobField : {R : Type 0} → BlobField → (Fault → R) → (Algorithm → Part → Part → Cursor → R) → R
+abbrev pub onBlobField : {R : Type 0} → BlobField → (Fault → R) → (Algorithm → Part → Public → Cursor → R) → R
 onBlobField (blob-field.Refused f) refused read = refused f
-onBlobField (blob-field.Key a p point c) refused read = read a p point c
+onBlobField (blob-field.Key a p key c) refused read = read a p key c
 
 abbrev pub onHeaderRead : {R : Type 0} → HeaderRead → (Fault → R) → (Header → R) → R
 onHeaderRead (header-read.Refused f) refused read = refused f
@@ -116,15 +118,15 @@ countAt s c =
 unfoldable pub blobFieldAt : List ℕ → Cursor → BlobField
 blobFieldAt s c =
     onField (stringAt s c) blob-field.Refused (λ p d.
-    onBlob (blobAt s (within p)) blob-field.Refused (λ a point.
-    blob-field.Key a p point d))
+    onBlob (blobAt s (within p)) blob-field.Refused (λ a key.
+    blob-field.Key a p key d))
 
 unfoldable pub headerAt : List ℕ → HeaderRead
 headerAt s =
     onCipherField (cipherAt s) header-read.Refused (λ cipher c.
     onKdfField (kdfAt s c) header-read.Refused (λ k salt rounds d.
     onUint32 (countAt s d) header-read.Refused (λ n e.
-    onBlobField (blobFieldAt s e) header-read.Refused (λ a blob point g.
+    onBlobField (blobFieldAt s e) header-read.Refused (λ a blob key g.
     header-read.Header
     (record {
       cipher = cipher;
@@ -133,7 +135,7 @@ headerAt s =
       rounds = rounds;
       algorithm = a;
       blob = blob;
-      point = point;
+      public = key;
       section = g .at;
     })))))
 
@@ -147,9 +149,9 @@ noHeader =
       kdf = kdf.None;
       salt = absent;
       rounds = 0;
-      algorithm = Ed25519;
+      algorithm = OnCurve Ed25519;
       blob = absent;
-      point = absent;
+      public = pointPlace absent;
       section = 0;
     }
 

@@ -24,6 +24,7 @@ use Rattle.names.specs.declared.KdfName.{KdfName}
 use Rattle.names.specs.declared.KdfName.the-variants as kdf-name
 use Rattle.names.specs.Ciphers.{cipherName, kdfName, cipherNamed, kdfNamed, cipher-read, kdf-read}
 use Rattle.format.specs.Format.{magic}
+use Rattle.keys.specs.declared.Public.{Public}
 use Rattle.keys.specs.declared.Blob.{Blob}
 use Rattle.keys.specs.declared.Blob.the-variants as key
 use Rattle.keys.specs.Keys.{blobAt}
@@ -41,7 +42,7 @@ pub by-kdf-name : {P : Type 0} (w : KdfName) → (w ≡ kdf-name.Unknown → P) 
 by-kdf-name kdf-name.Unknown unknown known = unknown refl
 by-kdf-name (kdf-name.Known k) unknown known = known k refl
 
-by-blob : {P : Type 0} (w : Blob) → ((f : Fault) → w ≡ key.Refused f → P) → ((a : Algorithm) (p : Part) → w ≡ key.Key a p → P) → P
+by-blob : {P : Type 0} (w : Blob) → ((f : Fault) → w ≡ key.Refused f → P) → ((a : Algorithm) (p : Public) → w ≡ key.Key a p → P) → P
 by-blob (key.Refused f) refused read = refused f refl
 by-blob (key.Key a p) refused read = read a p refl
 
@@ -227,20 +228,20 @@ count-place s c n d e =
 
 -- an accepted public blob
 pub blob-place :
-    (s : List ℕ) (c : Cursor) (a : Algorithm) (b point : Part) (d : Cursor) → blobFieldAt s c ≡ blob-field.Key a b point d
-    → (stringAt s c ≡ field.Part b d) × (blobAt s (within b) ≡ key.Key a point)
+    (s : List ℕ) (c : Cursor) (a : Algorithm) (b : Part) (public : Public) (d : Cursor) → blobFieldAt s c ≡ blob-field.Key a b public d
+    → (stringAt s c ≡ field.Part b d) × (blobAt s (within b) ≡ key.Key a public)
 unfolding blobFieldAt
-blob-place s c a b point d e =
+blob-place s c a b public d e =
     by-field (stringAt s c)
-    (λ f w. let g : blob-field.Refused f ≡ blob-field.Key a b point d = rw w at e in clash cc)
+    (λ f w. let g : blob-field.Refused f ≡ blob-field.Key a b public d = rw w at e in clash cc)
     (λ p x w.
     let g = rw w at e in
     by-blob (blobAt s (within p))
-    (λ f v. let h : blob-field.Refused f ≡ blob-field.Key a b point d = rw v at g in clash cc)
+    (λ f v. let h : blob-field.Refused f ≡ blob-field.Key a b public d = rw v at g in clash cc)
     (λ j q v.
-    let h : blob-field.Key j p q x ≡ blob-field.Key a b point d = rw v at g in
+    let h : blob-field.Key j p q x ≡ blob-field.Key a b public d = rw v at g in
     let i : j ≡ a = cc in
     let o : p ≡ b = cc in
-    let l : q ≡ point = cc in
+    let l : q ≡ public = cc in
     let m : x ≡ d = cc in
     (rw (o, m) at w, rw (o, i, l) at v)))

@@ -3,7 +3,6 @@
 use Prim.Native.Nat.{ℕ, _+_, _≤_}
 use native.Mathlib.Omega.{arith}
 use mathlib.Core.Path.{_≡_, refl, sym, _∙_, ap, ap₂}
-use mathlib.Core.Bool.{true}
 use mathlib.Core.List.{List, [], _++_, append-nil}
 use lib.ListN.{length}
 use lib.Seq.{slice}
@@ -21,9 +20,11 @@ use Rattle.names.specs.declared.Cipher.{Cipher}
 use Rattle.names.specs.declared.Kdf.{Kdf}
 use Rattle.names.specs.declared.Kdf.the-variants as kdf
 use Rattle.names.specs.Ciphers.{cipherName, kdfName}
-use Rattle.format.specs.Format.{magic, options, OptionsFit, publicLength, pointTag, blob, header}
+use Rattle.format.specs.Format.{PublicFits, magic, options, OptionsFit, blob, header}
+use Rattle.keys.specs.declared.Public.{Public}
+use Rattle.keys.specs.Keys.{publicBytes}
 use Rattle.format.specs.Laws.{header-then}
-use Rattle.key_laws.specs.Read.{blob-read}
+use Rattle.key_laws.specs.Read.{publicPlace, blob-read}
 use Rattle.header.specs.declared.CipherField.{CipherField}
 use Rattle.header.specs.declared.CipherField.the-variants as cipher-field
 use Rattle.header.specs.declared.KdfField.{KdfField}
@@ -49,7 +50,7 @@ by-kdf-field (kdf-field.Options k salt rounds c) refused read = read k salt roun
 
 by-blob-field :
     {P : Type 0} (w : BlobField) → ((f : Fault) → w ≡ blob-field.Refused f → P)
-    → ((a : Algorithm) (b p : Part) (c : Cursor) → w ≡ blob-field.Key a b p c → P) → P
+    → ((a : Algorithm) (b : Part) (p : Public) (c : Cursor) → w ≡ blob-field.Key a b p c → P) → P
 by-blob-field (blob-field.Refused f) refused read = refused f refl
 by-blob-field (blob-field.Key a b p c) refused read = read a b p c refl
 
@@ -110,66 +111,60 @@ module _ (s : List ℕ) (all : AllBytes s) where
       (rw (p .name-is) at (n .text) ∙ ap (λ (x : List ℕ). string (kdfName k) ++ x) (o .0), o .1, o .2 ∙ ap (λ (i : ℕ). saltFrom i k (length (viewOf s salt))) after)
 
   -- an accepted public blob
-  record BlobText (c : Cursor) (a : Algorithm) (b point : Part) (d : Cursor) : Type 0 where
-    pub text : rest s c ≡ string (blob a (viewOf s point)) ++ rest s d
-    pub content : viewOf s b ≡ blob a (viewOf s point)
-    pub long : length (viewOf s point) ≡ publicLength a
-    pub tag : pointTag a (viewOf s point) ≡ true
+  record BlobText (c : Cursor) (a : Algorithm) (b : Part) (public : Public) (d : Cursor) : Type 0 where
+    pub text : rest s c ≡ string (blob a (publicBytes s public)) ++ rest s d
+    pub content : viewOf s b ≡ blob a (publicBytes s public)
+    pub fits : PublicFits a (publicBytes s public)
     pub good : d .at ≤ length s
     pub end : d .end ≡ c .end
     pub size : length (viewOf s b) ≡ b .length
     pub ends : b .start + b .length ≡ d .at
-    pub point-size : length (viewOf s point) ≡ point .length
-    pub point-ends : point .start + point .length ≡ d .at
+    pub lies : public ≡ publicPlace (d .at) a (publicBytes s public)
 
-  blob-text : (c : Cursor) (a : Algorithm) (b point : Part) (d : Cursor) → blobFieldAt s c ≡ blob-field.Key a b point d → BlobText c a b point d
-  blob-text c a b point d e =
-      let p = blob-place s c a b point d e in
+  blob-text : (c : Cursor) (a : Algorithm) (b : Part) (public : Public) (d : Cursor) → blobFieldAt s c ≡ blob-field.Key a b public d → BlobText c a b public d
+  blob-text c a b public d e =
+      let p = blob-place s c a b public d e in
       let r = string-read s all c b d (p .0) in
-      let k = blob-read s all (within b) a point (p .1) in
-      let content : viewOf s b ≡ blob a (viewOf s point) = sym (rest-within s b (omega (arith, r .place .placed))) ∙ k .0 in
+      let k = blob-read s all (within b) a public (p .1) in
+      let content : viewOf s b ≡ blob a (publicBytes s public) = sym (rest-within s b (omega (arith, r .place .placed))) ∙ k .text in
       record {
         text = rw content at (r .text);
         content = content;
-        long = k .1;
-        tag = k .2;
+        fits = k .fits;
         good = omega (arith, r .place .placed);
         end = r .place .placed .end;
         size = r .size;
         ends = sym (r .place .placed .after);
-        point-size = k .4;
-        point-ends = k .3 ∙ sym (r .place .placed .after);
+        lies = k .lies ∙ ap (λ (i : ℕ). publicPlace i a (publicBytes s public)) (sym (r .place .placed .after));
       }
 
   -- an accepted header
   pub record HeaderText (h : Header) : Type 0 where
     pub fits : length s ≤ 65535
     pub text :
-        s ≡ header (h .cipher) (h .kdf) (viewOf s (h .salt)) (h .rounds) (blob (h .algorithm) (viewOf s (h .point))) ++ rest s (record { at = h .section; end = length s })
+        s ≡ header (h .cipher) (h .kdf) (viewOf s (h .salt)) (h .rounds) (blob (h .algorithm) (publicBytes s (h .public))) ++ rest s (record { at = h .section; end = length s })
     pub options-fit : OptionsFit (h .kdf) (viewOf s (h .salt)) (h .rounds)
-    pub content : viewOf s (h .blob) ≡ blob (h .algorithm) (viewOf s (h .point))
-    pub long : length (viewOf s (h .point)) ≡ publicLength (h .algorithm)
-    pub tag : pointTag (h .algorithm) (viewOf s (h .point)) ≡ true
+    pub content : viewOf s (h .blob) ≡ blob (h .algorithm) (publicBytes s (h .public))
+    pub public-fits : PublicFits (h .algorithm) (publicBytes s (h .public))
     pub good : h .section ≤ length s
     pub salt-lies : h .salt ≡ saltPlace (h .cipher) (h .kdf) (length (viewOf s (h .salt)))
     pub blob-size : length (viewOf s (h .blob)) ≡ h .blob .length
     pub blob-ends : h .blob .start + h .blob .length ≡ h .section
-    pub point-size : length (viewOf s (h .point)) ≡ h .point .length
-    pub point-ends : h .point .start + h .point .length ≡ h .section
+    pub public-lies : h .public ≡ publicPlace (h .section) (h .algorithm) (publicBytes s (h .public))
 
   -- the four reads, one after the other
   joined :
-      (cipher : Cipher) (c : Cursor) (k : Kdf) (salt : Part) (rounds : ℕ) (d : Cursor) (n : ℕ) (e : Cursor) (a : Algorithm) (b point : Part) (g : Cursor)
+      (cipher : Cipher) (c : Cursor) (k : Kdf) (salt : Part) (rounds : ℕ) (d : Cursor) (n : ℕ) (e : Cursor) (a : Algorithm) (b : Part) (public : Public) (g : Cursor)
       → cipherAt s ≡ cipher-field.Cipher cipher c → kdfAt s c ≡ kdf-field.Options k salt rounds d → countAt s d ≡ answer.Value n e
-      → blobFieldAt s e ≡ blob-field.Key a b point g
+      → blobFieldAt s e ≡ blob-field.Key a b public g
       → HeaderText
-      (record { cipher = cipher; kdf = k; salt = salt; rounds = rounds; algorithm = a; blob = b; point = point; section = g .at })
-  joined cipher c k salt rounds d n e a b point g p₁ p₂ p₃ p₄ =
+      (record { cipher = cipher; kdf = k; salt = salt; rounds = rounds; algorithm = a; blob = b; public = public; section = g .at })
+  joined cipher c k salt rounds d n e a b public g p₁ p₂ p₃ p₄ =
       let t₁ = cipher-text cipher c p₁ in
       let t₂ = kdf-text c k salt rounds d p₂ in
       let q₃ = count-place s d n e p₃ in
       let t₃ = uint32-read s all d 1 e (q₃ .0) .0 in
-      let t₄ = blob-text e a b point g p₄ in
+      let t₄ = blob-text e a b public g p₄ in
       let end : g .end ≡ length s = t₄ .end ∙ q₃ .1 ∙ kdf-place s c k salt rounds d p₂ .end ∙ cipher-place s cipher c p₁ .end in
       let tail : rest s g ≡ rest s (record { at = g .at; end = length s }) = ap (λ (i : ℕ). slice (g .at) i s) end in
       record {
@@ -179,18 +174,16 @@ module _ (s : List ℕ) (all : AllBytes s) where
             ∙ ap (λ (x : List ℕ). magic ++ (string (cipherName cipher) ++ x))
             (t₂ .0
             ∙ ap (λ (x : List ℕ). string (kdfName k) ++ (string (options k (viewOf s salt) rounds) ++ x))
-            (t₃ ∙ ap (λ (x : List ℕ). uint32 1 ++ x) (t₄ .text ∙ ap (λ (x : List ℕ). string (blob a (viewOf s point)) ++ x) tail)))
-            ∙ sym (header-then cipher k (viewOf s salt) rounds (blob a (viewOf s point)) (rest s (record { at = g .at; end = length s })));
+            (t₃ ∙ ap (λ (x : List ℕ). uint32 1 ++ x) (t₄ .text ∙ ap (λ (x : List ℕ). string (blob a (publicBytes s public)) ++ x) tail)))
+            ∙ sym (header-then cipher k (viewOf s salt) rounds (blob a (publicBytes s public)) (rest s (record { at = g .at; end = length s })));
         options-fit = t₂ .1;
         content = t₄ .content;
-        long = t₄ .long;
-        tag = t₄ .tag;
+        public-fits = t₄ .fits;
         good = t₄ .good;
         salt-lies = t₂ .2 ∙ ap (λ (i : ℕ). saltFrom (i + 4 + length (kdfName k)) k (length (viewOf s salt))) (t₁ .1);
         blob-size = t₄ .size;
         blob-ends = t₄ .ends;
-        point-size = t₄ .point-size;
-        point-ends = t₄ .point-ends;
+        public-lies = t₄ .lies;
       }
 
   pub header-text : (h : Header) → headerAt s ≡ header-read.Header h → HeaderText h
@@ -210,10 +203,10 @@ module _ (s : List ℕ) (all : AllBytes s) where
       let g₃ = rw p₃ at g₂ in
       by-blob-field (blobFieldAt s i)
       (λ f w. let g : header-read.Refused f ≡ header-read.Header h = rw w at g₃ in clash cc)
-      (λ a b point j p₄.
+      (λ a b public j p₄.
       let g₄ :
       header-read.Header
-      (record { cipher = cipher; kdf = k; salt = salt; rounds = rounds; algorithm = a; blob = b; point = point; section = j .at })
+      (record { cipher = cipher; kdf = k; salt = salt; rounds = rounds; algorithm = a; blob = b; public = public; section = j .at })
       ≡ header-read.Header h = rw p₄ at g₃ in
-      let o : record { cipher = cipher; kdf = k; salt = salt; rounds = rounds; algorithm = a; blob = b; point = point; section = j .at } ≡ h = cc in
-      rw (← o) (joined cipher c k salt rounds d n i a b point j p₁ p₂ p₃ p₄)))))
+      let o : record { cipher = cipher; kdf = k; salt = salt; rounds = rounds; algorithm = a; blob = b; public = public; section = j .at } ≡ h = cc in
+      rw (← o) (joined cipher c k salt rounds d n i a b public j p₁ p₂ p₃ p₄)))))

@@ -9,6 +9,7 @@ use fields::Part;
 use fields::Refusal;
 use fields::Uint32;
 use keys::Blob;
+use keys::Public;
 use names::Algorithm;
 use names::Cipher;
 use names::CipherName;
@@ -24,7 +25,7 @@ pub struct Header {
     pub rounds: u32,
     pub algorithm: Algorithm,
     pub blob: Part,
-    pub point: Part,
+    pub public: Public,
     pub section: usize,
 }
 
@@ -182,7 +183,7 @@ fn read_count(c: Cursor, image: &[u8]) -> Uint32
 }
 
 enum BlobField {
-    Key(Algorithm, Part, Part, Cursor),
+    Key(Algorithm, Part, Public, Cursor),
     Refused(Fault),
 }
 
@@ -201,7 +202,7 @@ fn read_blob_field(c: Cursor, image: &[u8]) -> BlobField
             };
             match keys::read_blob(inside, image) {
                 Blob::Refused(f) => BlobField::Refused(f),
-                Blob::Key(a, point) => BlobField::Key(a, p, point, d),
+                Blob::Key(a, public) => BlobField::Key(a, p, public, d),
             }
         }
     }
@@ -220,7 +221,7 @@ pub fn read_header(image: &[u8]) -> HeaderRead
                 Uint32::Refused(f) => HeaderRead::Refused(f),
                 Uint32::Value(_, e) => match read_blob_field(e, image) {
                     BlobField::Refused(f) => HeaderRead::Refused(f),
-                    BlobField::Key(a, blob, point, g) => {
+                    BlobField::Key(a, blob, public, g) => {
                         let section = g.at;
                         HeaderRead::Header(Header {
                             cipher: cipher,
@@ -229,7 +230,7 @@ pub fn read_header(image: &[u8]) -> HeaderRead
                             rounds: rounds,
                             algorithm: a,
                             blob: blob,
-                            point: point,
+                            public: public,
                             section: section,
                         })
                     }

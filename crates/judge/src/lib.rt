@@ -1,10 +1,11 @@
 // Records that are handed in: is every field what an accepted read of the image gives?
 ghost use mathlib.Core.Path.{_≡_};
-ghost use Rattle.judge.specs.Judge.{kindCode, sameSection, isRead};
+ghost use Rattle.judge.specs.Judge.{kindCode, samePrivate, sameSection, isRead};
 use container::Fields;
 use container::ImageRead;
 use halves::same_header;
 use halves::same_part;
+use pairs::Private;
 use section::Kind;
 use section::Section;
 
@@ -18,6 +19,16 @@ pub fn kind_code(kind: Kind) -> u8
     }
 }
 
+pub fn same_private(a: Private, b: Private) -> bool
+    ensures { λ r. ⌜ r ≡ samePrivate a b ⌝ }
+{
+    same_part(a.scalar, b.scalar)
+        & same_part(a.d, b.d)
+        & same_part(a.iqmp, b.iqmp)
+        & same_part(a.p, b.p)
+        & same_part(a.q, b.q)
+}
+
 pub fn same_section(a: Section, b: Section) -> bool
     ensures { λ r. ⌜ r ≡ sameSection a b ⌝ }
 {
@@ -26,7 +37,7 @@ pub fn same_section(a: Section, b: Section) -> bool
     (kind_code(a_kind) == kind_code(b_kind))
         & (a.checkint == b.checkint)
         & (a.padding == b.padding)
-        & same_part(a.scalar, b.scalar)
+        & same_private(a.private, b.private)
         & same_part(a.comment, b.comment)
         & same_part(a.ciphertext, b.ciphertext)
         & same_part(a.tag, b.tag)

@@ -1,34 +1,43 @@
 -- Reading back: a public key, a blob or a keypair that stands at a place as the format writes it is read there, with its bytes.
-use Prim.Native.Nat.{ℕ, _+_, _*_, _≤_, _<_}
+use Prim.Native.Nat.{ℕ, _+_, _*_, _≤_, _<_, _^_}
 use native.Mathlib.Nat.{add-zero}
 use native.Mathlib.Omega.{arith}
 use mathlib.Core.Path.{_≡_, refl, sym, _∙_, ap}
 use mathlib.Core.Bool.{Bool, true, false}
-use mathlib.Core.List.{List, [], _∷_, _++_, append-nil}
+use mathlib.Core.List.{List, [], _∷_, _++_, append-assoc, append-nil}
 use borrow.Author.Tests.{eq-eqb, ne-eqb, eqb-true}
+use lib.Count.{leadingZeros}
 use lib.ListN.{length, getD, length-append}
-use Rattle.fields.specs.Bytes.{string, same-self}
-use Rattle.fields.specs.Fields.{part, stringAt, viewOf}
+use Rattle.fields.specs.Bytes.{string, join, same-self}
+use Rattle.fields.specs.Fields.{part, viewOf}
 use Rattle.fields.specs.Place.{clash}
-use Rattle.fields.specs.Rest.{rest, Good, view-byte, view-two}
+use Rattle.fields.specs.Rest.{rest, Good, view-byte, view-two, view-absent}
 use Rattle.fields.specs.Back.{FieldBack, also, string-back, fixed-back, end-back}
 use Rattle.fields.specs.declared.Cursor.{Cursor}
 use Rattle.fields.specs.declared.Part.{Part}
+use Rattle.names.specs.declared.Elliptic.{Elliptic}
+use Rattle.names.specs.declared.Elliptic.the-variants.{Ed25519, Ecdsa}
 use Rattle.names.specs.declared.Algorithm.{Algorithm}
-use Rattle.names.specs.declared.Algorithm.the-variants.{Ed25519, Ecdsa}
+use Rattle.names.specs.declared.Algorithm.the-variants.{Elliptic as OnCurve, Rsa}
 use Rattle.names.specs.declared.Curve.{Curve}
 use Rattle.names.specs.Algorithms.{algorithmName, curveName, sizeOf, curve-back, algorithm-back, algorithm-self, size-small}
-use Rattle.format.specs.Format.{curveField, blob, publicLength, privateLength, pointTag, privateField, standing, mayStand}
-use Rattle.format.specs.Laws.{blob-then}
+use Rattle.mpint.specs.Mpint.{zerosBefore, bits}
+use Rattle.format.specs.Format.{PublicBytes, PrivateBytes, ofPoint, ofScalar, ofModulus, ofNumbers, curveField, publicFields, blob, pairFields, keypair as pair, standing, mayStand, PublicFits, PrivateFits}
+use Rattle.format.specs.Laws.{blob-then, keypair-then}
 use Rattle.keys.specs.declared.EcdsaPublic.{EcdsaPublic}
 use Rattle.keys.specs.declared.EcdsaPublic.the-variants as ecdsa
 use Rattle.keys.specs.declared.PublicKey.{PublicKey}
 use Rattle.keys.specs.declared.PublicKey.the-variants as public
-use Rattle.keys.specs.declared.Blob.the-variants as key
+use Rattle.keys.specs.declared.Public.{Public}
+use Rattle.keys.specs.declared.Blob.{Blob}
+use Rattle.keys.specs.declared.Blob.the-variants as blob-key
+use Rattle.rsa.specs.declared.Six.{Six}
+use Rattle.pairs.specs.declared.Private.{Private}
 use Rattle.pairs.specs.declared.Keypair.{Keypair}
 use Rattle.pairs.specs.declared.Keypair.the-variants as keypair
-use Rattle.keys.specs.Keys.{pointAt, ecdsaPublicAt, ecdsaKeyAt, publicKeyAt, blobAt}
-use Rattle.pairs.specs.Pairs.{scalarAt, ed25519PairAt, ecdsaPairAt, keypairAt}
+use Rattle.keys.specs.Keys.{onAlgorithm, pointAt, ecdsaPublicAt, pointPlace, modulusPlace, publicBytes, ecdsaKeyAt, ellipticKeyAt, rsaKeyAt, publicKeyAt, blobAt}
+use Rattle.key_laws.specs.RsaBack.{rsa-public-back, rsa-pair-back}
+use Rattle.pairs.specs.Pairs.{scalarAt, scalarPlace, numbersPlace, privateBytes, ed25519PairAt, ecdsaPairAt, ellipticPairAt, rsaKeypairAt, keypairAt}
 
 -- the first byte of a part is that of its bytes
 first-byte :
@@ -70,12 +79,13 @@ module _ (s : List ℕ) (c : Cursor) (good : Good s c) (size : ℕ) (small : siz
         more = a .more;
       }
 
--- an answer that has a key, its bytes, and what is left
-pub record KeyBack (s : List ℕ) (w : PublicKey) (a : Algorithm) (point t : List ℕ) : Type 0 where
-  pub place : Part
+-- an answer that has a key, its bytes, the bits of its modulus, and what is left
+pub record KeyBack (s : List ℕ) (w : PublicKey) (a : Algorithm) (key : PublicBytes) (t : List ℕ) : Type 0 where
+  pub place : Public
   pub next : Cursor
   pub read : w ≡ public.Key a place next
-  pub seen : viewOf s place ≡ point
+  pub seen : publicBytes s place ≡ key
+  pub counted : place .bits ≡ bits (key .modulus)
   pub good : Good s next
   pub more : rest s next ≡ t
 
@@ -103,114 +113,228 @@ ecdsa-public-back s c good k x t l four e =
       more = p .more;
     }
 
--- the name of an algorithm and what comes after it
-name-back :
-    (s : List ℕ) (c : Cursor) → Good s c → (a : Algorithm) (x t : List ℕ) → rest s c ≡ blob a x ++ t
-    → FieldBack s (stringAt s c) (algorithmName a) (curveField a ++ (string x ++ t))
-name-back s c good a x t e = string-back s c good (algorithmName a) (curveField a ++ (string x ++ t)) (algorithm-back a .1) (e ∙ blob-then a x t)
+-- no bytes have no bits
+bits-none : (key : PublicBytes) → key ≡ ofPoint (key .point) → bits (key .modulus) ≡ 0
+unfolding bits zerosBefore leadingZeros
+bits-none key only = ap (λ (k : PublicBytes). bits (k .modulus)) only
 
--- a public key as the format writes it
-public-key-back :
-    (s : List ℕ) (c : Cursor) → Good s c → (a : Algorithm) (x t : List ℕ) → length x ≡ publicLength a → pointTag a x ≡ true
-    → rest s c ≡ blob a x ++ t → KeyBack s (publicKeyAt s c) a x t
-unfolding publicKeyAt ecdsaKeyAt
-public-key-back s c good Ed25519 x t l four e =
-    let n = name-back s c good Ed25519 x t e in
-    let p = fixed-back s (n .next) (n .good) x t (omega arith) (n .more) 32 l in
+-- what is seen at a key's places
+point-seen : (s : List ℕ) (p : Part) (key : PublicBytes) → viewOf s p ≡ key .point → key ≡ ofPoint (key .point) → publicBytes s (pointPlace p) ≡ key
+unfolding publicBytes pointPlace
+point-seen s p key seen only = rw (seen, view-absent s) (sym only)
+
+modulus-seen :
+    (s : List ℕ) (n e : Part) (k : ℕ) (key : PublicBytes) → viewOf s n ≡ key .modulus → viewOf s e ≡ key .exponent
+    → key ≡ ofModulus (key .modulus) (key .exponent) → publicBytes s (modulusPlace n e k) ≡ key
+unfolding publicBytes modulusPlace
+modulus-seen s n e k key seen-n seen-e only = rw (seen-n, seen-e, view-absent s) (sym only)
+
+scalar-seen : (s : List ℕ) (p : Part) (x : PrivateBytes) → viewOf s p ≡ x .scalar → x ≡ ofScalar (x .scalar) → privateBytes s (scalarPlace p) ≡ x
+unfolding privateBytes scalarPlace
+scalar-seen s p x seen only = rw (seen, view-absent s) (sym only)
+
+numbers-seen :
+    (s : List ℕ) (y : Six) (x : PrivateBytes) → viewOf s (y .d) ≡ x .d → viewOf s (y .iqmp) ≡ x .iqmp → viewOf s (y .p) ≡ x .p → viewOf s (y .q) ≡ x .q
+    → x ≡ ofNumbers (x .d) (x .iqmp) (x .p) (x .q) → privateBytes s (numbersPlace y) ≡ x
+unfolding privateBytes numbersPlace
+numbers-seen s y x seen-d seen-iqmp seen-p seen-q only = rw (seen-d, seen-iqmp, seen-p, seen-q, view-absent s) (sym only)
+
+-- the fields of a key over a curve
+elliptic-key-back :
+    (s : List ℕ) (c : Cursor) → Good s c → (e : Elliptic) (key : PublicBytes) (t : List ℕ) → PublicFits (OnCurve e) key
+    → rest s c ≡ curveField e ++ (string (key .point) ++ t) → KeyBack s (ellipticKeyAt s c e) (OnCurve e) key t
+unfolding ellipticKeyAt ecdsaKeyAt pointPlace
+elliptic-key-back s c good Ed25519 key t fits e =
+    let p = fixed-back s c good (key .point) t (omega (arith, fits .0)) e 32 (fits .0) in
     record {
-      place = p .place;
+      place = pointPlace (p .place);
       next = p .next;
-      read = rw (n .read, n .seen, algorithm-back Ed25519 .0, p .read);
-      seen = p .seen;
+      read = rw (p .read);
+      seen = point-seen s (p .place) key (p .seen) (fits .2);
+      counted = sym (bits-none key (fits .2));
       good = p .good;
       more = p .more;
     }
-public-key-back s c good (Ecdsa k) x t l four e =
-    let n = name-back s c good (Ecdsa k) x t e in
-    let p = ecdsa-public-back s (n .next) (n .good) k x t l (eqb-true _ _ four) (n .more) in
+elliptic-key-back s c good (Ecdsa k) key t fits e =
+    let p = ecdsa-public-back s c good k (key .point) t (fits .0) (eqb-true _ _ (fits .1)) e in
+    record {
+      place = pointPlace (p .place);
+      next = p .next;
+      read = rw (p .read, algorithm-self);
+      seen = point-seen s (p .place) key (p .seen) (fits .2);
+      counted = sym (bits-none key (fits .2));
+      good = p .good;
+      more = p .more;
+    }
+
+-- the numbers of an RSA key
+rsa-key-back :
+    (s : List ℕ) (c : Cursor) → Good s c → length s < 2 ^ 32 → (key : PublicBytes) (t : List ℕ) → PublicFits Rsa key
+    → rest s c ≡ string (key .exponent) ++ (string (key .modulus) ++ t) → KeyBack s (rsaKeyAt s c) Rsa key t
+unfolding rsaKeyAt modulusPlace
+rsa-key-back s c good small key t fits e =
+    let p = rsa-public-back s small c good (key .modulus) (key .exponent) t (fits .0) e in
+    record {
+      place = modulusPlace (p .modulus) (p .exponent) (bits (key .modulus));
+      next = p .next;
+      read = rw (p .read);
+      seen = modulus-seen s (p .modulus) (p .exponent) (bits (key .modulus)) key (p .seen-n) (p .seen-e) (fits .1);
+      counted = refl;
+      good = p .good;
+      more = p .more;
+    }
+
+-- the fields that a name asks for
+key-fields-back :
+    (s : List ℕ) (c : Cursor) → Good s c → length s < 2 ^ 32 → (a : Algorithm) (key : PublicBytes) (t : List ℕ) → PublicFits a key
+    → rest s c ≡ join (publicFields a key) ++ t → KeyBack s (onAlgorithm a (ellipticKeyAt s c) (rsaKeyAt s c)) a key t
+key-fields-back s c good small (OnCurve k) key t fits e = elliptic-key-back s c good k key t fits (e ∙ simp append-assoc)
+key-fields-back s c good small Rsa key t fits e = rsa-key-back s c good small key t fits (e ∙ simp append-assoc)
+
+-- a public key as the format writes it
+public-key-back :
+    (s : List ℕ) (c : Cursor) → Good s c → length s < 2 ^ 32 → (a : Algorithm) (key : PublicBytes) (t : List ℕ) → PublicFits a key
+    → rest s c ≡ blob a key ++ t → KeyBack s (publicKeyAt s c) a key t
+unfolding publicKeyAt
+public-key-back s c good small a key t fits e =
+    let n = string-back s c good (algorithmName a) (join (publicFields a key) ++ t) (algorithm-back a .1) (e ∙ blob-then a key t) in
+    let p = key-fields-back s (n .next) (n .good) small a key t fits (n .more) in
     record {
       place = p .place;
       next = p .next;
-      read = rw (n .read, n .seen, algorithm-back (Ecdsa k) .0, p .read, algorithm-self);
+      read = rw (n .read, n .seen, algorithm-back a .0) (p .read);
       seen = p .seen;
+      counted = p .counted;
       good = p .good;
       more = p .more;
     }
 
 -- a whole blob
-pub blob-back :
-    (s : List ℕ) (c : Cursor) → Good s c → (a : Algorithm) (x : List ℕ) → length x ≡ publicLength a → pointTag a x ≡ true
-    → rest s c ≡ blob a x → (p : Part) × (blobAt s c ≡ key.Key a p) × (viewOf s p ≡ x)
-unfolding blobAt
-blob-back s c good a x l four e =
-    let k = public-key-back s c good a x [] l four (e ∙ sym (append-nil (blob a x))) in
-    (k .place, rw (k .read, end-back s (k .next) (k .good) (k .more)), k .seen)
+pub record BlobBack (s : List ℕ) (w : Blob) (a : Algorithm) (key : PublicBytes) : Type 0 where
+  pub place : Public
+  pub read : w ≡ blob-key.Key a place
+  pub seen : publicBytes s place ≡ key
+  pub counted : place .bits ≡ bits (key .modulus)
 
--- a keypair: its public and its private bytes, and what is left
-pub record PairBack (s : List ℕ) (w : Keypair) (a : Algorithm) (point scalar t : List ℕ) : Type 0 where
-  pub place : Part
-  pub private : Part
+pub blob-back :
+    (s : List ℕ) (c : Cursor) → Good s c → length s < 2 ^ 32 → (a : Algorithm) (key : PublicBytes) → PublicFits a key → rest s c ≡ blob a key
+    → BlobBack s (blobAt s c) a key
+unfolding blobAt
+blob-back s c good small a key fits e =
+    let p = public-key-back s c good small a key [] fits (e ∙ sym (append-nil (blob a key))) in
+    record {
+      place = p .place;
+      read = rw (p .read, end-back s (p .next) (p .good) (p .more));
+      seen = p .seen;
+      counted = p .counted;
+    }
+
+-- an answer that has a keypair, its bytes, and what is left
+pub record PairBack (s : List ℕ) (w : Keypair) (a : Algorithm) (key : PublicBytes) (x : PrivateBytes) (t : List ℕ) : Type 0 where
+  pub place : Public
+  pub private : Private
   pub next : Cursor
   pub read : w ≡ keypair.Pair a place private next
-  pub seen : viewOf s place ≡ point
-  pub kept : viewOf s private ≡ scalar
+  pub seen : publicBytes s place ≡ key
+  pub kept : privateBytes s private ≡ x
   pub good : Good s next
   pub more : rest s next ≡ t
 
 -- seed and public string in one string
 ed25519-pair-back :
-    (s : List ℕ) (c : Cursor) → Good s c → (x y t : List ℕ) → length x ≡ 32 → length y ≡ 32
-    → rest s c ≡ string x ++ (string (y ++ x) ++ t) → PairBack s (ed25519PairAt s c) Ed25519 x y t
+    (s : List ℕ) (c : Cursor) → Good s c → (key : PublicBytes) (x : PrivateBytes) (t : List ℕ) → PublicFits (OnCurve Ed25519) key → PrivateFits (OnCurve Ed25519) key x
+    → rest s c ≡ string (key .point) ++ (string (x .scalar ++ key .point) ++ t) → PairBack s (ed25519PairAt s c) (OnCurve Ed25519) key x t
 unfolding ed25519PairAt
-ed25519-pair-back s c good x y t lx ly e =
-    let p = fixed-back s c good x (string (y ++ x) ++ t) (omega arith) e 32 lx in
-    let l : length (y ++ x) ≡ 64 = length-append y x ∙ omega arith in
-    let q = fixed-back s (p .next) (p .good) (y ++ x) t (omega arith) (p .more) 64 l in
+ed25519-pair-back s c good key x t fits fit e =
+    let point = key .point in
+    let seed = x .scalar in
+    let p = fixed-back s c good point (string (seed ++ point) ++ t) (omega (arith, fits .0)) e 32 (fits .0) in
+    let l : length (seed ++ point) ≡ 64 = length-append seed point ∙ omega (arith, fits .0, fit .0) in
+    let q = fixed-back s (p .next) (p .good) (seed ++ point) t (omega arith) (p .more) 64 l in
     let start = q .place .start in
     let size : q .place .length ≡ 64 = q .size ∙ l in
-    let two = view-two s (q .place) 32 32 y x (q .inside) (omega arith) ly (q .seen) in
+    let two = view-two s (q .place) 32 32 seed point (q .inside) (omega arith) (fit .0) (q .seen) in
     record {
-      place = p .place;
-      private = part start 32;
+      place = pointPlace (p .place);
+      private = scalarPlace (part start 32);
       next = q .next;
-      read = rw (p .read, q .read, two .1, p .seen, same-self x);
-      seen = p .seen;
-      kept = two .0;
+      read = rw (p .read, q .read, two .1, p .seen, same-self point);
+      seen = point-seen s (p .place) key (p .seen) (fits .2);
+      kept = scalar-seen s (part start 32) x (two .0) (fit .1);
       good = q .good;
       more = q .more;
     }
 
--- a keypair as the format writes it, with its scalar in either form
+-- curve, point and scalar, in either of its forms
+ecdsa-pair-back :
+    (s : List ℕ) (c : Cursor) → Good s c → (k : Curve) (zero : Bool) (key : PublicBytes) (x : PrivateBytes) (t : List ℕ) → PublicFits (OnCurve (Ecdsa k)) key
+    → PrivateFits (OnCurve (Ecdsa k)) key x
+    → rest s c ≡ string (curveName k) ++ (string (key .point) ++ (string (standing zero (x .scalar)) ++ t))
+    → PairBack s (ecdsaPairAt s c k) (OnCurve (Ecdsa k)) key x t
+unfolding ecdsaPairAt
+ecdsa-pair-back s c good k zero key x t fits fit e =
+    let p = ecdsa-public-back s c good k (key .point) (string (standing zero (x .scalar)) ++ t) (fits .0) (eqb-true _ _ (fits .1)) e in
+    let q = scalar-back s (p .next) (p .good) (sizeOf k) (size-small k .1) (x .scalar) t (fit .0) zero (p .more) in
+    record {
+      place = pointPlace (p .place);
+      private = scalarPlace (q .place);
+      next = q .next;
+      read = rw (p .read, q .read, algorithm-self);
+      seen = point-seen s (p .place) key (p .seen) (fits .2);
+      kept = scalar-seen s (q .place) x (q .seen) (fit .1);
+      good = q .good;
+      more = q .more;
+    }
+
+-- n, e, d, iqmp, p, q
+rsa-keypair-back :
+    (s : List ℕ) (c : Cursor) → Good s c → length s < 2 ^ 32 → (key : PublicBytes) (x : PrivateBytes) (t : List ℕ) → PublicFits Rsa key → PrivateFits Rsa key x
+    → rest s c
+    ≡ string (key .modulus) ++ (string (key .exponent) ++ (string (x .d) ++ (string (x .iqmp) ++ (string (x .p) ++ (string (x .q) ++ t)))))
+    → PairBack s (rsaKeypairAt s c) Rsa key x t
+unfolding rsaKeypairAt
+rsa-keypair-back s c good small key x t fits fit e =
+    let r = rsa-pair-back s small c good (key .modulus) (key .exponent) (x .d) (x .iqmp) (x .p) (x .q) t (fits .0) (fit .0) e in
+    record {
+      place = modulusPlace (r .numbers .n) (r .numbers .e) (bits (key .modulus));
+      private = numbersPlace (r .numbers);
+      next = r .next;
+      read = rw (r .read);
+      seen = modulus-seen s (r .numbers .n) (r .numbers .e) (bits (key .modulus)) key (r .seen-n) (r .seen-e) (fits .1);
+      kept = numbers-seen s (r .numbers) x (r .seen-d) (r .seen-iqmp) (r .seen-p) (r .seen-q) (fit .1);
+      good = r .good;
+      more = r .more;
+    }
+
+-- the fields that a name asks for
+pair-fields-back :
+    (s : List ℕ) (c : Cursor) → Good s c → length s < 2 ^ 32 → (a : Algorithm) (zero : Bool) (key : PublicBytes) (x : PrivateBytes) (t : List ℕ) → PublicFits a key
+    → PrivateFits a key x → mayStand a zero ≡ true → rest s c ≡ join (pairFields a zero key x) ++ t
+    → PairBack s (onAlgorithm a (ellipticPairAt s c) (rsaKeypairAt s c)) a key x t
+unfolding ellipticPairAt
+pair-fields-back s c good small (OnCurve Ed25519) true key x t fits fit may e = clash cc
+pair-fields-back s c good small (OnCurve Ed25519) false key x t fits fit may e =
+    ed25519-pair-back s c good key x t fits fit (e ∙ simp append-assoc)
+pair-fields-back s c good small (OnCurve (Ecdsa k)) zero key x t fits fit may e =
+    ecdsa-pair-back s c good k zero key x t fits fit (e ∙ simp append-assoc)
+pair-fields-back s c good small Rsa zero key x t fits fit may e =
+    rsa-keypair-back s c good small key x t fits fit (e ∙ simp append-assoc)
+
+-- a keypair as the format writes it, a scalar in either form
 pub keypair-back :
-    (s : List ℕ) (c : Cursor) → Good s c → (a : Algorithm) (zero : Bool) (x y t : List ℕ) → length x ≡ publicLength a → pointTag a x ≡ true
-    → length y ≡ privateLength a → mayStand a zero ≡ true → rest s c ≡ blob a x ++ (privateField a x (standing zero y) ++ t)
-    → PairBack s (keypairAt s c) a x y t
-unfolding keypairAt ecdsaPairAt
-keypair-back s c good Ed25519 true x y t lx four ly may e = clash cc
-keypair-back s c good Ed25519 false x y t lx four ly may e =
-    let n = name-back s c good Ed25519 x (string (y ++ x) ++ t) e in
-    let p = ed25519-pair-back s (n .next) (n .good) x y t lx ly (n .more) in
+    (s : List ℕ) (c : Cursor) → Good s c → length s < 2 ^ 32 → (a : Algorithm) (zero : Bool) (key : PublicBytes) (x : PrivateBytes) (t : List ℕ) → PublicFits a key
+    → PrivateFits a key x → mayStand a zero ≡ true → rest s c ≡ pair a zero key x ++ t → PairBack s (keypairAt s c) a key x t
+unfolding keypairAt
+keypair-back s c good small a zero key x t fits fit may e =
+    let n = string-back s c good (algorithmName a) (join (pairFields a zero key x) ++ t) (algorithm-back a .1) (e ∙ keypair-then a zero key x t) in
+    let p = pair-fields-back s (n .next) (n .good) small a zero key x t fits fit may (n .more) in
     record {
       place = p .place;
       private = p .private;
       next = p .next;
-      read = rw (n .read, n .seen, algorithm-back Ed25519 .0) (p .read);
+      read = rw (n .read, n .seen, algorithm-back a .0) (p .read);
       seen = p .seen;
       kept = p .kept;
       good = p .good;
       more = p .more;
-    }
-keypair-back s c good (Ecdsa k) zero x y t lx four ly may e =
-    let n = name-back s c good (Ecdsa k) x (string (standing zero y) ++ t) e in
-    let p = ecdsa-public-back s (n .next) (n .good) k x (string (standing zero y) ++ t) lx (eqb-true _ _ four) (n .more) in
-    let q = scalar-back s (p .next) (p .good) (sizeOf k) (size-small k .1) y t ly zero (p .more) in
-    record {
-      place = p .place;
-      private = q .place;
-      next = q .next;
-      read = rw (n .read, n .seen, algorithm-back (Ecdsa k) .0, p .read, q .read, algorithm-self);
-      seen = p .seen;
-      kept = q .seen;
-      good = q .good;
-      more = q .more;
     }

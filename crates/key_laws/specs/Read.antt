@@ -2,37 +2,45 @@
 use Prim.Native.Nat.{ℕ, _+_, _-_, _*_, _≤_}
 use native.Mathlib.Nat.{add-zero}
 use native.Mathlib.Omega.{arith}
-use mathlib.Core.Path.{_≡_, refl, sym, _∙_, ap}
+use mathlib.Core.Path.{_≡_, refl, sym, _∙_, ap, ap₂}
 use mathlib.Core.Bool.{true}
-use mathlib.Core.List.{List, _++_, append-nil}
+use mathlib.Core.List.{List, _++_, append-assoc, append-nil}
 use borrow.Author.Tests.{eq-eqb, eqb-true}
 use lib.Dec.{eqb}
 use lib.ListN.{length, getD}
-use Rattle.fields.specs.Bytes.{string, AllBytes}
-use Rattle.fields.specs.Fields.{onField, stringAt, fixedAt, endAt, viewOf}
+use Rattle.fields.specs.Bytes.{string, join, AllBytes}
+use Rattle.fields.specs.Fields.{part, onField, stringAt, fixedAt, endAt, viewOf}
 use Rattle.fields.specs.Place.{clash, by-field, by-bool, by-ending, fixed-place, string-place}
-use Rattle.fields.specs.Rest.{rest, view-byte}
+use Rattle.fields.specs.Rest.{rest, view-byte, view-absent}
 use Rattle.fields.specs.Read.{StringRead, string-read, end-read}
 use Rattle.fields.specs.declared.Cursor.{Cursor}
 use Rattle.fields.specs.declared.Fault.{Fault}
 use Rattle.fields.specs.declared.Part.{Part}
 use Rattle.fields.specs.declared.Field.the-variants as field
+use Rattle.names.specs.declared.Elliptic.{Elliptic}
+use Rattle.names.specs.declared.Elliptic.the-variants.{Ed25519, Ecdsa}
 use Rattle.names.specs.declared.Algorithm.{Algorithm}
-use Rattle.names.specs.declared.Algorithm.the-variants.{Ed25519, Ecdsa}
+use Rattle.names.specs.declared.Algorithm.the-variants.{Elliptic as OnCurve, Rsa}
 use Rattle.names.specs.declared.AlgorithmName.{AlgorithmName}
 use Rattle.names.specs.declared.AlgorithmName.the-variants as algorithm-name
 use Rattle.names.specs.declared.Curve.{Curve}
 use Rattle.names.specs.declared.CurveName.{CurveName}
 use Rattle.names.specs.declared.CurveName.the-variants as curve-name
 use Rattle.names.specs.Algorithms.{algorithmName, algorithmNamed, curveName, curveNamed, sizeOf, sameAlgorithm, curve-read, algorithm-read, algorithm-same}
-use Rattle.format.specs.Format.{blob, publicLength, pointTag}
+use Rattle.mpint.specs.Mpint.{bits}
+use Rattle.format.specs.Format.{PublicBytes, curveField, publicLength, pointTag, publicFields, blob, PublicFits}
 use Rattle.format.specs.Laws.{blob-then}
 use Rattle.keys.specs.declared.EcdsaPublic.{EcdsaPublic}
 use Rattle.keys.specs.declared.EcdsaPublic.the-variants as ecdsa
 use Rattle.keys.specs.declared.PublicKey.{PublicKey}
 use Rattle.keys.specs.declared.PublicKey.the-variants as public
 use Rattle.keys.specs.declared.Blob.the-variants as key
-use Rattle.keys.specs.Keys.{onAlgorithm, pointAt, ecdsaPublicAt, ecdsaKeyAt, publicKeyAt, blobAt}
+use Rattle.rsa.specs.declared.RsaPublic.{RsaPublic}
+use Rattle.rsa.specs.declared.RsaPublic.the-variants as rsa-public
+use Rattle.rsa.specs.Rsa.{rsaPublicAt}
+use Rattle.keys.specs.declared.Public.{Public}
+use Rattle.keys.specs.Keys.{onAlgorithm, pointAt, ecdsaPublicAt, pointPlace, modulusPlace, publicBytes, ecdsaKeyAt, ellipticKeyAt, rsaKeyAt, publicKeyAt, blobAt}
+use Rattle.key_laws.specs.RsaRead.{RsaPublicRead, rsa-public-read}
 
 -- by cases, with the equation in hand
 by-curve : {P : Type 0} (w : CurveName) → (w ≡ curve-name.Unknown → P) → ((k : Curve) → w ≡ curve-name.Known k → P) → P
@@ -47,9 +55,29 @@ pub by-ecdsa : {P : Type 0} (w : EcdsaPublic) → ((f : Fault) → w ≡ ecdsa.R
 by-ecdsa (ecdsa.Refused f) refused point = refused f refl
 by-ecdsa (ecdsa.Point k p c) refused point = point k p c refl
 
-by-public : {P : Type 0} (w : PublicKey) → ((f : Fault) → w ≡ public.Refused f → P) → ((a : Algorithm) (p : Part) (c : Cursor) → w ≡ public.Key a p c → P) → P
+by-public : {P : Type 0} (w : PublicKey) → ((f : Fault) → w ≡ public.Refused f → P) → ((a : Algorithm) (p : Public) (c : Cursor) → w ≡ public.Key a p c → P) → P
 by-public (public.Refused f) refused key′ = refused f refl
 by-public (public.Key a p c) refused key′ = key′ a p c refl
+
+-- where a public key's parts lie, if it ends at a place: its last part ends there, and four length bytes stand before each
+abbrev endingAt : ℕ → ℕ → Part
+endingAt end k = part (end - k) k
+
+unfoldable pub publicPlace : ℕ → Algorithm → PublicBytes → Public
+publicPlace end (OnCurve e) key = pointPlace (endingAt end (length (key .point)))
+publicPlace end Rsa key =
+    modulusPlace (endingAt end (length (key .modulus))) (endingAt (end - length (key .modulus) - 4) (length (key .exponent))) (bits (key .modulus))
+
+ending-is : (p : Part) (end k : ℕ) → p .length ≡ k → p .start + p .length ≡ end → p ≡ endingAt end k
+ending-is p end k size ends =
+    let start : p .start ≡ end - k = omega (arith, size, ends) in
+    ap₂ part start size
+
+by-rsa-public :
+    {P : Type 0} (w : RsaPublic) → ((f : Fault) → w ≡ rsa-public.Refused f → P)
+    → ((n e : Part) (k : ℕ) (c : Cursor) → w ≡ rsa-public.Numbers n e k c → P) → P
+by-rsa-public (rsa-public.Refused f) refused numbers = refused f refl
+by-rsa-public (rsa-public.Numbers n e k c) refused numbers = numbers n e k c refl
 
 module _ (s : List ℕ) (all : AllBytes s) where
   -- the place after a part is its end, within what encloses it, and the part is as long as it looks
@@ -112,42 +140,122 @@ module _ (s : List ℕ) (all : AllBytes s) where
         lies b p d (t .0),
       ))))
 
-  -- the fields after the name: Ed25519's public string, or curve and point
+  -- the fields that a name asks for
+  record FieldsRead (c : Cursor) (named a : Algorithm) (p : Public) (d : Cursor) : Type 0 where
+    pub kind : named ≡ a
+    pub text : rest s c ≡ join (publicFields named (publicBytes s p)) ++ rest s d
+    pub fits : PublicFits named (publicBytes s p)
+    pub end : d .end ≡ c .end
+    pub inside : d .at ≤ d .end
+    pub lies : p ≡ publicPlace (d .at) named (publicBytes s p)
+
+  -- a point after its curve's name, or a public string
+  point-fields :
+      (c : Cursor) (e : Elliptic) (q : Part) (d : Cursor) → rest s c ≡ curveField e ++ (string (viewOf s q) ++ rest s d) → length (viewOf s q) ≡ publicLength e
+      → pointTag e (viewOf s q) ≡ true → d .end ≡ c .end → Lies q d → FieldsRead c (OnCurve e) (OnCurve e) (pointPlace q) d
+  unfolding publicBytes pointPlace publicPlace
+  point-fields c e q d text long tag end lie =
+      record {
+        kind = refl;
+        text = text ∙ simp append-assoc;
+        fits = (long, tag, rw (view-absent s));
+        end = end;
+        inside = lie .1;
+        lies = ap pointPlace (ending-is q (d .at) (length (viewOf s q)) (sym (lie .2)) (sym (lie .0)));
+      }
+
   ecdsa-key-read :
-      (c : Cursor) (named : Curve) (a : Algorithm) (p : Part) (d : Cursor) → ecdsaKeyAt s c named ≡ public.Key a p d
-      → (a ≡ Ecdsa named) × (rest s c ≡ string (curveName named) ++ (string (viewOf s p) ++ rest s d))
-      × (length (viewOf s p) ≡ 1 + 2 * sizeOf named) × (pointTag (Ecdsa named) (viewOf s p) ≡ true) × (d .end ≡ c .end) × Lies p d
+      (c : Cursor) (named : Curve) (a : Algorithm) (p : Public) (d : Cursor) → ecdsaKeyAt s c named ≡ public.Key a p d
+      → FieldsRead c (OnCurve (Ecdsa named)) a p d
   unfolding ecdsaKeyAt
   ecdsa-key-read c named a p d e =
       by-ecdsa (ecdsaPublicAt s c)
       (λ f w. let g : public.Refused f ≡ public.Key a p d = rw w at e in clash cc)
       (λ k q x w.
       let g = rw w at e in
-      by-bool (sameAlgorithm (Ecdsa k) (Ecdsa named))
+      by-bool (sameAlgorithm (OnCurve (Ecdsa k)) (OnCurve (Ecdsa named)))
       (λ v.
-      let h : public.Key (Ecdsa named) q x ≡ public.Key a p d = rw v at g in
-      let same : Ecdsa k ≡ Ecdsa named = algorithm-same (Ecdsa k) (Ecdsa named) v in
+      let h : public.Key (OnCurve (Ecdsa named)) (pointPlace q) x ≡ public.Key a p d = rw v at g in
+      let same : OnCurve (Ecdsa k) ≡ OnCurve (Ecdsa named) = algorithm-same (OnCurve (Ecdsa k)) (OnCurve (Ecdsa named)) v in
       let j : k ≡ named = cc in
-      let o : q ≡ p = cc in
+      let i : OnCurve (Ecdsa named) ≡ a = cc in
+      let o : pointPlace q ≡ p = cc in
       let m : x ≡ d = cc in
-      let r = ecdsa-public-read c named p d (rw (j, o, m) at w) in
-      (cc, r .0, r .1, r .2, r .3, r .4))
+      let r = ecdsa-public-read c named q d (rw (j, m) at w) in
+      rw (← i, ← o) (point-fields c (Ecdsa named) q d (r .0) (r .1) (r .2) (r .3) (r .4)))
       (λ v. let h = rw v at g in clash cc))
 
-  -- an accepted public key
-  pub record KeyRead (c : Cursor) (a : Algorithm) (p : Part) (d : Cursor) : Type 0 where
-    pub text : rest s c ≡ blob a (viewOf s p) ++ rest s d
-    pub long : length (viewOf s p) ≡ publicLength a
-    pub tag : pointTag a (viewOf s p) ≡ true
-    pub end : d .end ≡ c .end
-    pub lies : Lies p d
+  ed25519-key-read :
+      (c : Cursor) (a : Algorithm) (p : Public) (d : Cursor)
+      → onField (fixedAt s c 32) public.Refused (λ point e. public.Key (OnCurve Ed25519) (pointPlace point) e) ≡ public.Key a p d
+      → FieldsRead c (OnCurve Ed25519) a p d
+  ed25519-key-read c a p d h =
+      by-field (fixedAt s c 32)
+      (λ f u. let i : public.Refused f ≡ public.Key a p d = rw u at h in clash cc)
+      (λ q x u.
+      let i : public.Key (OnCurve Ed25519) (pointPlace q) x ≡ public.Key a p d = rw u at h in
+      let j : OnCurve Ed25519 ≡ a = cc in
+      let o : pointPlace q ≡ p = cc in
+      let m : x ≡ d = cc in
+      let f = fixed-place s c 32 q d (rw m at u) in
+      let r = string-read s all c q d (f .0) in
+      rw (← j, ← o) (point-fields c Ed25519 q d (r .text) (r .size ∙ f .1) refl (r .place .placed .end) (lies c q d r)))
+
+  -- e and n
+  modulus-fields : (c : Cursor) (n x : Part) (k : ℕ) (d : Cursor) → RsaPublicRead s all c n x k d → FieldsRead c Rsa Rsa (modulusPlace n x k) d
+  unfolding publicBytes modulusPlace publicPlace
+  modulus-fields c n x k d r =
+      let lie = lies (r .numbers .mid) n d (r .numbers .second) in
+      let before = lies c x (r .numbers .mid) (r .numbers .first) in
+      let starts = r .numbers .second .place .placed .start in
+      let at-n = ending-is n (d .at) (length (viewOf s n)) (sym (lie .2)) (sym (lie .0)) in
+      let at-e = ending-is x (d .at - length (viewOf s n) - 4) (length (viewOf s x)) (sym (before .2)) (omega (arith, lie, before, starts)) in
+      record {
+        kind = refl;
+        text = r .text ∙ simp append-assoc;
+        fits = (r .fits, rw (view-absent s));
+        end = r .end;
+        inside = lie .1;
+        lies = three at-n at-e (r .counted);
+      }
+    where
+      three : {n′ x′ : Part} {k′ : ℕ} → n ≡ n′ → x ≡ x′ → k ≡ k′ → modulusPlace n x k ≡ modulusPlace n′ x′ k′
+      three p q o = cc
+
+  rsa-key-read : (c : Cursor) (a : Algorithm) (p : Public) (d : Cursor) → rsaKeyAt s c ≡ public.Key a p d → FieldsRead c Rsa a p d
+  unfolding rsaKeyAt
+  rsa-key-read c a p d e =
+      by-rsa-public (rsaPublicAt s c)
+      (λ f w. let g : public.Refused f ≡ public.Key a p d = rw w at e in clash cc)
+      (λ n x k y w.
+      let g : public.Key Rsa (modulusPlace n x k) y ≡ public.Key a p d = rw w at e in
+      let i : Rsa ≡ a = cc in
+      let o : modulusPlace n x k ≡ p = cc in
+      let m : y ≡ d = cc in
+      rw (← i, ← o) (modulus-fields c n x k d (rsa-public-read s all c n x k d (rw m at w))))
+
+  named-fields :
+      (c : Cursor) (named a : Algorithm) (p : Public) (d : Cursor) → onAlgorithm named (ellipticKeyAt s c) (rsaKeyAt s c) ≡ public.Key a p d
+      → FieldsRead c named a p d
+  unfolding ellipticKeyAt
+  named-fields c (OnCurve Ed25519) a p d e = ed25519-key-read c a p d e
+  named-fields c (OnCurve (Ecdsa k)) a p d e = ecdsa-key-read c k a p d e
+  named-fields c Rsa a p d e = rsa-key-read c a p d e
 
   -- the name, then the fields that it asks for
   pub named-text : (c : Cursor) (n : Part) (b : Cursor) (a : Algorithm) → stringAt s c ≡ field.Part n b → algorithmNamed (viewOf s n) ≡ algorithm-name.Known a
       → rest s c ≡ string (algorithmName a) ++ rest s b
   named-text c n b a w v = rw (algorithm-read (viewOf s n) a v) at (string-read s all c n b w .text)
 
-  public-key-read : (c : Cursor) (a : Algorithm) (p : Part) (d : Cursor) → publicKeyAt s c ≡ public.Key a p d → KeyRead c a p d
+  -- an accepted public key
+  pub record KeyRead (c : Cursor) (a : Algorithm) (p : Public) (d : Cursor) : Type 0 where
+    pub text : rest s c ≡ blob a (publicBytes s p) ++ rest s d
+    pub fits : PublicFits a (publicBytes s p)
+    pub end : d .end ≡ c .end
+    pub inside : d .at ≤ d .end
+    pub lies : p ≡ publicPlace (d .at) a (publicBytes s p)
+
+  public-key-read : (c : Cursor) (a : Algorithm) (p : Public) (d : Cursor) → publicKeyAt s c ≡ public.Key a p d → KeyRead c a p d
   unfolding publicKeyAt
   public-key-read c a p d e =
       by-field (stringAt s c)
@@ -156,48 +264,25 @@ module _ (s : List ℕ) (all : AllBytes s) where
       let g = rw w at e in
       by-algorithm (algorithmNamed (viewOf s n))
       (λ v. let h = rw v at g in clash cc)
-      (λ j v. let h = rw v at g in go n b w j v h))
-    where
-      go :
-          (n : Part) (b : Cursor) → stringAt s c ≡ field.Part n b → (j : Algorithm) → algorithmNamed (viewOf s n) ≡ algorithm-name.Known j
-          → onAlgorithm j (onField (fixedAt s b 32) public.Refused (λ point e′. public.Key Ed25519 point e′)) (ecdsaKeyAt s b) ≡ public.Key a p d
-          → KeyRead c a p d
-      go n b w Ed25519 v h =
-          by-field (fixedAt s b 32)
-          (λ f u. let i : public.Refused f ≡ public.Key a p d = rw u at h in clash cc)
-          (λ q x u.
-          let i : public.Key Ed25519 q x ≡ public.Key a p d = rw u at h in
-          let j : Ed25519 ≡ a = cc in
-          let o : q ≡ p = cc in
-          let m : x ≡ d = cc in
-          let f = fixed-place s b 32 p d (rw (o, m) at u) in
-          let r = string-read s all b p d (f .0) in
-          rw (← j)
-          (record {
-            text = named-text c n b Ed25519 w v ∙ ap (λ (y : List ℕ). string (algorithmName Ed25519) ++ y) (r .text) ∙ sym (blob-then Ed25519 (viewOf s p) (rest s d));
-            long = r .size ∙ f .1;
-            tag = refl;
-            end = r .place .placed .end ∙ string-place s c n b w .placed .end;
-            lies = lies b p d r;
-          }))
-      go n b w (Ecdsa named) v h =
-          let r = ecdsa-key-read b named a p d h in
-          rw (r .0)
-          (record {
-            text =
-                named-text c n b (Ecdsa named) w v ∙ ap (λ (y : List ℕ). string (algorithmName (Ecdsa named)) ++ y) (r .1)
-                ∙ sym (blob-then (Ecdsa named) (viewOf s p) (rest s d));
-            long = r .2;
-            tag = r .3;
-            end = r .4 ∙ string-place s c n b w .placed .end;
-            lies = r .5;
-          })
+      (λ j v.
+      let r = named-fields b j a p d (rw v at g) in
+      rw (← r .kind)
+      (record {
+        text =
+            named-text c n b j w v ∙ ap (λ (y : List ℕ). string (algorithmName j) ++ y) (r .text) ∙ sym (blob-then j (publicBytes s p) (rest s d));
+        fits = r .fits;
+        end = r .end ∙ string-place s c n b w .placed .end;
+        inside = r .inside;
+        lies = r .lies;
+      })))
 
   -- an accepted blob
-  pub blob-read :
-      (c : Cursor) (a : Algorithm) (p : Part) → blobAt s c ≡ key.Key a p
-      → (rest s c ≡ blob a (viewOf s p)) × (length (viewOf s p) ≡ publicLength a) × (pointTag a (viewOf s p) ≡ true)
-      × (p .start + p .length ≡ c .end) × (length (viewOf s p) ≡ p .length)
+  pub record BlobRead (c : Cursor) (a : Algorithm) (p : Public) : Type 0 where
+    pub text : rest s c ≡ blob a (publicBytes s p)
+    pub fits : PublicFits a (publicBytes s p)
+    pub lies : p ≡ publicPlace (c .end) a (publicBytes s p)
+
+  pub blob-read : (c : Cursor) (a : Algorithm) (p : Public) → blobAt s c ≡ key.Key a p → BlobRead c a p
   unfolding blobAt
   blob-read c a p e =
       by-public (publicKeyAt s c)
@@ -212,5 +297,9 @@ module _ (s : List ℕ) (all : AllBytes s) where
       let o : q ≡ p = cc in
       let r = public-key-read c a p d (rw (i, o) at w) in
       let z = end-read s d v in
-      let closes : p .start + p .length ≡ c .end = omega (arith, r .lies .0, r .lies .1, r .end, z .1) in
-      (r .text ∙ ap (λ (y : List ℕ). blob a (viewOf s p) ++ y) (z .0) ∙ append-nil (blob a (viewOf s p)), r .long, r .tag, closes, r .lies .2)))
+      let closes : d .at ≡ c .end = omega (arith, r .inside, r .end, z .1) in
+      record {
+        text = r .text ∙ ap (λ (y : List ℕ). blob a (publicBytes s p) ++ y) (z .0) ∙ append-nil (blob a (publicBytes s p));
+        fits = r .fits;
+        lies = r .lies ∙ ap (λ (i : ℕ). publicPlace i a (publicBytes s p)) closes;
+      }))

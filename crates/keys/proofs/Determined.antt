@@ -17,6 +17,14 @@ use Rattle.keys.proofs.public_length.Reads as public-length
 use Rattle.keys.proofs.public_length.Kinds as public-length-kinds
 use Rattle.keys.proofs.private_length.Reads as private-length
 use Rattle.keys.proofs.private_length.Kinds as private-length-kinds
+use Rattle.keys.proofs.at_point.Reads as at-point
+use Rattle.keys.proofs.at_point.Kinds as at-point-kinds
+use Rattle.keys.proofs.at_modulus.Reads as at-modulus
+use Rattle.keys.proofs.at_modulus.Kinds as at-modulus-kinds
+use Rattle.keys.proofs.read_elliptic_key.Reads as read-elliptic-key
+use Rattle.keys.proofs.read_elliptic_key.Kinds as read-elliptic-key-kinds
+use Rattle.keys.proofs.read_rsa_key.Reads as read-rsa-key
+use Rattle.keys.proofs.read_rsa_key.Kinds as read-rsa-key-kinds
 
 pub read-point-determined : Determined 1 read-point-kinds.ps read-point-kinds.r read-point.Post
 read-point-determined κs a r₁ r₂ s₁ s₂ p q = cc
@@ -41,3 +49,15 @@ public-length-determined κs a r₁ r₂ s₁ s₂ p q = cc
 
 pub private-length-determined : Determined 0 private-length-kinds.ps private-length-kinds.r private-length.Post
 private-length-determined κs a r₁ r₂ s₁ s₂ p q = cc
+
+pub at-point-determined : Determined 0 at-point-kinds.ps at-point-kinds.r at-point.Post
+at-point-determined κs a r₁ r₂ s₁ s₂ p q = cc
+
+pub at-modulus-determined : Determined 0 at-modulus-kinds.ps at-modulus-kinds.r at-modulus.Post
+at-modulus-determined κs a r₁ r₂ s₁ s₂ p q = cc
+
+pub read-elliptic-key-determined : Determined 1 read-elliptic-key-kinds.ps read-elliptic-key-kinds.r read-elliptic-key.Post
+read-elliptic-key-determined κs a r₁ r₂ s₁ s₂ p q = cc
+
+pub read-rsa-key-determined : Determined 1 read-rsa-key-kinds.ps read-rsa-key-kinds.r read-rsa-key.Post
+read-rsa-key-determined κs a r₁ r₂ s₁ s₂ p q = cc

@@ -1,7 +1,8 @@
-// Public keys, Ed25519 and ECDSA over three curves, and the lengths of their parts.
+// Public keys, Ed25519, ECDSA over three curves and RSA, and the lengths of their parts.
 ghost use mathlib.Core.Path.{_≡_};
+ghost use Rattle.fields.specs.Fields.{absent};
 ghost use Rattle.format.specs.Format.{publicLength, privateLength, leadingZero};
-ghost use Rattle.keys.specs.Keys.{pointAt, ecdsaPublicAt, ecdsaKeyAt, publicKeyAt, blobAt};
+ghost use Rattle.keys.specs.Keys.{pointAt, ecdsaPublicAt, pointPlace, modulusPlace, ecdsaKeyAt, ellipticKeyAt, rsaKeyAt, publicKeyAt, blobAt};
 use fields::Cursor;
 use fields::Ending;
 use fields::Fault;
@@ -12,6 +13,8 @@ use names::Algorithm;
 use names::AlgorithmName;
 use names::Curve;
 use names::CurveName;
+use names::Elliptic;
+use rsa::RsaPublic;
 
 // A point of the curve's length that begins with 4: uncompressed.
 pub fn read_point(c: Cursor, image: &[u8], curve: Curve) -> Field
@@ -58,9 +61,49 @@ pub fn read_ecdsa_public(c: Cursor, image: &[u8]) -> EcdsaPublic
     }
 }
 
+// Where a public key's parts are: the point, or Ed25519's public string; or RSA's modulus and exponent, and how
+// many bits the modulus has. What its kind lacks is absent, and the bits are 0.
+pub struct Public {
+    pub point: Part,
+    pub modulus: Part,
+    pub exponent: Part,
+    pub bits: usize,
+}
+
 pub enum PublicKey {
-    Key(Algorithm, Part, Cursor),
+    Key(Algorithm, Public, Cursor),
     Refused(Fault),
+}
+
+fn nowhere() -> Part
+    ensures { λ r. ⌜ r ≡ absent ⌝ }
+{
+    Part {
+        start: 0,
+        length: 0,
+    }
+}
+
+pub fn at_point(point: Part) -> Public
+    ensures { λ r. ⌜ r ≡ pointPlace point ⌝ }
+{
+    Public {
+        point: point,
+        modulus: nowhere(),
+        exponent: nowhere(),
+        bits: 0,
+    }
+}
+
+pub fn at_modulus(modulus: Part, exponent: Part, bits: usize) -> Public
+    ensures { λ r. ⌜ r ≡ modulusPlace modulus exponent bits ⌝ }
+{
+    Public {
+        point: nowhere(),
+        modulus: modulus,
+        exponent: exponent,
+        bits: bits,
+    }
 }
 
 // The fields of an ECDSA public key whose name says the curve; the two are compared after the point.
@@ -71,14 +114,44 @@ pub fn read_ecdsa_key(c: Cursor, image: &[u8], named: Curve) -> PublicKey
     match read_ecdsa_public(c, image) {
         EcdsaPublic::Refused(f) => PublicKey::Refused(f),
         EcdsaPublic::Point(curve, point, d) => {
-            if Algorithm::Ecdsa(curve).code() == Algorithm::Ecdsa(named).code() {
-                return PublicKey::Key(Algorithm::Ecdsa(named), point, d);
+            let known = Algorithm::Elliptic(Elliptic::Ecdsa(named));
+            if Algorithm::Elliptic(Elliptic::Ecdsa(curve)).code() == known.code() {
+                return PublicKey::Key(known, at_point(point), d);
             }
             PublicKey::Refused(Fault {
                 why: Refusal::AlgorithmUnknown,
                 at: at,
             })
         }
+    }
+}
+
+// The fields of a key over a curve.
+pub fn read_elliptic_key(c: Cursor, image: &[u8], named: Elliptic) -> PublicKey
+    ensures { λ r. ⌜ r ≡ ellipticKeyAt (now (image .entry)) c named ⌝ }
+{
+    match named {
+        Elliptic::Ecdsa(curve) => read_ecdsa_key(c, image, curve),
+        Elliptic::Ed25519 => match c.fixed(image, 32) {
+            Field::Refused(f) => PublicKey::Refused(f),
+            Field::Part(point, d) => {
+                PublicKey::Key(Algorithm::Elliptic(Elliptic::Ed25519), at_point(point), d)
+            }
+        },
+    }
+}
+
+// The numbers of an RSA key.
+pub fn read_rsa_key(c: Cursor, image: &[u8]) -> PublicKey
+    ensures { λ r. ⌜ r ≡ rsaKeyAt (now (image .entry)) c ⌝ }
+{
+    match rsa::read_rsa_public(c, image) {
+        RsaPublic::Refused(f) => PublicKey::Refused(f),
+        RsaPublic::Numbers(n, e, bits, d) => PublicKey::Key(
+            Algorithm::Rsa,
+            at_modulus(n, e, bits),
+            d,
+        ),
     }
 }
 
@@ -95,18 +168,15 @@ pub fn read_public_key(c: Cursor, image: &[u8]) -> PublicKey
                 at: at,
             }),
             AlgorithmName::Known(a) => match a {
-                Algorithm::Ecdsa(named) => read_ecdsa_key(d, image, named),
-                Algorithm::Ed25519 => match d.fixed(image, 32) {
-                    Field::Refused(f) => PublicKey::Refused(f),
-                    Field::Part(point, e) => PublicKey::Key(Algorithm::Ed25519, point, e),
-                },
+                Algorithm::Elliptic(named) => read_elliptic_key(d, image, named),
+                Algorithm::Rsa => read_rsa_key(d, image),
             },
         },
     }
 }
 
 pub enum Blob {
-    Key(Algorithm, Part),
+    Key(Algorithm, Public),
     Refused(Fault),
 }
 
@@ -116,9 +186,9 @@ pub fn read_blob(c: Cursor, image: &[u8]) -> Blob
 {
     match read_public_key(c, image) {
         PublicKey::Refused(f) => Blob::Refused(f),
-        PublicKey::Key(a, point, d) => match d.finish() {
+        PublicKey::Key(a, public, d) => match d.finish() {
             Ending::Refused(f) => Blob::Refused(f),
-            Ending::Clean => Blob::Key(a, point),
+            Ending::Clean => Blob::Key(a, public),
         },
     }
 }
@@ -131,21 +201,21 @@ pub fn needs_leading_zero(scalar: &[u8]) -> bool
 }
 
 // The length of a public string or point.
-pub fn public_length(a: Algorithm) -> usize
+pub fn public_length(a: Elliptic) -> usize
     ensures { λ r. ⌜ r ≡ publicLength a ⌝ }
 {
     match a {
-        Algorithm::Ed25519 => 32,
-        Algorithm::Ecdsa(curve) => curve.point_length(),
+        Elliptic::Ed25519 => 32,
+        Elliptic::Ecdsa(curve) => curve.point_length(),
     }
 }
 
 // The length of a seed or scalar.
-pub fn private_length(a: Algorithm) -> usize
+pub fn private_length(a: Elliptic) -> usize
     ensures { λ r. ⌜ r ≡ privateLength a ⌝ }
 {
     match a {
-        Algorithm::Ed25519 => 32,
-        Algorithm::Ecdsa(curve) => curve.size(),
+        Elliptic::Ed25519 => 32,
+        Elliptic::Ecdsa(curve) => curve.size(),
     }
 }

@@ -7,7 +7,7 @@ use lib.ListN.{length, replicate}
 use Rattle.fields.specs.Fields.{part, viewOf}
 use Rattle.fields.specs.Room.{view-in, view-out}
 use Rattle.buffer.specs.Puts.{splice, placed, zeros, zeros-length, placed-fits, no-put, splice-length, take-splice}
-use Rattle.names.specs.declared.Algorithm.{Algorithm}
+use Rattle.names.specs.declared.Elliptic.{Elliptic}
 use Rattle.material.specs.Material.{publicOf, privateOf, mixed, derivedCheckint, padded, materialOf}
 
 -- ---- what a room of k bytes holds
@@ -31,7 +31,7 @@ module _ (k : ℕ) (bytes : List ℕ) where
       let short : length (zeros k) < 0 + length bytes = omega (arith, zeros-length k) in
       ap (λ (l : List ℕ). viewOf l (part 0 (length bytes))) (sym none) ∙ view-out (zeros k) (part 0 (length bytes)) short .0
 
-module _ (a : Algorithm) (public private : List ℕ) where
+module _ (a : Elliptic) (public private : List ℕ) where
   pub public-of : length public ≤ 133 → publicOf (materialOf a public private) ≡ public
   unfolding publicOf materialOf
   public-of = held 133 public

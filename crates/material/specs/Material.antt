@@ -9,7 +9,7 @@ use lib.Bits.{bitXor}
 use lib.ListN.{length}
 use Rattle.fields.specs.Fields.{part, number4, viewOf}
 use Rattle.buffer.specs.Puts.{placed, zeros}
-use Rattle.names.specs.declared.Algorithm.{Algorithm}
+use Rattle.names.specs.declared.Elliptic.{Elliptic}
 use Rattle.material.specs.declared.Material.{Material}
 use Rattle.material.specs.declared.Checkint.{Checkint}
 use Rattle.material.specs.declared.Checkint.the-variants.{Given, Derived}
@@ -42,7 +42,7 @@ unfoldable pub padded : ℕ → List ℕ → List ℕ
 padded k bytes = placed (zeros k) 0 bytes
 
 -- the value that holds an algorithm's public and private bytes
-unfoldable pub materialOf : Algorithm → List ℕ → List ℕ → Material
+unfoldable pub materialOf : Elliptic → List ℕ → List ℕ → Material
 materialOf a public private =
     record {
       algorithm = a;

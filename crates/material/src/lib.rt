@@ -4,12 +4,12 @@ ghost use Rattle.material.specs.Material.{privateOf, derivedCheckint, ch
 use fields::Cursor;
 use fields::Part;
 use fields::Uint32;
-use names::Algorithm;
+use names::Elliptic;
 
 // Key material for a new image: one value with room for 133 public and 66 private bytes and their lengths,
 // the kind as an enum beside them. A length above its room holds no bytes.
 pub struct Material {
-    pub algorithm: Algorithm,
+    pub algorithm: Elliptic,
     pub public: [u8; 133],
     pub public_length: usize,
     pub private: [u8; 66],
@@ -44,7 +44,7 @@ pub fn derived_checkint(private: &[u8]) -> u32
 
 impl Material {
     // Public and private bytes with their lengths, zeros after them; only zeros in a room that is too short.
-    pub fn new(algorithm: Algorithm, public: &[u8], private: &[u8]) -> Material
+    pub fn new(algorithm: Elliptic, public: &[u8], private: &[u8]) -> Material
         ensures { λ r. ⌜ r ≡ materialOf algorithm (now (public .entry)) (now (private .entry)) ⌝ }
     {
         let mut public_room = [0u8; 133];

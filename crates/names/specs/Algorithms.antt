@@ -1,4 +1,4 @@
--- Document 01, 'Keys': the algorithms' and curves' names, and each curve's SIZE.
+-- Document 01, 'Keys', and document 02, request Two: the algorithms' and curves' names, and each curve's SIZE.
 use Prim.Native.Nat.{ℕ, zero, suc, _<_, _^_}
 use native.Mathlib.Omega.{arith}
 use mathlib.Core.Path.{_≡_, refl, sym, _∙_, ap}
@@ -13,8 +13,10 @@ use Rattle.names.specs.declared.Curve.{Curve}
 use Rattle.names.specs.declared.Curve.the-variants.{Nistp256, Nistp384, Nistp521}
 use Rattle.names.specs.declared.CurveName.{CurveName}
 use Rattle.names.specs.declared.CurveName.the-variants as curve-name
+use Rattle.names.specs.declared.Elliptic.{Elliptic}
+use Rattle.names.specs.declared.Elliptic.the-variants.{Ed25519, Ecdsa}
 use Rattle.names.specs.declared.Algorithm.{Algorithm}
-use Rattle.names.specs.declared.Algorithm.the-variants.{Ed25519, Ecdsa}
+use Rattle.names.specs.declared.Algorithm.the-variants.{Elliptic as OnCurve, Rsa}
 use Rattle.names.specs.declared.AlgorithmName.{AlgorithmName}
 use Rattle.names.specs.declared.AlgorithmName.the-variants as algorithm-name
 
@@ -36,21 +38,23 @@ sizeOf Nistp384 = 48
 sizeOf Nistp521 = 66
 
 abbrev pub algorithmName : Algorithm → List ℕ
-algorithmName Ed25519 = ascii "ssh-ed25519"
-algorithmName (Ecdsa curve) = ascii "ecdsa-sha2-" ++ curveName curve
+algorithmName (OnCurve Ed25519) = ascii "ssh-ed25519"
+algorithmName (OnCurve (Ecdsa curve)) = ascii "ecdsa-sha2-" ++ curveName curve
+algorithmName Rsa = ascii "ssh-rsa"
 
-abbrev algorithms : List Algorithm
-algorithms = Ed25519 ∷ Ecdsa Nistp256 ∷ Ecdsa Nistp384 ∷ Ecdsa Nistp521 ∷ []
+abbrev pub algorithms : List Algorithm
+algorithms = OnCurve Ed25519 ∷ OnCurve (Ecdsa Nistp256) ∷ OnCurve (Ecdsa Nistp384) ∷ OnCurve (Ecdsa Nistp521) ∷ Rsa ∷ []
 
 unfoldable pub algorithmNamed : List ℕ → AlgorithmName
 algorithmNamed = lookUp algorithmName algorithm-name.Known algorithm-name.Unknown algorithms
 
 -- a number for each algorithm
 abbrev pub algorithmCode : Algorithm → ℕ
-algorithmCode Ed25519 = 0
-algorithmCode (Ecdsa Nistp256) = 1
-algorithmCode (Ecdsa Nistp384) = 2
-algorithmCode (Ecdsa Nistp521) = 3
+algorithmCode (OnCurve Ed25519) = 0
+algorithmCode (OnCurve (Ecdsa Nistp256)) = 1
+algorithmCode (OnCurve (Ecdsa Nistp384)) = 2
+algorithmCode (OnCurve (Ecdsa Nistp521)) = 3
+algorithmCode Rsa = 4
 
 -- whether two algorithms are the same
 unfoldable pub sameAlgorithm : Algorithm → Algorithm → Bool
@@ -77,10 +81,11 @@ size-small Nistp521 = omega arith
 
 pub algorithm-back : (a : Algorithm) → (algorithmNamed (algorithmName a) ≡ algorithm-name.Known a) × (length (algorithmName a) < 2 ^ 32)
 unfolding algorithmNamed
-algorithm-back Ed25519 = (refl, omega arith)
-algorithm-back (Ecdsa Nistp256) = (refl, omega arith)
-algorithm-back (Ecdsa Nistp384) = (refl, omega arith)
-algorithm-back (Ecdsa Nistp521) = (refl, omega arith)
+algorithm-back (OnCurve Ed25519) = (refl, omega arith)
+algorithm-back (OnCurve (Ecdsa Nistp256)) = (refl, omega arith)
+algorithm-back (OnCurve (Ecdsa Nistp384)) = (refl, omega arith)
+algorithm-back (OnCurve (Ecdsa Nistp521)) = (refl, omega arith)
+algorithm-back Rsa = (refl, omega arith)
 
 pub algorithm-read : (b : List ℕ) (a : Algorithm) → algorithmNamed b ≡ algorithm-name.Known a → b ≡ algorithmName a
 unfolding algorithmNamed
@@ -89,17 +94,19 @@ algorithm-read b a e =
 
 -- the algorithm of a number
 algorithmOf : ℕ → Algorithm
-algorithmOf zero = Ed25519
-algorithmOf (suc zero) = Ecdsa Nistp256
-algorithmOf (suc (suc zero)) = Ecdsa Nistp384
-algorithmOf (suc (suc (suc n))) = Ecdsa Nistp521
+algorithmOf zero = OnCurve Ed25519
+algorithmOf (suc zero) = OnCurve (Ecdsa Nistp256)
+algorithmOf (suc (suc zero)) = OnCurve (Ecdsa Nistp384)
+algorithmOf (suc (suc (suc zero))) = OnCurve (Ecdsa Nistp521)
+algorithmOf (suc (suc (suc (suc n)))) = Rsa
 
 code-back : (a : Algorithm) → algorithmOf (algorithmCode a) ≡ a
 unfolding algorithmOf
-code-back Ed25519 = refl
-code-back (Ecdsa Nistp256) = refl
-code-back (Ecdsa Nistp384) = refl
-code-back (Ecdsa Nistp521) = refl
+code-back (OnCurve Ed25519) = refl
+code-back (OnCurve (Ecdsa Nistp256)) = refl
+code-back (OnCurve (Ecdsa Nistp384)) = refl
+code-back (OnCurve (Ecdsa Nistp521)) = refl
+code-back Rsa = refl
 
 code-same : (a b : Algorithm) → algorithmCode a ≡ algorithmCode b → a ≡ b
 code-same a b e = sym (code-back a) ∙ ap algorithmOf e ∙ code-back b

@@ -207,9 +207,15 @@ pub fn curve_named(name: &[u8]) -> CurveName
     CurveName::Unknown
 }
 
-pub enum Algorithm {
+// The four whose keys are a point and a scalar, or a public string and a seed, of a length that the name tells.
+pub enum Elliptic {
     Ed25519,
     Ecdsa(Curve),
+}
+
+pub enum Algorithm {
+    Elliptic(Elliptic),
+    Rsa,
 }
 
 pub enum AlgorithmName {
@@ -221,16 +227,19 @@ pub fn algorithm_named(name: &[u8]) -> AlgorithmName
     ensures { λ r. ⌜ r ≡ algorithmNamed (now (name .entry)) ⌝ }
 {
     if same(name, b"ssh-ed25519") {
-        return AlgorithmName::Known(Algorithm::Ed25519);
+        return AlgorithmName::Known(Algorithm::Elliptic(Elliptic::Ed25519));
     }
     if same(name, b"ecdsa-sha2-nistp256") {
-        return AlgorithmName::Known(Algorithm::Ecdsa(Curve::Nistp256));
+        return AlgorithmName::Known(Algorithm::Elliptic(Elliptic::Ecdsa(Curve::Nistp256)));
     }
     if same(name, b"ecdsa-sha2-nistp384") {
-        return AlgorithmName::Known(Algorithm::Ecdsa(Curve::Nistp384));
+        return AlgorithmName::Known(Algorithm::Elliptic(Elliptic::Ecdsa(Curve::Nistp384)));
     }
     if same(name, b"ecdsa-sha2-nistp521") {
-        return AlgorithmName::Known(Algorithm::Ecdsa(Curve::Nistp521));
+        return AlgorithmName::Known(Algorithm::Elliptic(Elliptic::Ecdsa(Curve::Nistp521)));
+    }
+    if same(name, b"ssh-rsa") {
+        return AlgorithmName::Known(Algorithm::Rsa);
     }
     AlgorithmName::Unknown
 }
@@ -241,12 +250,15 @@ impl Algorithm {
         ensures { λ r. ⌜ r ≡ algorithmCode self ⌝ }
     {
         match self {
-            Algorithm::Ed25519 => 0,
-            Algorithm::Ecdsa(curve) => match curve {
-                Curve::Nistp256 => 1,
-                Curve::Nistp384 => 2,
-                Curve::Nistp521 => 3,
+            Algorithm::Elliptic(e) => match e {
+                Elliptic::Ed25519 => 0,
+                Elliptic::Ecdsa(curve) => match curve {
+                    Curve::Nistp256 => 1,
+                    Curve::Nistp384 => 2,
+                    Curve::Nistp521 => 3,
+                },
             },
+            Algorithm::Rsa => 4,
         }
     }
 }

@@ -53,6 +53,13 @@ refusedImage f =
       ciphertext = placeOf absent;
       tag = placeOf absent;
       section = 0;
+      bits = 0;
+      modulus = placeOf absent;
+      exponent = placeOf absent;
+      d = placeOf absent;
+      iqmp = placeOf absent;
+      p = placeOf absent;
+      q = placeOf absent;
     }
 
 abbrev pub acceptedImage : Fields → Bool → Image
@@ -70,13 +77,20 @@ acceptedImage f form =
       padding = f .section .padding;
       form = formCode form;
       blob = placeOf (f .header .blob);
-      point = placeOf (f .header .point);
-      scalar = placeOf (f .section .scalar);
+      point = placeOf (f .header .public .point);
+      scalar = placeOf (f .section .private .scalar);
       comment = placeOf (f .section .comment);
       salt = placeOf (f .header .salt);
       ciphertext = placeOf (f .section .ciphertext);
       tag = placeOf (f .section .tag);
       section = f .header .section;
+      bits = f .header .public .bits;
+      modulus = placeOf (f .header .public .modulus);
+      exponent = placeOf (f .header .public .exponent);
+      d = placeOf (f .section .private .d);
+      iqmp = placeOf (f .section .private .iqmp);
+      p = placeOf (f .section .private .p);
+      q = placeOf (f .section .private .q);
     }
 
 unfoldable pub imageOf : FormRead → Image
@@ -99,13 +113,20 @@ halfImage h =
       padding = 0;
       form = 0;
       blob = placeOf (h .blob);
-      point = placeOf (h .point);
+      point = placeOf (h .public .point);
       scalar = placeOf absent;
       comment = placeOf absent;
       salt = placeOf (h .salt);
       ciphertext = placeOf absent;
       tag = placeOf absent;
       section = h .section;
+      bits = h .public .bits;
+      modulus = placeOf (h .public .modulus);
+      exponent = placeOf (h .public .exponent);
+      d = placeOf absent;
+      iqmp = placeOf absent;
+      p = placeOf absent;
+      q = placeOf absent;
     }
 
 unfoldable pub headerOf : HeaderRead → Image

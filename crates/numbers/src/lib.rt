@@ -42,6 +42,13 @@ pub struct Image {
     pub ciphertext: Place,
     pub tag: Place,
     pub section: u64,
+    pub bits: u64,
+    pub modulus: Place,
+    pub exponent: Place,
+    pub d: Place,
+    pub iqmp: Place,
+    pub p: Place,
+    pub q: Place,
 }
 
 #[repr(C)]
@@ -83,6 +90,7 @@ fn refused_image(f: Fault) -> Image
     ensures { λ r. ⌜ r ≡ refusedImage f ⌝ }
 {
     let why = f.why;
+    let zero = nowhere();
     Image {
         number: why.number() as u64,
         count: why.count() as u64,
@@ -95,14 +103,21 @@ fn refused_image(f: Fault) -> Image
         checkint: 0,
         padding: 0,
         form: 0,
-        blob: nowhere(),
-        point: nowhere(),
-        scalar: nowhere(),
-        comment: nowhere(),
-        salt: nowhere(),
-        ciphertext: nowhere(),
-        tag: nowhere(),
+        blob: zero,
+        point: zero,
+        scalar: zero,
+        comment: zero,
+        salt: zero,
+        ciphertext: zero,
+        tag: zero,
         section: 0,
+        bits: 0,
+        modulus: zero,
+        exponent: zero,
+        d: zero,
+        iqmp: zero,
+        p: zero,
+        q: zero,
     }
 }
 
@@ -111,6 +126,8 @@ fn accepted_image(f: Fields, form: bool) -> Image
 {
     let header = f.header;
     let section = f.section;
+    let public = header.public;
+    let private = section.private;
     let kind = section.kind;
     let algorithm = header.algorithm;
     let cipher = header.cipher;
@@ -128,13 +145,20 @@ fn accepted_image(f: Fields, form: bool) -> Image
         padding: section.padding as u64,
         form: form_code(form),
         blob: place_of(header.blob),
-        point: place_of(header.point),
-        scalar: place_of(section.scalar),
+        point: place_of(public.point),
+        scalar: place_of(private.scalar),
         comment: place_of(section.comment),
         salt: place_of(header.salt),
         ciphertext: place_of(section.ciphertext),
         tag: place_of(section.tag),
         section: header.section as u64,
+        bits: public.bits as u64,
+        modulus: place_of(public.modulus),
+        exponent: place_of(public.exponent),
+        d: place_of(private.d),
+        iqmp: place_of(private.iqmp),
+        p: place_of(private.p),
+        q: place_of(private.q),
     }
 }
 
@@ -152,6 +176,8 @@ pub fn image_of(read: FormRead) -> Image
 pub fn half_image(h: Header) -> Image
     ensures { λ r. ⌜ r ≡ halfImage h ⌝ }
 {
+    let none = nowhere();
+    let key = h.public;
     let algorithm = h.algorithm;
     let cipher = h.cipher;
     let kdf = h.kdf;
@@ -168,13 +194,20 @@ pub fn half_image(h: Header) -> Image
         padding: 0,
         form: 0,
         blob: place_of(h.blob),
-        point: place_of(h.point),
-        scalar: nowhere(),
-        comment: nowhere(),
+        point: place_of(key.point),
+        scalar: none,
+        comment: none,
         salt: place_of(h.salt),
-        ciphertext: nowhere(),
-        tag: nowhere(),
+        ciphertext: none,
+        tag: none,
         section: h.section as u64,
+        bits: key.bits as u64,
+        modulus: place_of(key.modulus),
+        exponent: place_of(key.exponent),
+        d: none,
+        iqmp: none,
+        p: none,
+        q: none,
     }
 }
 

@@ -1,15 +1,22 @@
 // Scalars and keypairs, as a plain section has them.
 ghost use mathlib.Core.Path.{_≡_};
-ghost use Rattle.pairs.specs.Pairs.{scalarAt, ed25519PairAt, ecdsaPairAt, keypairAt};
+ghost use Rattle.fields.specs.Fields.{absent};
+ghost use Rattle.pairs.specs.Pairs.{scalarAt, scalarPlace, numbersPlace, ed25519PairAt, ecdsaPairAt, ellipticPairAt, rsaKeypairAt, keypairAt};
 use fields::Cursor;
 use fields::Fault;
 use fields::Field;
 use fields::Part;
 use fields::Refusal;
 use keys::EcdsaPublic;
+use keys::Public;
+use keys::at_modulus;
+use keys::at_point;
 use names::Algorithm;
 use names::AlgorithmName;
 use names::Curve;
+use names::Elliptic;
+use rsa::RsaPair;
+use rsa::Six;
 
 // A scalar of any size: size + 1 bytes begin with a zero, which is left off; any other is a fixed field.
 pub fn read_scalar(c: Cursor, image: &[u8], size: usize) -> Field
@@ -42,10 +49,57 @@ pub fn read_scalar(c: Cursor, image: &[u8], size: usize) -> Field
     }
 }
 
-// A keypair's algorithm, the place of its public string or point, and that of its seed or scalar.
+// Where a keypair's private parts are: the scalar, or Ed25519's seed; or RSA's d, iqmp, p and q. What its kind
+// lacks is absent.
+pub struct Private {
+    pub scalar: Part,
+    pub d: Part,
+    pub iqmp: Part,
+    pub p: Part,
+    pub q: Part,
+}
+
+// A keypair's algorithm, and where its parts are.
 pub enum Keypair {
-    Pair(Algorithm, Part, Part, Cursor),
+    Pair(Algorithm, Public, Private, Cursor),
     Refused(Fault),
+}
+
+fn nowhere() -> Part
+    ensures { λ r. ⌜ r ≡ absent ⌝ }
+{
+    Part {
+        start: 0,
+        length: 0,
+    }
+}
+
+pub fn at_scalar(scalar: Part) -> Private
+    ensures { λ r. ⌜ r ≡ scalarPlace scalar ⌝ }
+{
+    Private {
+        scalar: scalar,
+        d: nowhere(),
+        iqmp: nowhere(),
+        p: nowhere(),
+        q: nowhere(),
+    }
+}
+
+pub fn at_numbers(x: Six) -> Private
+    ensures { λ r. ⌜ r ≡ numbersPlace x ⌝ }
+{
+    let d = x.d;
+    let iqmp = x.iqmp;
+    let p = x.p;
+    let q = x.q;
+    Private {
+        scalar: nowhere(),
+        d: d,
+        iqmp: iqmp,
+        p: p,
+        q: q,
+    }
 }
 
 // The public string, then seed and public string again in one string of 64.
@@ -69,7 +123,12 @@ pub fn read_ed25519_pair(c: Cursor, image: &[u8]) -> Keypair
                             start: start,
                             length: 32,
                         };
-                        return Keypair::Pair(Algorithm::Ed25519, public, seed, e);
+                        return Keypair::Pair(
+                            Algorithm::Elliptic(Elliptic::Ed25519),
+                            at_point(public),
+                            at_scalar(seed),
+                            e,
+                        );
                     }
                     Keypair::Refused(Fault {
                         why: Refusal::Crypto,
@@ -91,8 +150,9 @@ pub fn read_ecdsa_pair(c: Cursor, image: &[u8], named: Curve) -> Keypair
         EcdsaPublic::Point(curve, point, d) => match read_scalar(d, image, curve.size()) {
             Field::Refused(f) => Keypair::Refused(f),
             Field::Part(scalar, e) => {
-                if Algorithm::Ecdsa(curve).code() == Algorithm::Ecdsa(named).code() {
-                    return Keypair::Pair(Algorithm::Ecdsa(named), point, scalar, e);
+                let known = Algorithm::Elliptic(Elliptic::Ecdsa(named));
+                if Algorithm::Elliptic(Elliptic::Ecdsa(curve)).code() == known.code() {
+                    return Keypair::Pair(known, at_point(point), at_scalar(scalar), e);
                 }
                 Keypair::Refused(Fault {
                     why: Refusal::AlgorithmUnknown,
@@ -100,6 +160,31 @@ pub fn read_ecdsa_pair(c: Cursor, image: &[u8], named: Curve) -> Keypair
                 })
             }
         },
+    }
+}
+
+// The fields of a keypair over a curve.
+pub fn read_elliptic_pair(c: Cursor, image: &[u8], named: Elliptic) -> Keypair
+    ensures { λ r. ⌜ r ≡ ellipticPairAt (now (image .entry)) c named ⌝ }
+{
+    match named {
+        Elliptic::Ed25519 => read_ed25519_pair(c, image),
+        Elliptic::Ecdsa(curve) => read_ecdsa_pair(c, image, curve),
+    }
+}
+
+// The numbers of an RSA keypair.
+pub fn read_rsa_keypair(c: Cursor, image: &[u8]) -> Keypair
+    ensures { λ r. ⌜ r ≡ rsaKeypairAt (now (image .entry)) c ⌝ }
+{
+    match rsa::read_rsa_pair(c, image) {
+        RsaPair::Refused(f) => Keypair::Refused(f),
+        RsaPair::Numbers(x, bits, d) => Keypair::Pair(
+            Algorithm::Rsa,
+            at_modulus(x.n, x.e, bits),
+            at_numbers(x),
+            d,
+        ),
     }
 }
 
@@ -116,8 +201,8 @@ pub fn read_keypair(c: Cursor, image: &[u8]) -> Keypair
                 at: at,
             }),
             AlgorithmName::Known(a) => match a {
-                Algorithm::Ed25519 => read_ed25519_pair(d, image),
-                Algorithm::Ecdsa(named) => read_ecdsa_pair(d, image, named),
+                Algorithm::Elliptic(named) => read_elliptic_pair(d, image, named),
+                Algorithm::Rsa => read_rsa_keypair(d, image),
             },
         },
     }

@@ -11,10 +11,11 @@ pub fn blob(image: &[u8], f: Fields) -> &[u8]
 }
 
 pub fn point(image: &[u8], f: Fields) -> &[u8]
-    ensures { λ r. ⌜ isView r (image .entry) (f .header .point) ⌝ }
+    ensures { λ r. ⌜ isView r (image .entry) (f .header .public .point) ⌝ }
 {
     let header = f.header;
-    fields::view(image, header.point)
+    let public = header.public;
+    fields::view(image, public.point)
 }
 
 pub fn salt(image: &[u8], f: Fields) -> &[u8]
@@ -25,10 +26,11 @@ pub fn salt(image: &[u8], f: Fields) -> &[u8]
 }
 
 pub fn scalar(image: &[u8], f: Fields) -> &[u8]
-    ensures { λ r. ⌜ isView r (image .entry) (f .section .scalar) ⌝ }
+    ensures { λ r. ⌜ isView r (image .entry) (f .section .private .scalar) ⌝ }
 {
     let section = f.section;
-    fields::view(image, section.scalar)
+    let private = section.private;
+    fields::view(image, private.scalar)
 }
 
 pub fn comment(image: &[u8], f: Fields) -> &[u8]
@@ -50,4 +52,52 @@ pub fn tag(image: &[u8], f: Fields) -> &[u8]
 {
     let section = f.section;
     fields::view(image, section.tag)
+}
+
+pub fn modulus(image: &[u8], f: Fields) -> &[u8]
+    ensures { λ r. ⌜ isView r (image .entry) (f .header .public .modulus) ⌝ }
+{
+    let header = f.header;
+    let public = header.public;
+    fields::view(image, public.modulus)
+}
+
+pub fn exponent(image: &[u8], f: Fields) -> &[u8]
+    ensures { λ r. ⌜ isView r (image .entry) (f .header .public .exponent) ⌝ }
+{
+    let header = f.header;
+    let public = header.public;
+    fields::view(image, public.exponent)
+}
+
+pub fn d(image: &[u8], f: Fields) -> &[u8]
+    ensures { λ r. ⌜ isView r (image .entry) (f .section .private .d) ⌝ }
+{
+    let section = f.section;
+    let private = section.private;
+    fields::view(image, private.d)
+}
+
+pub fn iqmp(image: &[u8], f: Fields) -> &[u8]
+    ensures { λ r. ⌜ isView r (image .entry) (f .section .private .iqmp) ⌝ }
+{
+    let section = f.section;
+    let private = section.private;
+    fields::view(image, private.iqmp)
+}
+
+pub fn p(image: &[u8], f: Fields) -> &[u8]
+    ensures { λ r. ⌜ isView r (image .entry) (f .section .private .p) ⌝ }
+{
+    let section = f.section;
+    let private = section.private;
+    fields::view(image, private.p)
+}
+
+pub fn q(image: &[u8], f: Fields) -> &[u8]
+    ensures { λ r. ⌜ isView r (image .entry) (f .section .private .q) ⌝ }
+{
+    let section = f.section;
+    let private = section.private;
+    fields::view(image, private.q)
 }

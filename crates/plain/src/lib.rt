@@ -1,13 +1,14 @@
-// The plain writer: key material and a comment to an image. It checks all, in the paper's order, before it
-// changes a byte.
+// The plain writer of the four kinds over a curve: key material and a comment to an image. It checks all, in the
+// paper's order, before it changes a byte.
 ghost use mathlib.Core.Path.{_≡_};
 ghost use mathlib.Core.List.{_++_};
 ghost use Prim.Native.Nat.{_+_, _<_};
 ghost use lib.ListN.{length};
 ghost use Rattle.fields.specs.Bytes.{string};
-ghost use Rattle.names.specs.declared.Algorithm.the-variants.{Ecdsa};
-ghost use Rattle.format.specs.Format.{curveField, publicLength, privateLength, pointTag, blob, privateField, standing, leadingZero, needsLeadingZero, paddingLength, section, writtenImage};
-ghost use Rattle.format.specs.Lengths.{blobLength, privateFieldLength, contentLength};
+ghost use Rattle.names.specs.declared.Elliptic.the-variants.{Ecdsa};
+ghost use Rattle.names.specs.declared.Algorithm.the-variants.{Elliptic as OnCurve};
+ghost use Rattle.format.specs.Format.{ofPoint, ofScalar, curveField, publicLength, privateLength, pointTag, blob, privateField, standing, leadingZero, scalarZero, keypair, paddingLength, section, writtenImage};
+ghost use Rattle.format.specs.Lengths.{pointBlobLength, privateFieldLength, contentLength};
 ghost use Rattle.buffer.specs.Puts.{isPut};
 ghost use Rattle.buffer.specs.Runs.{isRun};
 ghost use Rattle.material.specs.Material.{publicOf, privateOf, checkintOf};
@@ -19,22 +20,27 @@ use material::Checkint;
 use material::Material;
 use names::Algorithm;
 use names::Curve;
+use names::Elliptic;
 use reply::Written;
 
-fn put_curve(out: &mut [u8], at: usize, algorithm: Algorithm) -> usize
+fn put_curve(out: &mut [u8], at: usize, algorithm: Elliptic) -> usize
     ensures { λ r. ⌜ isPut (now (out .entry)) at (curveField algorithm) r (now (out .exit)) ⌝ }
 {
     match algorithm {
-        Algorithm::Ed25519 => at,
-        Algorithm::Ecdsa(curve) => spelling::put_name_string(out, at, spelling::curve_name(curve)),
+        Elliptic::Ed25519 => at,
+        Elliptic::Ecdsa(curve) => spelling::put_name_string(out, at, spelling::curve_name(curve)),
     }
 }
 
 // A public key: the algorithm's name, the curve's, the public string or point.
-fn put_key(out: &mut [u8], at: usize, algorithm: Algorithm, point: &[u8]) -> usize
-    ensures { λ r. ⌜ isRun (now (out .entry)) at (blob algorithm (now (point .entry))) r (now (out .exit)) ⌝ }
+fn put_key(out: &mut [u8], at: usize, algorithm: Elliptic, point: &[u8]) -> usize
+    ensures { λ r. ⌜ isRun (now (out .entry)) at (blob (OnCurve algorithm) (ofPoint (now (point .entry)))) r (now (out .exit)) ⌝ }
 {
-    let a = spelling::put_name_string(out, at, spelling::algorithm_name(algorithm));
+    let a = spelling::put_name_string(
+        out,
+        at,
+        spelling::algorithm_name(Algorithm::Elliptic(algorithm)),
+    );
     let b = put_curve(out, a, algorithm);
     buffer::put_string(out, b, point)
 }
@@ -61,30 +67,24 @@ fn put_scalar(out: &mut [u8], at: usize, scalar: &[u8]) -> usize
 }
 
 // The private bytes: seed and public string in one string, or the scalar.
-fn put_private(
-    out: &mut [u8],
-    at: usize,
-    algorithm: Algorithm,
-    point: &[u8],
-    scalar: &[u8],
-) -> usize
+fn put_private(out: &mut [u8], at: usize, algorithm: Elliptic, point: &[u8], scalar: &[u8]) -> usize
     requires { ⌜ (length (now point) < 134) × (length (now scalar) < 67) ⌝ }
-    ensures { λ r. ⌜ isRun (now (out .entry)) at (privateField algorithm (now (point .entry)) (standing (needsLeadingZero algorithm (now (scalar .entry))) (now (scalar .entry)))) r (now (out .exit)) ⌝ }
+    ensures { λ r. ⌜ isRun (now (out .entry)) at (privateField algorithm (now (point .entry)) (standing (scalarZero algorithm (now (scalar .entry))) (now (scalar .entry)))) r (now (out .exit)) ⌝ }
 {
     match algorithm {
-        Algorithm::Ed25519 => put_two(out, at, scalar, point),
-        Algorithm::Ecdsa(_) => put_scalar(out, at, scalar),
+        Elliptic::Ed25519 => put_two(out, at, scalar, point),
+        Elliptic::Ecdsa(_) => put_scalar(out, at, scalar),
     }
 }
 
 // The length of a public key, and of the private bytes as they are written.
 
-fn blob_length(algorithm: Algorithm) -> usize
-    ensures { λ r. ⌜ (r ≡ blobLength algorithm) × (r < 256) ⌝ }
+fn blob_length(algorithm: Elliptic) -> usize
+    ensures { λ r. ⌜ (r ≡ pointBlobLength algorithm) × (r < 256) ⌝ }
 {
     match algorithm {
-        Algorithm::Ed25519 => 51,
-        Algorithm::Ecdsa(curve) => match curve {
+        Elliptic::Ed25519 => 51,
+        Elliptic::Ecdsa(curve) => match curve {
             Curve::Nistp256 => 104,
             Curve::Nistp384 => 136,
             Curve::Nistp521 => 172,
@@ -102,20 +102,29 @@ fn scalar_length(curve: Curve, scalar: &[u8]) -> usize
     4 + size
 }
 
-fn private_length(algorithm: Algorithm, scalar: &[u8]) -> usize
+fn private_length(algorithm: Elliptic, scalar: &[u8]) -> usize
     ensures { λ r. ⌜ (r ≡ privateFieldLength algorithm (now (scalar .entry))) × (r < 256) ⌝ }
 {
     match algorithm {
-        Algorithm::Ed25519 => 68,
-        Algorithm::Ecdsa(curve) => scalar_length(curve, scalar),
+        Elliptic::Ed25519 => 68,
+        Elliptic::Ecdsa(curve) => scalar_length(curve, scalar),
     }
+}
+
+// A keypair: the public key and the private bytes.
+fn put_pair(out: &mut [u8], at: usize, algorithm: Elliptic, point: &[u8], scalar: &[u8]) -> usize
+    requires { ⌜ (length (now point) ≡ publicLength algorithm) × (length (now scalar) ≡ privateLength algorithm) ⌝ }
+    ensures { λ r. ⌜ isRun (now (out .entry)) at (keypair (OnCurve algorithm) (scalarZero algorithm (now (scalar .entry))) (ofPoint (now (point .entry))) (ofScalar (now (scalar .entry)))) r (now (out .exit)) ⌝ }
+{
+    let a = put_key(out, at, algorithm, point);
+    put_private(out, a, algorithm, point, scalar)
 }
 
 // Puts every field of a section. The caller has seen to lengths and room.
 fn put_section(
     out: &mut [u8],
     at: usize,
-    algorithm: Algorithm,
+    algorithm: Elliptic,
     point: &[u8],
     scalar: &[u8],
     checkint: u32,
@@ -123,21 +132,20 @@ fn put_section(
     padding: usize,
 ) -> usize
     requires { ⌜ (length (now point) ≡ publicLength algorithm) × (length (now scalar) ≡ privateLength algorithm) ⌝ }
-    requires { ⌜ padding ≡ paddingLength (contentLength algorithm (now scalar) (length (now comment))) ⌝ }
-    ensures { λ r. ⌜ isRun (now (out .entry)) at (section checkint algorithm (now (point .entry)) (standing (needsLeadingZero algorithm (now (scalar .entry))) (now (scalar .entry))) (now (comment .entry))) r (now (out .exit)) ⌝ }
+    requires { ⌜ padding ≡ paddingLength (contentLength (OnCurve algorithm) (ofPoint (now point)) (ofScalar (now scalar)) (length (now comment))) ⌝ }
+    ensures { λ r. ⌜ isRun (now (out .entry)) at (section checkint (keypair (OnCurve algorithm) (scalarZero algorithm (now (scalar .entry))) (ofPoint (now (point .entry))) (ofScalar (now (scalar .entry)))) (now (comment .entry))) r (now (out .exit)) ⌝ }
 {
     let a = buffer::put_uint32(out, at, checkint as usize);
     let b = buffer::put_uint32(out, a, checkint as usize);
-    let c = put_key(out, b, algorithm, point);
-    let d = put_private(out, c, algorithm, point, scalar);
-    let e = buffer::put_string(out, d, comment);
-    buffer::put_padding(out, e, padding)
+    let c = put_pair(out, b, algorithm, point, scalar);
+    let d = buffer::put_string(out, c, comment);
+    buffer::put_padding(out, d, padding)
 }
 
 // Puts every field of a plain image. The caller has seen to lengths and room.
 fn put_plain(
     out: &mut [u8],
-    algorithm: Algorithm,
+    algorithm: Elliptic,
     point: &[u8],
     scalar: &[u8],
     checkint: u32,
@@ -145,8 +153,8 @@ fn put_plain(
     content: usize,
 ) -> usize
     requires { ⌜ (length (now point) ≡ publicLength algorithm) × (length (now scalar) ≡ privateLength algorithm) ⌝ }
-    requires { ⌜ (content ≡ contentLength algorithm (now scalar) (length (now comment))) × (content < 65536) ⌝ }
-    ensures { λ r. ⌜ isRun (now (out .entry)) 0 (writtenImage checkint algorithm (now (point .entry)) (now (scalar .entry)) (now (comment .entry))) r (now (out .exit)) ⌝ }
+    requires { ⌜ (content ≡ contentLength (OnCurve algorithm) (ofPoint (now point)) (ofScalar (now scalar)) (length (now comment))) × (content < 65536) ⌝ }
+    ensures { λ r. ⌜ isRun (now (out .entry)) 0 (writtenImage checkint (OnCurve algorithm) (ofPoint (now (point .entry))) (ofScalar (now (scalar .entry))) (now (comment .entry))) r (now (out .exit)) ⌝ }
 {
     let padding = buffer::padding(content);
     let front = b"openssh-key-v1\0\0\0\0\x04none\0\0\0\x04none\0\0\0\0\0\0\0\x01";
@@ -159,7 +167,7 @@ fn put_plain(
 
 // A plain image of parts whose lengths are their algorithm's, if its size and the room allow.
 fn write_sized(
-    algorithm: Algorithm,
+    algorithm: Elliptic,
     point: &[u8],
     scalar: &[u8],
     checkint: u32,
@@ -167,14 +175,14 @@ fn write_sized(
     out: &mut [u8],
 ) -> Written
     requires { ⌜ (length (now point) ≡ publicLength algorithm) × (length (now scalar) ≡ privateLength algorithm) ⌝ }
-    ensures { λ r. ⌜ isSized (writtenImage checkint algorithm (now (point .entry)) (now (scalar .entry)) (now (comment .entry))) (now (out .entry)) r (now (out .exit)) ⌝ }
+    ensures { λ r. ⌜ isSized (writtenImage checkint (OnCurve algorithm) (ofPoint (now (point .entry))) (ofScalar (now (scalar .entry))) (now (comment .entry))) (now (out .entry)) r (now (out .exit)) ⌝ }
 {
     if 65535 < comment.len() {
         return reply::refused(Refusal::Size);
     }
     let key = blob_length(algorithm);
-    let private = private_length(algorithm, scalar);
-    let content = 8 + (key + private) + (4 + comment.len());
+    let pair = key + private_length(algorithm, scalar);
+    let content = 8 + pair + (4 + comment.len());
     let size = 47 + key + (content + buffer::padding(content));
     if 65535 < size {
         return reply::refused(Refusal::Size);
@@ -186,25 +194,25 @@ fn write_sized(
 }
 
 // An uncompressed point begins with 4.
-fn tagged(algorithm: Algorithm, point: &[u8]) -> bool
+fn tagged(algorithm: Elliptic, point: &[u8]) -> bool
     ensures { λ r. ⌜ r ≡ pointTag algorithm (now (point .entry)) ⌝ }
 {
     match algorithm {
-        Algorithm::Ed25519 => true,
-        Algorithm::Ecdsa(_) => fields::byte(point, 0) == 4,
+        Elliptic::Ed25519 => true,
+        Elliptic::Ecdsa(_) => fields::byte(point, 0) == 4,
     }
 }
 
 // A plain image of lent parts: the public string or point, the seed or scalar.
 pub fn write_parts(
-    algorithm: Algorithm,
+    algorithm: Elliptic,
     point: &[u8],
     scalar: &[u8],
     checkint: u32,
     comment: &[u8],
     out: &mut [u8],
 ) -> Written
-    ensures { λ r. ⌜ isPlain algorithm (now (point .entry)) (now (scalar .entry)) checkint (now (comment .entry)) (now (out .entry)) r (now (out .exit)) ⌝ }
+    ensures { λ r. ⌜ isPlain (OnCurve algorithm) (ofPoint (now (point .entry))) (ofScalar (now (scalar .entry))) checkint (now (comment .entry)) (now (out .entry)) r (now (out .exit)) ⌝ }
 {
     if point.len() != keys::public_length(algorithm) {
         return reply::refused(Refusal::Length);
@@ -223,7 +231,7 @@ pub fn write_parts(
 
 // A plain image of key material, with the given checkint or the derived one.
 pub fn write_plain(m: Material, given: Checkint, comment: &[u8], out: &mut [u8]) -> Written
-    ensures { λ r. ⌜ isPlain (m .algorithm) (publicOf m) (privateOf m) (checkintOf given (privateOf m)) (now (comment .entry)) (now (out .entry)) r (now (out .exit)) ⌝ }
+    ensures { λ r. ⌜ isPlain (OnCurve (m .algorithm)) (ofPoint (publicOf m)) (ofScalar (privateOf m)) (checkintOf given (privateOf m)) (now (comment .entry)) (now (out .entry)) r (now (out .exit)) ⌝ }
 {
     let algorithm = m.algorithm;
     let public = m.public;

@@ -2,7 +2,7 @@
 use Prim.Native.Nat.{ℕ, _+_, _≤_}
 use native.Mathlib.Nat.{add-zero}
 use native.Mathlib.Omega.{arith}
-use mathlib.Core.Path.{_≡_, refl, sym, _∙_, ap, ap₂}
+use mathlib.Core.Path.{_≡_, refl, sym, _∙_, ap, ap₂, subst}
 use mathlib.Core.Bool.{true, false}
 use borrow.Author.Tests.{eq-eqb}
 use mathlib.Core.List.{List, []}
@@ -40,20 +40,34 @@ whole-view s =
 whole-start : (s : List ℕ) → viewStart s (part 0 (length s)) ≡ 0
 whole-start s = start-in s (part 0 (length s)) (let fit : 0 + length s ≤ length s = omega arith in fit)
 
--- a part of what an accepted record holds is that part of the lent image
+-- what is held of an accepted image is the image itself, in its bytes and by its pointer
+held-whole :
+    (image over : RefT (List ℕ)) (number : ℕ) → number ≡ 0 → isView over image (heldPart (now image) number)
+    → (now over ≡ now image) × (over .ptr .0 ≡ image .ptr .0) × (over .ptr .1 ≡ image .ptr .1)
+unfolding heldPart
+held-whole image over number zero h =
+    let o : isView over image (part 0 (length (now image))) = rw zero at h in (
+      o .0 ∙ whole-view (now image),
+      o .1,
+      o .2 ∙ ap (λ (i : ℕ). image .ptr .1 + i) (whole-start (now image)) ∙ add-zero (image .ptr .1),
+    )
+
+-- so a part of it is that part of the lent image
+held-view :
+    (image over v : RefT (List ℕ)) (number : ℕ) (p : Part) → number ≡ 0 → isView over image (heldPart (now image) number)
+    → isView v over p → isView v image p
+held-view image over v number p zero h w =
+    let o = held-whole image over number zero h in (
+      w .0 ∙ ap (λ (s : List ℕ). viewOf s p) (o .0),
+      w .1 ∙ o .1,
+      w .2 ∙ ap₂ (λ (i : ℕ) (s : List ℕ). i + viewStart s p) (o .2) (o .0),
+    )
+
 pub read-then-view :
     (image over v : RefT (List ℕ)) (number count at : ℕ) (fields : Fields) (p : Part) → isReply number count at over fields image → number ≡ 0
     → isView v over p → isView v image p
-unfolding heldPart
 read-then-view image over v number count at fields p r accepted w =
-    let zero : foundAt (now image) .number ≡ 0 = sym (r .0) ∙ accepted in
-    let o : isView over image (part 0 (length (now image))) = rw zero at (r .4) in
-    let same : now over ≡ now image = o .0 ∙ whole-view (now image) in
-    let start : over .ptr .1 ≡ image .ptr .1 = o .2 ∙ ap (λ (i : ℕ). image .ptr .1 + i) (whole-start (now image)) ∙ add-zero (image .ptr .1) in (
-      w .0 ∙ ap (λ (s : List ℕ). viewOf s p) same,
-      w .1 ∙ o .1,
-      w .2 ∙ ap₂ (λ (i : ℕ) (s : List ℕ). i + viewStart s p) start same,
-    )
+    held-view image over v (foundAt (now image) .number) p (sym (r .0) ∙ accepted) (r .4) w
 
 -- ---- so also for the comment of any image, a refused one's the empty part
 
@@ -124,19 +138,16 @@ found-section s half e = ap foundOf (section-own s half e)
 pub header-then-section :
     (image over v : RefT (List ℕ)) (n c a m d b : ℕ) (half : Header) (fields : Fields) → isHeaderReply n c a over half image → n ≡ 0
     → isSectionReply m d b v fields over half → isReply m d b v fields image
-unfolding heldPart
 header-then-section image over v n c a m d b half fields h accepted r =
     let zero : headerFoundAt (now image) .number ≡ 0 = sym (h .0) ∙ accepted in
-    let o : isView over image (part 0 (length (now image))) = rw zero at (h .4) in
-    let same : now over ≡ now image = o .0 ∙ whole-view (now image) in
-    let start : over .ptr .1 ≡ image .ptr .1 = o .2 ∙ ap (λ (i : ℕ). image .ptr .1 + i) (whole-start (now image)) ∙ add-zero (image .ptr .1) in
+    let same : now over ≡ now image = held-whole image over (headerFoundAt (now image) .number) zero (h .4) .0 in
     let read : headerAt (now image) ≡ header-read.Header half = found-header (now image) zero ∙ ap header-read.Header (sym (h .3)) in
     let found : sectionFoundAt (now over) half ≡ foundAt (now image) = ap (λ (s : List ℕ). sectionFoundAt s half) same ∙ found-section (now image) half read in
     let p : Part = heldPart (now image) (foundAt (now image) .number) in
-    let w : (now v ≡ viewOf (now image) p) × (v .ptr .0 ≡ over .ptr .0) × (v .ptr .1 ≡ over .ptr .1 + viewStart (now image) p) = rw (found, same) at (r .4) in (
+    let w : isView v over p = subst (λ (x : Part). isView v over x) (ap₂ (λ (s : List ℕ) (f : Found). heldPart s (f .number)) same found) (r .4) in (
       r .0 ∙ ap (λ (f : Found). f .number) found,
       r .1 ∙ ap (λ (f : Found). f .count) found,
       r .2 ∙ ap (λ (f : Found). f .at) found,
       r .3 ∙ ap (λ (f : Found). f .fields) found,
-      (w .0, w .1 ∙ o .1, w .2 ∙ ap (λ (i : ℕ). i + viewStart (now image) p) start),
+      held-view image over v (headerFoundAt (now image) .number) p zero (h .4) w,
     )

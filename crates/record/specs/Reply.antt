@@ -9,6 +9,7 @@ use Rattle.container.specs.declared.Fields.{Fields}
 use Rattle.fields.specs.Fields.{isView}
 use Rattle.header.specs.declared.Header.{Header}
 use Rattle.found.specs.declared.Found.{Found}
+use Rattle.found.specs.declared.FoundHeader.{FoundHeader}
 use Rattle.found.specs.Found.{foundAt, sectionFoundAt, headerFoundAt, heldPart}
 
 -- n, c and a are the number, the count and the place, and what is held is x, over the image itself or over no bytes of it
@@ -28,10 +29,12 @@ abbrev pub isSectionReply : ℕ → ℕ → ℕ → RefT (List ℕ) → Fields �
 isSectionReply number count at over fields image half = isFound (sectionFoundAt (now image) half) number count at over fields image
 
 -- a header and its half
+abbrev pub isFoundHeader : FoundHeader → ℕ → ℕ → ℕ → RefT (List ℕ) → Header → RefT (List ℕ) → Type 0
+isFoundHeader found number count at over half image =
+    isHeld (found .number) (found .count) (found .at) (found .half) number count at over half image
+
 abbrev pub isHeaderReply : ℕ → ℕ → ℕ → RefT (List ℕ) → Header → RefT (List ℕ) → Type 0
-isHeaderReply number count at over half image =
-    isHeld (headerFoundAt (now image) .number) (headerFoundAt (now image) .count) (headerFoundAt (now image) .at) (headerFoundAt (now image) .half)
-    number count at over half image
+isHeaderReply number count at over half image = isFoundHeader (headerFoundAt (now image)) number count at over half image
 
 -- ---- any two such replies are alike: in their numbers, in what they hold, and in its bytes and place
 

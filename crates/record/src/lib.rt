@@ -1,6 +1,7 @@
 // Reading an image, or its header, into a record or a half that holds it, and its section from such a half.
-ghost use Rattle.record.specs.Reply.{isFound, isReply, isSectionReply, isHeaderReply};
+ghost use Rattle.record.specs.Reply.{isFound, isFoundHeader, isReply, isSectionReply, isHeaderReply};
 use found::Found;
+use found::FoundHeader;
 use views::Record;
 
 // What a read answers: the refusal's number, count and place, 0 where the image is accepted, and the record,
@@ -50,10 +51,10 @@ pub struct HeaderReply<'a> {
     pub held: Header<'a>,
 }
 
-pub fn read_header<'a>(image: &'a [u8]) -> HeaderReply<'a>
-    ensures { λ r. ⌜ isHeaderReply (r .number) (r .count) (r .at) (r .held .image) (r .held .half) (image .entry) ⌝ }
+// What was found of a header, over the image where it was accepted.
+fn answer_half<'a>(image: &'a [u8], found: FoundHeader) -> HeaderReply<'a>
+    ensures { λ r. ⌜ isFoundHeader found (r .number) (r .count) (r .at) (r .held .image) (r .held .half) (image .entry) ⌝ }
 {
-    let found = found::find_header(image);
     let over = found::held_half(image, found);
     HeaderReply {
         number: found.number,
@@ -64,6 +65,13 @@ pub fn read_header<'a>(image: &'a [u8]) -> HeaderReply<'a>
             half: found.half,
         },
     }
+}
+
+pub fn read_header<'a>(image: &'a [u8]) -> HeaderReply<'a>
+    ensures { λ r. ⌜ isHeaderReply (r .number) (r .count) (r .at) (r .held .image) (r .held .half) (image .entry) ⌝ }
+{
+    let found = found::find_header(image);
+    answer_half(image, found)
 }
 
 // The section read, if the half is what an accepted header read of its image gives.

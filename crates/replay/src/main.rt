@@ -1,12 +1,14 @@
 // Replays the stored images: reads them from the file `vectors`, each a length of four bytes, big-endian,
 // and that many bytes, and writes for each what the reader, the views, the header read and the report say
-// of it.
+// of it. What is said of RSA alone is left out where all of it is 0.
 use container::Fields;
 use container::ImageRead;
 use fields::Fault;
 use fields::Part;
 use header::Header;
 use header::HeaderRead;
+use keys::Public;
+use pairs::Private;
 use reply::Written;
 use telling::say_number;
 use telling::word;
@@ -16,19 +18,18 @@ fn place(part: Part) {
     say_number(part.length);
 }
 
-// A refusal: number, count and place, and 0 for every field and view.
+// A refusal: number, count and place, and nothing more.
 fn say_refused(f: Fault) {
     let why = f.why;
-    word(b"read");
     telling::say_reply(why.number(), why.count(), f.at, 0);
-    word(b" 0 0 0 0 0 0 0 0 0 0 0 0 0 0 0 0 0 0 0 0 0\nviews 0 0 0 0 0 0 0\n");
+    word(b"\n");
 }
 
 // The record's kind and names, and then its numbers.
 fn say_names(f: Fields) {
     let section = f.section;
     let kind = section.kind;
-    word(b"read 0 0 0");
+    word(b" 0 0 0");
     say_number(judge::kind_code(kind) as usize);
     say_header_names(f.header);
 }
@@ -55,9 +56,11 @@ fn say_numbers(f: Fields) {
 fn say_places(f: Fields) {
     let header = f.header;
     let section = f.section;
+    let public = header.public;
+    let private = section.private;
     place(header.blob);
-    place(header.point);
-    place(section.scalar);
+    place(public.point);
+    place(private.scalar);
     place(section.comment);
     place(header.salt);
     place(section.ciphertext);
@@ -99,7 +102,70 @@ fn say_later_views(image: &[u8], f: Fields) {
     word(b"\n");
 }
 
+// ---- RSA's fields
+
+fn absent(part: Part) -> bool {
+    (part.start == 0) & (part.length == 0)
+}
+
+fn no_public(public: Public) -> bool {
+    (public.bits == 0) & absent(public.modulus) & absent(public.exponent)
+}
+
+fn no_private(private: Private) -> bool {
+    absent(private.d) & absent(private.iqmp) & absent(private.p) & absent(private.q)
+}
+
+fn say_public(public: Public) {
+    say_number(public.bits);
+    place(public.modulus);
+    place(public.exponent);
+}
+
+fn say_private(private: Private) {
+    place(private.d);
+    place(private.iqmp);
+    place(private.p);
+    place(private.q);
+}
+
+fn say_rsa_views(image: &[u8], f: Fields) {
+    say_sum(parts::modulus(image, f));
+    say_sum(parts::exponent(image, f));
+    say_sum(parts::d(image, f));
+    say_sum(parts::iqmp(image, f));
+    say_sum(parts::p(image, f));
+    say_sum(parts::q(image, f));
+}
+
+fn say_rsa(image: &[u8], f: Fields) {
+    let header = f.header;
+    let section = f.section;
+    let public = header.public;
+    let private = section.private;
+    if no_public(public) & no_private(private) {
+        return;
+    }
+    word(b"rsa");
+    say_public(public);
+    say_private(private);
+    say_rsa_views(image, f);
+    word(b"\n");
+}
+
+fn say_header_rsa(public: Public) {
+    if no_public(public) {
+        return;
+    }
+    word(b"header-rsa");
+    say_public(public);
+    word(b"\n");
+}
+
+// ---- the reads
+
 fn say_read(image: &[u8]) {
+    word(b"read");
     match container::read(image) {
         ImageRead::Refused(f) => say_refused(f),
         ImageRead::Record(f) => {
@@ -107,29 +173,28 @@ fn say_read(image: &[u8]) {
             say_numbers(f);
             say_places(f);
             say_views(image, f);
+            say_rsa(image, f);
         }
     }
 }
 
 // What an accepted header read answers.
 fn say_half(half: Header) {
+    let public = half.public;
     word(b" 0 0 0");
     say_header_names(half);
     say_number(half.section);
     place(half.blob);
-    place(half.point);
+    place(public.point);
     place(half.salt);
     word(b"\n");
+    say_header_rsa(public);
 }
 
 fn say_header_read(image: &[u8]) {
     word(b"header");
     match header::read_header(image) {
-        HeaderRead::Refused(f) => {
-            let why = f.why;
-            telling::say_reply(why.number(), why.count(), f.at, 0);
-            word(b" 0 0 0 0 0 0 0 0 0 0\n");
-        }
+        HeaderRead::Refused(f) => say_refused(f),
         HeaderRead::Header(h) => say_half(h),
     }
 }

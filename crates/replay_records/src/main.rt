@@ -3,13 +3,16 @@
 // the section read makes of its header half.
 //
 // Every number in the file is big-endian. A vector is the image's length and the lent buffer's, four bytes
-// each, the record's 22 numbers, eight bytes each, and the image. The numbers are kind (1 plain, 2
-// encrypted), algorithm, cipher, KDF, rounds, checkint, padding and section, and then start and length of
-// blob, point, scalar, comment, salt, ciphertext and tag.
+// each, the record's 35 numbers, eight bytes each, and the image. The numbers are kind (1 plain, 2
+// encrypted), algorithm, cipher, KDF, rounds, checkint, padding and section, then start and length of
+// blob, point, scalar, comment, salt, ciphertext and tag, and then RSA's: bits, and start and length of
+// modulus, exponent, d, iqmp, p and q. What is said of RSA alone is left out where all of it is 0.
 use container::Fields;
 use container::ImageRead;
 use fields::Part;
 use header::Header;
+use keys::Public;
+use pairs::Private;
 use reply::Written;
 use section::Kind;
 use section::Section;
@@ -45,6 +48,25 @@ fn kind_of(code: u32) -> Kind {
     Kind::Encrypted
 }
 
+fn public_of(head: &[u8]) -> Public {
+    Public {
+        point: place(head, 10, 11),
+        modulus: place(head, 23, 24),
+        exponent: place(head, 25, 26),
+        bits: number(head, 22),
+    }
+}
+
+fn private_of(head: &[u8]) -> Private {
+    Private {
+        scalar: place(head, 12, 13),
+        d: place(head, 27, 28),
+        iqmp: place(head, 29, 30),
+        p: place(head, 31, 32),
+        q: place(head, 33, 34),
+    }
+}
+
 fn header_of(head: &[u8]) -> Header {
     Header {
         cipher: telling::cipher_of(lower(head, 2)),
@@ -53,7 +75,7 @@ fn header_of(head: &[u8]) -> Header {
         rounds: lower(head, 4),
         algorithm: telling::algorithm_of(lower(head, 1)),
         blob: place(head, 8, 9),
-        point: place(head, 10, 11),
+        public: public_of(head),
         section: number(head, 7),
     }
 }
@@ -63,7 +85,7 @@ fn section_of(head: &[u8]) -> Section {
         kind: kind_of(lower(head, 0)),
         checkint: lower(head, 5),
         padding: number(head, 6),
-        scalar: place(head, 12, 13),
+        private: private_of(head),
         comment: place(head, 14, 15),
         ciphertext: place(head, 18, 19),
         tag: place(head, 20, 21),
@@ -89,10 +111,12 @@ fn say_written(written: Written) {
     }
 }
 
-// A view's length, and what remains of it modulo the prime.
+// A view's length, and where that isn't 0 what remains of it modulo the prime.
 fn say_view(view: &[u8]) {
     say_number(view.len());
-    say_number(telling::rest_of(view) as usize);
+    if view.len() > 0 {
+        say_number(telling::rest_of(view) as usize);
+    }
 }
 
 fn say_views(image: &[u8], f: Fields) {
@@ -111,6 +135,34 @@ fn say_later_views(image: &[u8], f: Fields) {
     say_view(parts::tag(image, f));
 }
 
+fn empty(view: &[u8]) -> bool {
+    view.len() == 0
+}
+
+// Whether each view of RSA's numbers is empty.
+fn no_rsa_views(image: &[u8], f: Fields) -> bool {
+    empty(parts::modulus(image, f))
+        & empty(parts::exponent(image, f))
+        & empty(parts::d(image, f))
+        & empty(parts::iqmp(image, f))
+        & empty(parts::p(image, f))
+        & empty(parts::q(image, f))
+}
+
+fn say_rsa_views(image: &[u8], f: Fields) {
+    if no_rsa_views(image, f) {
+        return;
+    }
+    word(b"views-rsa");
+    say_view(parts::modulus(image, f));
+    say_view(parts::exponent(image, f));
+    say_view(parts::d(image, f));
+    say_view(parts::iqmp(image, f));
+    say_view(parts::p(image, f));
+    say_view(parts::q(image, f));
+    word(b"\n");
+}
+
 // ---- what the section read says of its header half
 
 fn say_place(part: Part) {
@@ -118,17 +170,39 @@ fn say_place(part: Part) {
     say_number(part.length);
 }
 
+fn absent(part: Part) -> bool {
+    (part.start == 0) & (part.length == 0)
+}
+
+fn no_rsa(private: Private) -> bool {
+    absent(private.d) & absent(private.iqmp) & absent(private.p) & absent(private.q)
+}
+
+fn say_rsa(private: Private) {
+    if no_rsa(private) {
+        return;
+    }
+    word(b"section-rsa");
+    say_place(private.d);
+    say_place(private.iqmp);
+    say_place(private.p);
+    say_place(private.q);
+    word(b"\n");
+}
+
 fn say_section(section: Section) {
     let kind = section.kind;
+    let private = section.private;
     word(b" 0 0 0");
     say_number(judge::kind_code(kind) as usize);
     say_number(section.checkint as usize);
     say_number(section.padding);
-    say_place(section.scalar);
+    say_place(private.scalar);
     say_place(section.comment);
     say_place(section.ciphertext);
     say_place(section.tag);
     word(b"\n");
+    say_rsa(private);
 }
 
 fn say_section_read(image: &[u8], half: Header) {
@@ -137,7 +211,7 @@ fn say_section_read(image: &[u8], half: Header) {
         ImageRead::Refused(f) => {
             let why = f.why;
             telling::say_reply(why.number(), why.count(), f.at, 0);
-            word(b" 0 0 0 0 0 0 0 0 0 0\n");
+            word(b"\n");
         }
         ImageRead::Record(g) => say_section(g.section),
     }
@@ -165,6 +239,7 @@ fn handed_in(image: &[u8], f: Fields, lent: &mut [u8]) {
     say_written(writer::rewrite_record(image, f, lent));
     telling::say_buffer(lent);
     say_views(image, f);
+    say_rsa_views(image, f);
     say_section_read(image, f.header);
 }
 
@@ -200,9 +275,9 @@ fn vector(fd: i32, head: &[u8]) {
 
 // One vector; whether there was one.
 fn one(fd: i32) -> bool {
-    let mut head = [0u8; 184];
+    let mut head = [0u8; 288];
     let got = io::read_full(fd, &mut head);
-    if got < 184 {
+    if got < 288 {
         return false;
     }
     vector(fd, &head);

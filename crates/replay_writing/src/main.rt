@@ -3,17 +3,20 @@
 //
 // Every number in the file is four bytes, big-endian. The calls stand in rows: how many they are, the
 // buffer that is lent to them one after another, the length of the image in it, and the calls. A call is
-// its code, three numbers and four texts:
-//   0 plain      algorithm, 1 to derive the checkint or 0, checkint; public, private, comment, nothing
+// its code, three numbers and seven texts, of which the last are empty where fewer are named:
+//   0 plain      algorithm, 1 to derive the checkint or 0, checkint; public, private, comment
 //   1 encrypted  cipher, KDF, rounds; salt, blob, ciphertext, tag
-//   2 rewrite    0, 0, 0; image, nothing, nothing, nothing
+//   2 rewrite    0, 0, 0; image
 //   3 change     0 for the length that the last accepted call answered, or 1 for the number that follows,
-//                its upper half and its lower half; comment, nothing, nothing, nothing
+//                its upper half and its lower half; comment
+//   4 rsa        0, 1 to derive the checkint or 0, checkint; n, e, d, iqmp, p, q, comment
 // A text is how many pieces it has, and then each piece: the length of a unit, the length of the piece, and
 // the unit, which is to be repeated over the piece.
 use fields::Part;
 use material::Checkint;
 use material::Material;
+use names::Algorithm;
+use names::Elliptic;
 use reply::Written;
 
 // ---- reading the file
@@ -69,7 +72,7 @@ fn text(fd: i32, buf: &mut [u8], start: usize) -> usize {
     at
 }
 
-// What a call is given: three numbers, and where its four texts end that stand one after another.
+// What a call is given: three numbers, and where its seven texts end that stand one after another.
 struct Given {
     x: u32,
     y: u32,
@@ -78,6 +81,9 @@ struct Given {
     b: usize,
     c: usize,
     d: usize,
+    e: usize,
+    f: usize,
+    g: usize,
 }
 
 fn read_given(fd: i32, texts: &mut [u8]) -> Given {
@@ -88,6 +94,9 @@ fn read_given(fd: i32, texts: &mut [u8]) -> Given {
     let b = text(fd, texts, a);
     let c = text(fd, texts, b);
     let d = text(fd, texts, c);
+    let e = text(fd, texts, d);
+    let f = text(fd, texts, e);
+    let g = text(fd, texts, f);
     Given {
         x: x,
         y: y,
@@ -96,6 +105,9 @@ fn read_given(fd: i32, texts: &mut [u8]) -> Given {
         b: b,
         c: c,
         d: d,
+        e: e,
+        f: f,
+        g: g,
     }
 }
 
@@ -117,6 +129,15 @@ fn checkint_of(derive: u32, value: u32) -> Checkint {
     Checkint::Given(value)
 }
 
+// The kind of a key for the plain writer; one of RSA isn't stored.
+fn elliptic_of(code: u32) -> Elliptic {
+    let algorithm = telling::algorithm_of(code);
+    match algorithm {
+        Algorithm::Elliptic(kind) => kind,
+        Algorithm::Rsa => Elliptic::Ed25519,
+    }
+}
+
 // The length that was carried on, or the one that the file gives.
 fn length_of(of: Given, n: usize) -> usize {
     if of.x == 0 {
@@ -131,7 +152,7 @@ fn call_plain(of: Given, texts: &[u8], lent: &mut [u8]) -> Written {
     let public = between(texts, 0, of.a);
     let private = between(texts, of.a, of.b);
     let comment = between(texts, of.b, of.c);
-    let m = Material::new(telling::algorithm_of(of.x), public, private);
+    let m = Material::new(elliptic_of(of.x), public, private);
     plain::write_plain(m, checkint_of(of.y, of.z), comment, lent)
 }
 
@@ -145,12 +166,24 @@ fn call_encrypted(of: Given, texts: &[u8], lent: &mut [u8]) -> Written {
     encrypted::write_encrypted(cipher, kdf, salt, of.z, blob, ciphertext, tag, lent)
 }
 
+fn call_rsa(of: Given, texts: &[u8], lent: &mut [u8]) -> Written {
+    let n = between(texts, 0, of.a);
+    let e = between(texts, of.a, of.b);
+    let d = between(texts, of.b, of.c);
+    let iqmp = between(texts, of.c, of.d);
+    let p = between(texts, of.d, of.e);
+    let q = between(texts, of.e, of.f);
+    let comment = between(texts, of.f, of.g);
+    plain_rsa::write_rsa(n, e, d, iqmp, p, q, checkint_of(of.y, of.z), comment, lent)
+}
+
 // The entry with this code.
 fn call(code: u32, of: Given, n: usize, texts: &[u8], lent: &mut [u8]) -> Written {
     match code {
         0 => call_plain(of, texts, lent),
         1 => call_encrypted(of, texts, lent),
         2 => writer::rewrite(between(texts, 0, of.a), lent),
+        4 => call_rsa(of, texts, lent),
         _ => comment::change_comment(lent, length_of(of, n), between(texts, 0, of.a)),
     }
 }
@@ -165,7 +198,7 @@ fn stored_call(fd: i32, code: u32, n: usize, lent: &mut [u8]) -> Written {
 // ---- what is written of each call
 
 fn say_entry(code: u32) {
-    let names = b"plain    encryptedrewrite  change   ";
+    let names = b"plain    encryptedrewrite  change   rsa      ";
     let start = (code as usize) * 9;
     telling::word(between(names, start, start + 9));
 }

@@ -8,14 +8,15 @@ use borrow.Author.Tests.{lt-ltb}
 use lib.ListN.{length}
 use Rattle.fields.specs.Bytes.{ascii}
 use Rattle.fields.specs.Fields.{hasRoom, bytesAt}
-use Rattle.names.specs.declared.Algorithm.the-variants.{Ed25519, Ecdsa}
+use Rattle.names.specs.declared.Algorithm.the-variants.{Elliptic as OnCurve, Rsa}
+use Rattle.names.specs.declared.Elliptic.the-variants.{Ed25519, Ecdsa}
 use Rattle.names.specs.declared.Cipher.the-variants as cipher
 use Rattle.names.specs.declared.Curve.the-variants.{Nistp256}
 use Rattle.names.specs.declared.Kdf.the-variants as kdf
 use Rattle.header.specs.Header.{magicAt, cipherAt, headerAt}
 use Rattle.container.specs.Container.{readAt}
 use Rattle.buffer.specs.Decimal.{digitsOf, digits, decimal}
-use Rattle.report.specs.Report.{Plain, Encrypted, Refused, lineFeed, line, names, lines, summaryOf, reportOf}
+use Rattle.report.specs.Report.{Plain, Encrypted, Refused, lineFeed, line, bitsLine, names, lines, summaryOf, reportOf}
 
 -- lines as they are printed
 abbrev pub printed : List String → List ℕ
@@ -24,15 +25,32 @@ printed (text ∷ more) = ascii text ++ lineFeed ++ printed more
 
 -- an Ed25519 image with comment `oven7`, 234 bytes
 pub oven7 :
-    lines (Plain Ed25519 cipher.None kdf.None 5 0 234 true)
+    lines (Plain (OnCurve Ed25519) 0 cipher.None kdf.None 5 0 234 true)
     ≡ printed
     ("kind plain" ∷ "algorithm ssh-ed25519" ∷ "cipher none" ∷ "kdf none" ∷ "comment 5" ∷ "padding 0" ∷ "image 234" ∷ "form yes" ∷ [])
-unfolding lines names line decimal digits digitsOf
+unfolding lines names bitsLine line decimal digits digitsOf
 oven7 = refl
+
+-- an RSA one, of 3,072 bits
+pub silo :
+    lines (Plain Rsa 3072 cipher.None kdf.None 9 1 1857 true)
+    ≡ printed
+    ("kind plain"
+    ∷ "algorithm ssh-rsa"
+    ∷ "bits 3072"
+    ∷ "cipher none"
+    ∷ "kdf none"
+    ∷ "comment 9"
+    ∷ "padding 1"
+    ∷ "image 1857"
+    ∷ "form yes"
+    ∷ [])
+unfolding lines names bitsLine line decimal digits digitsOf
+silo = refl
 
 -- an encrypted one with a tag
 pub sealed :
-    lines (Encrypted (Ecdsa Nistp256) cipher.Aes256Gcm kdf.Bcrypt 160 16 1405)
+    lines (Encrypted (OnCurve (Ecdsa Nistp256)) 0 cipher.Aes256Gcm kdf.Bcrypt 160 16 1405)
     ≡ printed
     ("kind encrypted"
     ∷ "algorithm ecdsa-sha2-nistp256"
@@ -42,7 +60,7 @@ pub sealed :
     ∷ "tag 16"
     ∷ "image 1405"
     ∷ [])
-unfolding lines names line decimal digits digitsOf
+unfolding lines names bitsLine line decimal digits digitsOf
 sealed = refl
 
 -- two bytes left over

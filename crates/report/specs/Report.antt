@@ -1,5 +1,6 @@
 -- Document 01, 'Views and the inspection program': the program reads standard input and prints no private byte. What it prints of an
--- image is its summary in lines; what the summary holds is its kind, its names, its lengths and its form, or the refusal.
+-- image is its summary in lines; what the summary holds is its kind, its names, its lengths and its form, or the refusal. Document 02,
+-- request Two: the program shows the modulus size as a line `bits N` after `algorithm`.
 use Prim.Native.Nat.{ℕ, _≤_}
 use mathlib.Core.Bool.{Bool, true, false}
 use mathlib.Core.List.{List, [], _∷_, _++_}
@@ -9,6 +10,7 @@ use Rattle.fields.specs.Refusals.{numberOf, countOf}
 use Rattle.fields.specs.declared.Fault.{Fault}
 use Rattle.fields.specs.declared.Refusal.the-variants.{Room}
 use Rattle.names.specs.declared.Algorithm.{Algorithm}
+use Rattle.names.specs.declared.Algorithm.the-variants.{Elliptic as OnCurve, Rsa}
 use Rattle.names.specs.declared.Cipher.{Cipher}
 use Rattle.names.specs.declared.Kdf.{Kdf}
 use Rattle.names.specs.Algorithms.{algorithmName}
@@ -24,18 +26,18 @@ use Rattle.reply.specs.Reply.{unless, answers}
 use Rattle.reply.specs.declared.Written.{Written}
 use Rattle.reply.specs.declared.Written.the-variants as written
 
--- Comment, padding, ciphertext, tag and image are lengths in bytes. `form` says whether the image is in the writer's form.
+-- Comment, padding, ciphertext, tag and image are lengths in bytes; bits are RSA's modulus's. `form` says whether the image is in the writer's form.
 pub data Summary : Type 0 where
-  Plain : (algorithm : Algorithm) (cipher : Cipher) (kdf : Kdf) (comment padding image : ℕ) (form : Bool) → Summary
-  Encrypted : (algorithm : Algorithm) (cipher : Cipher) (kdf : Kdf) (ciphertext tag image : ℕ) → Summary
+  Plain : (algorithm : Algorithm) (bits : ℕ) (cipher : Cipher) (kdf : Kdf) (comment padding image : ℕ) (form : Bool) → Summary
+  Encrypted : (algorithm : Algorithm) (bits : ℕ) (cipher : Cipher) (kdf : Kdf) (ciphertext tag image : ℕ) → Summary
   Refused : (number count : ℕ) → Summary
 
 -- the summary of an accepted image: its record, its length and its form
 unfoldable pub accepted : Header → Section → ℕ → Bool → Summary
 accepted h x image form =
     onKind (x .kind)
-    (Plain (h .algorithm) (h .cipher) (h .kdf) (x .comment .length) (x .padding) image form)
-    (Encrypted (h .algorithm) (h .cipher) (h .kdf) (x .ciphertext .length) (x .tag .length) image)
+    (Plain (h .algorithm) (h .public .bits) (h .cipher) (h .kdf) (x .comment .length) (x .padding) image form)
+    (Encrypted (h .algorithm) (h .public .bits) (h .cipher) (h .kdf) (x .ciphertext .length) (x .tag .length) image)
 
 -- the summary of a refused one
 abbrev pub refusedAs : Fault → Summary
@@ -51,10 +53,16 @@ lineFeed = 10 ∷ []
 unfoldable pub line : List ℕ → List ℕ → List ℕ
 line label value = join (label ∷ value ∷ lineFeed ∷ [])
 
--- the three lines after the kind, of every accepted image
-unfoldable pub names : Algorithm → Cipher → Kdf → List (List ℕ)
-names algorithm cipher kdf =
+-- only RSA has a modulus
+unfoldable pub bitsLine : Algorithm → ℕ → List ℕ
+bitsLine (OnCurve e) bits = []
+bitsLine Rsa bits = line (ascii "bits ") (decimal bits)
+
+-- the lines after the kind, of every accepted image
+unfoldable pub names : Algorithm → ℕ → Cipher → Kdf → List (List ℕ)
+names algorithm bits cipher kdf =
     line (ascii "algorithm ") (algorithmName algorithm)
+    ∷ bitsLine algorithm bits
     ∷ line (ascii "cipher ") (cipherName cipher)
     ∷ line (ascii "kdf ") (kdfName kdf)
     ∷ []
@@ -64,19 +72,19 @@ formName true = ascii "yes"
 formName false = ascii "no"
 
 unfoldable pub lines : Summary → List ℕ
-lines (Plain algorithm cipher kdf comment padding image form) =
+lines (Plain algorithm bits cipher kdf comment padding image form) =
     join
     (line (ascii "kind ") (ascii "plain")
-    ∷ names algorithm cipher kdf
+    ∷ names algorithm bits cipher kdf
     ++ (line (ascii "comment ") (decimal comment)
     ∷ line (ascii "padding ") (decimal padding)
     ∷ line (ascii "image ") (decimal image)
     ∷ line (ascii "form ") (formName form)
     ∷ []))
-lines (Encrypted algorithm cipher kdf ciphertext tag image) =
+lines (Encrypted algorithm bits cipher kdf ciphertext tag image) =
     join
     (line (ascii "kind ") (ascii "encrypted")
-    ∷ names algorithm cipher kdf
+    ∷ names algorithm bits cipher kdf
     ++ (line (ascii "ciphertext ") (decimal ciphertext)
     ∷ line (ascii "tag ") (decimal tag)
     ∷ line (ascii "image ") (decimal image)

@@ -7,7 +7,8 @@ use mathlib.Core.List.{List}
 use lib.ListN.{length, length-append}
 use Rattle.fields.specs.Bytes.{join}
 use Rattle.names.specs.declared.Algorithm.{Algorithm}
-use Rattle.names.specs.declared.Algorithm.the-variants.{Ed25519, Ecdsa}
+use Rattle.names.specs.declared.Algorithm.the-variants.{Elliptic as OnCurve, Rsa}
+use Rattle.names.specs.declared.Elliptic.the-variants.{Ed25519, Ecdsa}
 use Rattle.names.specs.declared.Cipher.{Cipher}
 use Rattle.names.specs.declared.Curve.the-variants.{Nistp256, Nistp384, Nistp521}
 use Rattle.names.specs.declared.Kdf.{Kdf}
@@ -16,38 +17,44 @@ use Rattle.names.specs.Ciphers.{row}
 use Rattle.buffer.specs.Decimal.{decimal-short}
 use Rattle.buffer.specs.Runs.{join-append}
 use Rattle.spelling.specs.Spelling.{kdf-length}
-use Rattle.report.specs.Report.{Summary, Plain, Encrypted, Refused, line, names, formName, lines}
+use Rattle.report.specs.Report.{Summary, Plain, Encrypted, Refused, line, bitsLine, names, formName, lines}
 
 line-length : (label value : List ℕ) → length (line label value) ≡ length label + length value + 1
 unfolding line
 line-length label value = simp length-append (omega arith)
 
 algorithm-short : (a : Algorithm) → length (algorithmName a) ≤ 19
-algorithm-short Ed25519 = omega arith
-algorithm-short (Ecdsa Nistp256) = omega arith
-algorithm-short (Ecdsa Nistp384) = omega arith
-algorithm-short (Ecdsa Nistp521) = omega arith
+algorithm-short (OnCurve Ed25519) = omega arith
+algorithm-short (OnCurve (Ecdsa Nistp256)) = omega arith
+algorithm-short (OnCurve (Ecdsa Nistp384)) = omega arith
+algorithm-short (OnCurve (Ecdsa Nistp521)) = omega arith
+algorithm-short Rsa = omega arith
+
+bits-short : (a : Algorithm) (bits : ℕ) → bits < 2 ^ 64 → length (bitsLine a bits) ≤ 26
+unfolding bitsLine
+bits-short (OnCurve e) bits h = omega arith
+bits-short Rsa bits h = simp line-length (omega (arith, decimal-short bits h))
 
 form-short : (b : Bool) → length (formName b) ≤ 3
 form-short true = omega arith
 form-short false = omega arith
 
-names-short : (a : Algorithm) (c : Cipher) (k : Kdf) → length (join (names a c k)) ≤ 71
+names-short : (a : Algorithm) (bits : ℕ) (c : Cipher) (k : Kdf) → bits < 2 ^ 64 → length (join (names a bits c k)) ≤ 97
 unfolding names
-names-short a c k = simp (length-append, line-length) (omega (arith, algorithm-short a, row c .short, kdf-length k))
+names-short a bits c k h = simp (length-append, line-length) (omega (arith, algorithm-short a, bits-short a bits h, row c .short, kdf-length k))
 
 -- each number of a summary fits 64 bits
 abbrev pub Fits : Summary → Type 0
-Fits (Plain a c k comment padding image form) = (comment < 2 ^ 64) × (padding < 2 ^ 64) × (image < 2 ^ 64)
-Fits (Encrypted a c k ciphertext tag image) = (ciphertext < 2 ^ 64) × (tag < 2 ^ 64) × (image < 2 ^ 64)
+Fits (Plain a bits c k comment padding image form) = (bits < 2 ^ 64) × (comment < 2 ^ 64) × (padding < 2 ^ 64) × (image < 2 ^ 64)
+Fits (Encrypted a bits c k ciphertext tag image) = (bits < 2 ^ 64) × (ciphertext < 2 ^ 64) × (tag < 2 ^ 64) × (image < 2 ^ 64)
 Fits (Refused number count) = (number < 2 ^ 64) × (count < 2 ^ 64)
 
 pub lines-short : (x : Summary) → Fits x → length (lines x) ≤ 256
 unfolding lines
-lines-short (Plain a c k comment padding image form) h =
+lines-short (Plain a bits c k comment padding image form) h =
     simp (length-append, line-length, join-append)
-    (omega (arith, names-short a c k, decimal-short comment (h .0), decimal-short padding (h .1), decimal-short image (h .2), form-short form))
-lines-short (Encrypted a c k ciphertext tag image) h =
+    (omega (arith, names-short a bits c k (h .0), decimal-short comment (h .1), decimal-short padding (h .2), decimal-short image (h .3), form-short form))
+lines-short (Encrypted a bits c k ciphertext tag image) h =
     simp (length-append, line-length, join-append)
-    (omega (arith, names-short a c k, decimal-short ciphertext (h .0), decimal-short tag (h .1), decimal-short image (h .2)))
+    (omega (arith, names-short a bits c k (h .0), decimal-short ciphertext (h .1), decimal-short tag (h .2), decimal-short image (h .3)))
 lines-short (Refused number count) h = simp length-append (omega (arith, decimal-short number (h .0), decimal-short count (h .1)))

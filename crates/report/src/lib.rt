@@ -7,7 +7,7 @@ ghost use Rattle.buffer.specs.Decimal.{decimal};
 ghost use Rattle.buffer.specs.Puts.{isPut};
 ghost use Rattle.buffer.specs.Runs.{isRun};
 ghost use Rattle.spelling.specs.Spelling.{nameTable};
-ghost use Rattle.report.specs.Report.{Plain, Encrypted, Refused, accepted, summaryOf, line, names, formName, isText, isReport};
+ghost use Rattle.report.specs.Report.{Plain, Encrypted, Refused, accepted, summaryOf, line, bitsLine, names, formName, isText, isReport};
 use container::FormRead;
 use fields::Part;
 use fields::Refusal;
@@ -37,12 +37,30 @@ fn put_name(out: &mut [u8], at: usize, label: &[u8], name: Part) -> usize
     buffer::put(out, b, b"\n")
 }
 
-fn put_names(out: &mut [u8], at: usize, algorithm: Algorithm, cipher: Cipher, kdf: Kdf) -> usize
-    ensures { λ r. ⌜ isRun (now (out .entry)) at (join (names algorithm cipher kdf)) r (now (out .exit)) ⌝ }
+// How many bits an RSA key's modulus has; of another key, nothing.
+fn put_bits(out: &mut [u8], at: usize, algorithm: Algorithm, bits: usize) -> usize
+    ensures { λ r. ⌜ isRun (now (out .entry)) at (bitsLine algorithm bits) r (now (out .exit)) ⌝ }
+{
+    match algorithm {
+        Algorithm::Elliptic(_) => at,
+        Algorithm::Rsa => put_number(out, at, b"bits ", bits),
+    }
+}
+
+fn put_names(
+    out: &mut [u8],
+    at: usize,
+    algorithm: Algorithm,
+    bits: usize,
+    cipher: Cipher,
+    kdf: Kdf,
+) -> usize
+    ensures { λ r. ⌜ isRun (now (out .entry)) at (join (names algorithm bits cipher kdf)) r (now (out .exit)) ⌝ }
 {
     let a = put_name(out, at, b"algorithm ", spelling::algorithm_name(algorithm));
-    let b = put_name(out, a, b"cipher ", spelling::cipher_name(cipher));
-    put_name(out, b, b"kdf ", spelling::kdf_name(kdf))
+    let b = put_bits(out, a, algorithm, bits);
+    let c = put_name(out, b, b"cipher ", spelling::cipher_name(cipher));
+    put_name(out, c, b"kdf ", spelling::kdf_name(kdf))
 }
 
 fn put_form(out: &mut [u8], at: usize, form: bool) -> usize
@@ -58,6 +76,7 @@ fn put_form(out: &mut [u8], at: usize, form: bool) -> usize
 fn put_plain(
     out: &mut [u8],
     algorithm: Algorithm,
+    bits: usize,
     cipher: Cipher,
     kdf: Kdf,
     comment: usize,
@@ -65,10 +84,10 @@ fn put_plain(
     image: usize,
     form: bool,
 ) -> usize
-    ensures { λ r. ⌜ isText (now (out .entry)) (Plain algorithm cipher kdf comment padding image form) r (now (out .exit)) ⌝ }
+    ensures { λ r. ⌜ isText (now (out .entry)) (Plain algorithm bits cipher kdf comment padding image form) r (now (out .exit)) ⌝ }
 {
     let a = buffer::put(out, 0, b"kind plain\n");
-    let b = put_names(out, a, algorithm, cipher, kdf);
+    let b = put_names(out, a, algorithm, bits, cipher, kdf);
     let c = put_number(out, b, b"comment ", comment);
     let d = put_number(out, c, b"padding ", padding);
     let e = put_number(out, d, b"image ", image);
@@ -79,16 +98,17 @@ fn put_plain(
 fn put_encrypted(
     out: &mut [u8],
     algorithm: Algorithm,
+    bits: usize,
     cipher: Cipher,
     kdf: Kdf,
     ciphertext: usize,
     tag: usize,
     image: usize,
 ) -> usize
-    ensures { λ r. ⌜ isText (now (out .entry)) (Encrypted algorithm cipher kdf ciphertext tag image) r (now (out .exit)) ⌝ }
+    ensures { λ r. ⌜ isText (now (out .entry)) (Encrypted algorithm bits cipher kdf ciphertext tag image) r (now (out .exit)) ⌝ }
 {
     let a = buffer::put(out, 0, b"kind encrypted\n");
-    let b = put_names(out, a, algorithm, cipher, kdf);
+    let b = put_names(out, a, algorithm, bits, cipher, kdf);
     let c = put_number(out, b, b"ciphertext ", ciphertext);
     let d = put_number(out, c, b"tag ", tag);
     put_number(out, d, b"image ", image)
@@ -110,6 +130,7 @@ fn put_accepted(out: &mut [u8], header: Header, section: Section, image: usize, 
     ensures { λ r. ⌜ isText (now (out .entry)) (accepted header section image form) r (now (out .exit)) ⌝ }
 {
     let algorithm = header.algorithm;
+    let public = header.public;
     let cipher = header.cipher;
     let kdf = header.kdf;
     let kind = section.kind;
@@ -120,6 +141,7 @@ fn put_accepted(out: &mut [u8], header: Header, section: Section, image: usize, 
             put_plain(
                 out,
                 algorithm,
+                public.bits,
                 cipher,
                 kdf,
                 comment.length,
@@ -134,6 +156,7 @@ fn put_accepted(out: &mut [u8], header: Header, section: Section, image: usize, 
             put_encrypted(
                 out,
                 algorithm,
+                public.bits,
                 cipher,
                 kdf,
                 ciphertext.length,

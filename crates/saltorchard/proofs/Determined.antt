@@ -11,6 +11,8 @@ use Rattle.saltorchard.proofs.saltorchard_read_section.Reads as saltorc
 use Rattle.saltorchard.proofs.saltorchard_read_section.Kinds as saltorchard-read-section-kinds
 use Rattle.saltorchard.proofs.saltorchard_write_plain.Reads as saltorchard-write-plain
 use Rattle.saltorchard.proofs.saltorchard_write_plain.Kinds as saltorchard-write-plain-kinds
+use Rattle.saltorchard.proofs.saltorchard_write_rsa.Reads as saltorchard-write-rsa
+use Rattle.saltorchard.proofs.saltorchard_write_rsa.Kinds as saltorchard-write-rsa-kinds
 use Rattle.saltorchard.proofs.saltorchard_write_encrypted.Reads as saltorchard-write-encrypted
 use Rattle.saltorchard.proofs.saltorchard_write_encrypted.Kinds as saltorchard-write-encrypted-kinds
 use Rattle.saltorchard.proofs.saltorchard_rewrite.Reads as saltorchard-rewrite
@@ -29,6 +31,9 @@ saltorchard-read-section-determined κs a r₁ r₂ s₁ s₂ p q = cc
 
 pub saltorchard-write-plain-determined : DeterminedBuffer 4 saltorchard-write-plain-kinds.ps saltorchard-write-plain-kinds.r saltorchard-write-plain.Post (λ κs s. now (s .1 .1 .1 .1 .1 .1 .0))
 saltorchard-write-plain-determined κs a r₁ r₂ s₁ s₂ p q = (cc, cc)
+
+pub saltorchard-write-rsa-determined : DeterminedBuffer 8 saltorchard-write-rsa-kinds.ps saltorchard-write-rsa-kinds.r saltorchard-write-rsa.Post (λ κs s. now (s .1 .1 .1 .1 .1 .1 .1 .1 .1 .0))
+saltorchard-write-rsa-determined κs a r₁ r₂ s₁ s₂ p q = (cc, cc)
 
 pub saltorchard-write-encrypted-determined : DeterminedBuffer 5 saltorchard-write-encrypted-kinds.ps saltorchard-write-encrypted-kinds.r saltorchard-write-encrypted.Post (λ κs s. now (s .1 .1 .1 .1 .1 .1 .1 .0))
 saltorchard-write-encrypted-determined κs a r₁ r₂ s₁ s₂ p q = (cc, cc)

@@ -1,5 +1,6 @@
 -- The C interface: what its functions reply and leave, over document 01's definitions. A code that names nothing is 4, before all else;
--- in a header half (document 02, request One) it is a forged one's, 1.
+-- in a header half (document 02, request One) it is a forged one's, 1. RSA (request Two) has a writer of its own, so to the other plain
+-- writer its code names nothing.
 use Prim.Native.Nat.{ℕ}
 use mathlib.Core.Path.{_≡_, _∙_, ap}
 use mathlib.Core.Bool.{cond}
@@ -7,8 +8,10 @@ use mathlib.Core.List.{List}
 use lib.Dec.{eqb}
 use Rattle.fields.specs.Fields.{fault}
 use Rattle.fields.specs.declared.Refusal.the-variants.{Length, AlgorithmUnknown}
+use Rattle.names.specs.declared.Algorithm.the-variants.{Elliptic as OnCurve}
 use Rattle.codes.specs.Codes.{algorithmCoded, cipherCoded, kdfCoded}
-use Rattle.keys.specs.Keys.{onAlgorithmName}
+use Rattle.format.specs.Format.{ofPoint, ofScalar}
+use Rattle.keys.specs.Keys.{onAlgorithmName, onAlgorithm}
 use Rattle.material.specs.Material.{derivedCheckint}
 use Rattle.header.specs.Header.{onCipherName, onKdfName, onHeaderRead, headerAt}
 use Rattle.container.specs.Form.{sectionFormAt}
@@ -34,11 +37,13 @@ checkintFor derive given private = cond (eqb derive 0) given (derivedCheckint pr
 
 unfoldable pub codedPlainReply : ℕ → List ℕ → List ℕ → ℕ → List ℕ → ℕ → Written
 codedPlainReply code public private checkint comment room =
-    onAlgorithmName (algorithmCoded code) namesNothing (λ a. plainReply a public private checkint comment room)
+    onAlgorithmName (algorithmCoded code) namesNothing (λ a.
+    onAlgorithm a (λ e. plainReply (OnCurve e) (ofPoint public) (ofScalar private) checkint comment room) namesNothing)
 
 unfoldable pub codedPlainLeft : ℕ → List ℕ → List ℕ → ℕ → List ℕ → List ℕ → List ℕ
 codedPlainLeft code public private checkint comment old =
-    onAlgorithmName (algorithmCoded code) old (λ a. plainLeft a public private checkint comment old)
+    onAlgorithmName (algorithmCoded code) old (λ a.
+    onAlgorithm a (λ e. plainLeft (OnCurve e) (ofPoint public) (ofScalar private) checkint comment old) old)
 
 unfoldable pub codedEncryptedReply : ℕ → ℕ → List ℕ → ℕ → List ℕ → List ℕ → List ℕ → ℕ → Written
 codedEncryptedReply cipher kdf salt rounds blob ciphertext tag room =

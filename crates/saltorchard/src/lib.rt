@@ -3,8 +3,11 @@
 // section read a half that isn't the image's with 1.
 ghost use mathlib.Core.Path.{_≡_};
 ghost use lib.ListN.{length};
+ghost use Rattle.names.specs.declared.Algorithm.the-variants.{Rsa};
+ghost use Rattle.format.specs.Format.{ofModulus, ofNumbers};
 ghost use Rattle.header.specs.Header.{headerAt};
 ghost use Rattle.container.specs.Form.{formReadAt};
+ghost use Rattle.plain.specs.Plain.{plainReply, plainLeft};
 ghost use Rattle.writer.specs.Rewrite.{rewriteReply, rewriteLeft};
 ghost use Rattle.comment.specs.Change.{changeReply, changeLeft};
 ghost use Rattle.numbers.specs.Numbers.{imageOf, headerOf, replyOf};
@@ -17,6 +20,7 @@ use fields::Fault;
 use fields::Refusal;
 use handed::Half;
 use handed::half_of;
+use names::Algorithm;
 use names::AlgorithmName;
 use names::CipherName;
 use names::KdfName;
@@ -76,6 +80,7 @@ pub extern "C" fn saltorchard_read_section(image: &[u8], header: Image) -> Image
     }
 }
 
+// Keys on a curve. RSA has a writer of its own, and its code names nothing here.
 #[no_mangle]
 pub extern "C" fn saltorchard_write_plain(
     algorithm: u8,
@@ -90,15 +95,46 @@ pub extern "C" fn saltorchard_write_plain(
 {
     match algorithm_coded(algorithm) {
         AlgorithmName::Unknown => names_nothing(),
-        AlgorithmName::Known(a) => reply_of(plain::write_parts(
-            a,
-            public,
-            private,
-            checkint_of(derive, checkint, private),
-            comment,
-            out,
-        )),
+        AlgorithmName::Known(a) => match a {
+            Algorithm::Rsa => names_nothing(),
+            Algorithm::Elliptic(e) => reply_of(plain::write_parts(
+                e,
+                public,
+                private,
+                checkint_of(derive, checkint, private),
+                comment,
+                out,
+            )),
+        },
     }
+}
+
+#[no_mangle]
+pub extern "C" fn saltorchard_write_rsa(
+    n: &[u8],
+    e: &[u8],
+    d: &[u8],
+    iqmp: &[u8],
+    p: &[u8],
+    q: &[u8],
+    derive: u8,
+    checkint: u32,
+    comment: &[u8],
+    out: &mut [u8],
+) -> Reply
+    ensures { λ r. ⌜ answersC (plainReply Rsa (ofModulus (now (n .entry)) (now (e .entry))) (ofNumbers (now (d .entry)) (now (iqmp .entry)) (now (p .entry)) (now (q .entry))) (checkintFor derive checkint (now (d .entry))) (now (comment .entry)) (length (now (out .entry)))) (plainLeft Rsa (ofModulus (now (n .entry)) (now (e .entry))) (ofNumbers (now (d .entry)) (now (iqmp .entry)) (now (p .entry)) (now (q .entry))) (checkintFor derive checkint (now (d .entry))) (now (comment .entry)) (now (out .entry))) r (now (out .exit)) ⌝ }
+{
+    reply_of(plain_rsa::write_parts(
+        n,
+        e,
+        d,
+        iqmp,
+        p,
+        q,
+        checkint_of(derive, checkint, d),
+        comment,
+        out,
+    ))
 }
 
 #[no_mangle]

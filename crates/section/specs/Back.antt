@@ -22,7 +22,11 @@ use Rattle.names.specs.declared.Cipher.{Cipher}
 use Rattle.names.specs.Algorithms.{algorithm-self}
 use Rattle.names.specs.Ciphers.{blockSize, tagLength}
 use Rattle.utf8.specs.Utf8.{utf8}
-use Rattle.format.specs.Format.{publicLength, privateLength, pointTag, privateField, standing, mayStand, blob, content, section, paddingLength, paddingBytes}
+use Rattle.format.specs.Format.{PublicBytes, PrivateBytes, PublicFits, PrivateFits, mayStand, keypair, content, section, paddingLength, paddingBytes}
+use Rattle.keys.specs.declared.Public.{Public}
+use Rattle.keys.specs.Keys.{publicBytes}
+use Rattle.pairs.specs.declared.Private.{Private}
+use Rattle.pairs.specs.Pairs.{privateBytes}
 use Rattle.format.specs.Laws.{content-then, section-length, padding-length}
 use Rattle.key_laws.specs.Back.{keypair-back}
 use Rattle.section.specs.declared.Entry.{Entry}
@@ -31,7 +35,7 @@ use Rattle.section.specs.declared.Kind.the-variants.{Plain, Encrypted}
 use Rattle.section.specs.declared.Section.{Section}
 use Rattle.section.specs.declared.SectionRead.{SectionRead}
 use Rattle.section.specs.declared.SectionRead.the-variants as section-read
-use Rattle.section.specs.Section.{checkintsAt, samePublic, entryAt, paddingAt, contentAt, plainAt, encryptedOf, presentOf, encryptedAt}
+use Rattle.section.specs.Section.{checkintsAt, sameKey, entryAt, paddingAt, contentAt, plainAt, encryptedOf, presentOf, encryptedAt}
 
 checkints-back : (s : List ℕ) (c : Cursor) → Good s c → (n : ℕ) (t : List ℕ) → n < 2 ^ 32 → rest s c ≡ uint32 n ++ (uint32 n ++ t) → Uint32Back s (checkintsAt s c) n t
 unfolding checkintsAt
@@ -59,39 +63,54 @@ padding-back s c good n e =
     let seen : viewOf s (part (c .at) (c .end - c .at)) ≡ take (paddingLength n) paddingBytes = rest-padding s c good ∙ e in
     (rw (seen, left, lt-ltb (paddingLength n) 8 (omega arith), same-self (take (paddingLength n) paddingBytes)), left)
 
--- a key that fits the format, with the scalar in a form that it may have
-pub record KeyFits (a : Algorithm) (zero : Bool) (point scalar comment : List ℕ) : Type 0 where
-  pub long : length point ≡ publicLength a
-  pub tag : pointTag a point ≡ true
-  pub private : length scalar ≡ privateLength a
+-- a key that fits the format, a scalar in a form that it may have, and a comment that is UTF-8
+pub record KeyFits (a : Algorithm) (zero : Bool) (key : PublicBytes) (x : PrivateBytes) (comment : List ℕ) : Type 0 where
+  pub public : PublicFits a key
+  pub private : PrivateFits a key x
   pub may : mayStand a zero ≡ true
   pub text : utf8 comment ≡ true
 
-record EntryBack (s : List ℕ) (w : Entry) (scalar comment t : List ℕ) : Type 0 where
-  pub private : Part
+record EntryBack (s : List ℕ) (w : Entry) (x : PrivateBytes) (comment t : List ℕ) : Type 0 where
+  pub private : Private
   pub place : Part
   pub next : Cursor
   pub read : w ≡ entry.Key private place next
-  pub kept : viewOf s private ≡ scalar
+  pub kept : privateBytes s private ≡ x
   pub seen : viewOf s place ≡ comment
   pub size : place .length ≡ length comment
   pub good : Good s next
   pub more : rest s next ≡ t
 
+-- places with the same bytes are the same key
+key-self : (s : List ℕ) (a : Algorithm) (p q : Public) → publicBytes s p ≡ publicBytes s q → sameKey s a p a q ≡ true
+unfolding sameKey publicBytes
+key-self s a p q e =
+    let point : viewOf s (p .point) ≡ viewOf s (q .point) = ap (λ (k : PublicBytes). k .point) e in
+    let modulus : viewOf s (p .modulus) ≡ viewOf s (q .modulus) = ap (λ (k : PublicBytes). k .modulus) e in
+    let exponent : viewOf s (p .exponent) ≡ viewOf s (q .exponent) = ap (λ (k : PublicBytes). k .exponent) e in
+    rw (
+      algorithm-self a,
+      point,
+      modulus,
+      exponent,
+      same-self (viewOf s (q .point)),
+      same-self (viewOf s (q .modulus)),
+      same-self (viewOf s (q .exponent)),
+    )
+
 entry-back :
-    (s : List ℕ) (c : Cursor) → Good s c → length s < 2 ^ 32 → (a : Algorithm) (q : Part) (zero : Bool) (scalar comment t : List ℕ)
-    → KeyFits a zero (viewOf s q) scalar comment
-    → rest s c ≡ blob a (viewOf s q) ++ (privateField a (viewOf s q) (standing zero scalar) ++ (string comment ++ t))
-    → EntryBack s (entryAt s c a q) scalar comment t
-unfolding entryAt samePublic
-entry-back s c good small a q zero scalar comment t fits e =
-    let p = keypair-back s c good a zero (viewOf s q) scalar (string comment ++ t) (fits .long) (fits .tag) (fits .private) (fits .may) e in
+    (s : List ℕ) (c : Cursor) → Good s c → length s < 2 ^ 32 → (a : Algorithm) (q : Public) (zero : Bool) (x : PrivateBytes) (comment t : List ℕ)
+    → KeyFits a zero (publicBytes s q) x comment → rest s c ≡ keypair a zero (publicBytes s q) x ++ (string comment ++ t)
+    → EntryBack s (entryAt s c a q) x comment t
+unfolding entryAt
+entry-back s c good small a q zero x comment t fits e =
+    let p = keypair-back s c good small a zero (publicBytes s q) x (string comment ++ t) (fits .public) (fits .private) (fits .may) e in
     let m = string-back s (p .next) (p .good) comment t (short-of s (p .next) (p .good) small comment t (p .more)) (p .more) in
     record {
       private = p .private;
       place = m .place;
       next = m .next;
-      read = rw (p .read, algorithm-self, p .seen, same-self (viewOf s q), m .read, m .seen, fits .text);
+      read = rw (p .read, key-self s a (p .place) q (p .seen), m .read, m .seen, fits .text);
       kept = p .kept;
       seen = m .seen;
       size = m .size;
@@ -100,31 +119,30 @@ entry-back s c good small a q zero scalar comment t fits e =
     }
 
 -- what a plain section gives back
-pub record PlainBack (s : List ℕ) (w : SectionRead) (n : ℕ) (scalar comment : List ℕ) (padding : ℕ) : Type 0 where
+pub record PlainBack (s : List ℕ) (w : SectionRead) (n : ℕ) (x : PrivateBytes) (comment : List ℕ) (padding : ℕ) : Type 0 where
   pub fields : Section
   pub read : w ≡ section-read.Section fields
   pub plain : fields .kind ≡ Plain
   pub same-checkint : fields .checkint ≡ n
-  pub same-scalar : viewOf s (fields .scalar) ≡ scalar
+  pub same-private : privateBytes s (fields .private) ≡ x
   pub same-comment : viewOf s (fields .comment) ≡ comment
   pub comment-size : fields .comment .length ≡ length comment
   pub same-padding : fields .padding ≡ padding
 
 content-back :
-    (s : List ℕ) (c : Cursor) → Good s c → length s < 2 ^ 32 → (a : Algorithm) (q : Part) (zero : Bool) (n : ℕ) (scalar comment : List ℕ) → n < 2 ^ 32
-    → KeyFits a zero (viewOf s q) scalar comment
-    → rest s c ≡ section n a (viewOf s q) (standing zero scalar) comment
-    → PlainBack s (contentAt s c a q) n scalar comment (paddingLength (length (content n a (viewOf s q) (standing zero scalar) comment)))
+    (s : List ℕ) (c : Cursor) → Good s c → length s < 2 ^ 32 → (a : Algorithm) (q : Public) (zero : Bool) (n : ℕ) (x : PrivateBytes) (comment : List ℕ)
+    → n < 2 ^ 32 → KeyFits a zero (publicBytes s q) x comment
+    → rest s c ≡ section n (keypair a zero (publicBytes s q) x) comment
+    → PlainBack s (contentAt s c a q) n x comment (paddingLength (length (content n (keypair a zero (publicBytes s q) x) comment)))
 unfolding contentAt section
-content-back s c good small a q zero n scalar comment fit fits e =
-    let stored = standing zero scalar in
-    let size = length (content n a (viewOf s q) stored comment) in
+content-back s c good small a q zero n x comment fit fits e =
+    let pair = keypair a zero (publicBytes s q) x in
+    let size = length (content n pair comment) in
     let padding = take (paddingLength size) paddingBytes in
     let long : c .end - c .at ≡ size + paddingLength size =
-    sym (length-slice (c .at) (c .end) s (good .1)) ∙ ap length e ∙ section-length n a (viewOf s q) stored comment in
-    let k = checkints-back s c good n (blob a (viewOf s q) ++ (privateField a (viewOf s q) stored ++ (string comment ++ padding))) fit
-    (e ∙ content-then n a (viewOf s q) stored comment padding) in
-    let m = entry-back s (k .next) (k .good) small a q zero scalar comment padding fits (k .more) in
+    sym (length-slice (c .at) (c .end) s (good .1)) ∙ ap length e ∙ section-length n pair comment in
+    let k = checkints-back s c good n (pair ++ (string comment ++ padding)) fit (e ∙ content-then n pair comment padding) in
+    let m = entry-back s (k .next) (k .good) small a q zero x comment padding fits (k .more) in
     let p = padding-back s (m .next) (m .good) size (m .more) in
     let whole : (c .end - c .at) % 8 ≡ 0 = omega arith in
     record {
@@ -133,7 +151,7 @@ content-back s c good small a q zero n scalar comment fit fits e =
             kind = Plain;
             checkint = n;
             padding = m .next .end - m .next .at;
-            scalar = m .private;
+            private = m .private;
             comment = m .place;
             ciphertext = absent;
             tag = absent;
@@ -141,29 +159,29 @@ content-back s c good small a q zero n scalar comment fit fits e =
       read = rw (eq-eqb ((c .end - c .at) % 8) 0 whole, k .read, m .read, p .0);
       plain = refl;
       same-checkint = refl;
-      same-scalar = m .kept;
+      same-private = m .kept;
       same-comment = m .seen;
       comment-size = m .size;
       same-padding = p .1;
     }
 
 pub plain-back :
-    (s : List ℕ) (c : Cursor) → Good s c → length s < 2 ^ 32 → (a : Algorithm) (q : Part) (zero : Bool) (n : ℕ) (scalar comment : List ℕ) → n < 2 ^ 32
-    → KeyFits a zero (viewOf s q) scalar comment
-    → rest s c ≡ string (section n a (viewOf s q) (standing zero scalar) comment)
-    → PlainBack s (plainAt s c a q) n scalar comment (paddingLength (length (content n a (viewOf s q) (standing zero scalar) comment)))
+    (s : List ℕ) (c : Cursor) → Good s c → length s < 2 ^ 32 → (a : Algorithm) (q : Public) (zero : Bool) (n : ℕ) (x : PrivateBytes) (comment : List ℕ)
+    → n < 2 ^ 32 → KeyFits a zero (publicBytes s q) x comment
+    → rest s c ≡ string (section n (keypair a zero (publicBytes s q) x) comment)
+    → PlainBack s (plainAt s c a q) n x comment (paddingLength (length (content n (keypair a zero (publicBytes s q) x) comment)))
 unfolding plainAt
-plain-back s c good small a q zero n scalar comment fit fits e =
-    let b = section n a (viewOf s q) (standing zero scalar) comment in
+plain-back s c good small a q zero n x comment fit fits e =
+    let b = section n (keypair a zero (publicBytes s q) x) comment in
     let e′ = e ∙ sym (append-nil (string b)) in
     let p = string-back s c good b [] (short-of s c good small b [] e′) e′ in
-    let k = content-back s (within (p .place)) (omega (arith, p .inside)) small a q zero n scalar comment fit fits (rest-within s (p .place) (p .inside) ∙ p .seen) in
+    let k = content-back s (within (p .place)) (omega (arith, p .inside)) small a q zero n x comment fit fits (rest-within s (p .place) (p .inside) ∙ p .seen) in
     record {
       fields = k .fields;
       read = rw (p .read, k .read, end-back s (p .next) (p .good) (p .more));
       plain = k .plain;
       same-checkint = k .same-checkint;
-      same-scalar = k .same-scalar;
+      same-private = k .same-private;
       same-comment = k .same-comment;
       comment-size = k .comment-size;
       same-padding = k .same-padding;

@@ -21,29 +21,33 @@ use Rattle.fields.specs.declared.Ending.the-variants as ending
 use Rattle.names.specs.declared.Algorithm.{Algorithm}
 use Rattle.names.specs.Algorithms.{sameAlgorithm, algorithm-same}
 use Rattle.utf8.specs.Utf8.{utf8}
-use Rattle.format.specs.Format.{privateField, standing, blob, content, section, paddingLength, paddingBytes}
+use Rattle.format.specs.Format.{keypair as pair, content, section, paddingLength, paddingBytes}
+use Rattle.keys.specs.declared.Public.{Public}
+use Rattle.keys.specs.Keys.{publicBytes}
+use Rattle.pairs.specs.declared.Private.{Private}
 use Rattle.format.specs.Laws.{content-then}
 use Rattle.pairs.specs.declared.Keypair.{Keypair}
 use Rattle.pairs.specs.declared.Keypair.the-variants as keypair
-use Rattle.pairs.specs.Pairs.{keypairAt, afterZero}
-use Rattle.key_laws.specs.ReadPair.{PairRead, keypair-read}
+use Rattle.pairs.specs.Pairs.{privateBytes, keypairAt, afterZero}
+use Rattle.key_laws.specs.ReadPair.{IfScalar, PairRead, keypair-read}
 use Rattle.section.specs.declared.Entry.{Entry}
 use Rattle.section.specs.declared.Entry.the-variants as entry
 use Rattle.section.specs.declared.Kind.the-variants.{Plain}
 use Rattle.section.specs.declared.Section.{Section}
 use Rattle.section.specs.declared.SectionRead.{SectionRead}
 use Rattle.section.specs.declared.SectionRead.the-variants as section-read
-use Rattle.section.specs.Section.{checkintsAt, samePublic, entryAt, paddingAt, contentAt, plainAt}
+use Rattle.section.specs.Section.{checkintsAt, sameKey, entryAt, paddingAt, contentAt, plainAt}
 use Rattle.section.specs.Back.{KeyFits, rest-padding}
 
 -- by cases, with the equation in hand
 by-keypair :
     {P : Type 0} (w : Keypair) → ((f : Fault) → w ≡ keypair.Refused f → P)
-    → ((a : Algorithm) (p x : Part) (c : Cursor) → w ≡ keypair.Pair a p x c → P) → P
+    → ((a : Algorithm) (p : Public) (x : Private) (c : Cursor) → w ≡ keypair.Pair a p x c → P) → P
 by-keypair (keypair.Refused f) refused pair = refused f refl
 by-keypair (keypair.Pair a p x c) refused pair = pair a p x c refl
 
-by-entry : {P : Type 0} (w : Entry) → ((f : Fault) → w ≡ entry.Refused f → P) → ((x m : Part) (c : Cursor) → w ≡ entry.Key x m c → P) → P
+by-entry :
+    {P : Type 0} (w : Entry) → ((f : Fault) → w ≡ entry.Refused f → P) → ((x : Private) (m : Part) (c : Cursor) → w ≡ entry.Key x m c → P) → P
 by-entry (entry.Refused f) refused key = refused f refl
 by-entry (entry.Key x m c) refused key = key x m c refl
 
@@ -52,8 +56,8 @@ by-section (section-read.Refused f) refused read = refused f refl
 by-section (section-read.Section x) refused read = read x refl
 
 -- how many bytes stand before the comment's string in a section
-abbrev pub beforeComment : Algorithm → List ℕ → List ℕ → ℕ
-beforeComment a point stored = 8 + (length (blob a point) + length (privateField a point stored))
+abbrev pub beforeComment : List ℕ → ℕ
+beforeComment pair = 8 + length pair
 
 -- a padding that was read
 padding-read : (s : List ℕ) (c : Cursor) → Good s c → paddingAt s c ≡ ending.Clean → (rest s c ≡ take (c .end - c .at) paddingBytes) × (c .end - c .at < 8)
@@ -95,57 +99,67 @@ module _ (s : List ℕ) (all : AllBytes s) where
       (λ u. let i = rw u at h in clash cc)))
 
   -- an accepted key: its keypair, which has the blob's public key, and its comment
-  record EntryRead (c : Cursor) (a : Algorithm) (q x m : Part) (d : Cursor) : Type 0 where
+  record EntryRead (c : Cursor) (a : Algorithm) (q : Public) (x : Private) (m : Part) (d : Cursor) : Type 0 where
     pub zero : Bool
-    pub text : rest s c ≡ blob a (viewOf s q) ++ (privateField a (viewOf s q) (standing zero (viewOf s x)) ++ (string (viewOf s m) ++ rest s d))
-    pub fits : KeyFits a zero (viewOf s q) (viewOf s x) (viewOf s m)
-    pub after : afterZero s x ≡ zero
+    pub text : rest s c ≡ pair a zero (publicBytes s q) (privateBytes s x) ++ (string (viewOf s m) ++ rest s d)
+    pub fits : KeyFits a zero (publicBytes s q) (privateBytes s x) (viewOf s m)
+    pub after : IfScalar a (afterZero s (x .scalar) ≡ zero)
     pub good : Good s d
-    pub place : m .start ≡ c .at + (length (blob a (viewOf s q)) + length (privateField a (viewOf s q) (standing zero (viewOf s x)))) + 4
+    pub place : m .start ≡ c .at + length (pair a zero (publicBytes s q) (privateBytes s x)) + 4
 
   -- where the comment of an accepted key begins
   comment-starts :
-      (c b d : Cursor) (key private : List ℕ) (m : Part) → b .end ≡ c .end → StringRead s b m d
-      → rest s c ≡ key ++ (private ++ (string (viewOf s m) ++ rest s d)) → m .start ≡ c .at + (length key + length private) + 4
-  comment-starts c b d key private m end comment joined =
+      (c b d : Cursor) (before : List ℕ) (m : Part) → b .end ≡ c .end → StringRead s b m d → rest s c ≡ before ++ (string (viewOf s m) ++ rest s d)
+      → m .start ≡ c .at + length before + 4
+  comment-starts c b d before m end comment joined =
       let inside : c .end ≤ length s = omega (arith, comment .place .placed) in
       let left = length-slice (d .at) (d .end) s (comment .place .placed .image) in
-      let long : c .end - c .at ≡ length key + (length private + (4 + length (viewOf s m) + (d .end - d .at))) =
+      let long : c .end - c .at ≡ length before + (4 + length (viewOf s m) + (d .end - d .at)) =
       sym (length-slice (c .at) (c .end) s inside) ∙ ap length joined ∙ simp (length-append, length-string, left) in
       omega (arith, long, comment .size, comment .place .placed)
 
   entry-joined :
-      (c : Cursor) (a : Algorithm) (p q x m : Part) (b d : Cursor) → PairRead s all c a p x b → viewOf s p ≡ viewOf s q → StringRead s b m d
-      → utf8 (viewOf s m) ≡ true → EntryRead c a q x m d
-  entry-joined c a p q x m b d pair public comment text =
-      let key = blob a (viewOf s q) in
-      let private = privateField a (viewOf s q) (standing (pair .zero) (viewOf s x)) in
-      let joined : rest s c ≡ key ++ (private ++ (string (viewOf s m) ++ rest s d)) =
-      rw public at (pair .text) ∙ ap (λ (l : List ℕ). key ++ (private ++ l)) (comment .text) in
+      (c : Cursor) (a : Algorithm) (p q : Public) (x : Private) (m : Part) (b d : Cursor) → PairRead s all c a p x b → publicBytes s p ≡ publicBytes s q
+      → StringRead s b m d → utf8 (viewOf s m) ≡ true → EntryRead c a q x m d
+  entry-joined c a p q x m b d read public comment text =
+      let before = pair a (read .zero) (publicBytes s q) (privateBytes s x) in
+      let joined : rest s c ≡ before ++ (string (viewOf s m) ++ rest s d) =
+      rw public at (read .text) ∙ ap (λ (l : List ℕ). before ++ l) (comment .text) in
       record {
-        zero = pair .zero;
+        zero = read .zero;
         text = joined;
-        place = comment-starts c b d key private m (pair .end) comment joined;
+        place = comment-starts c b d before m (read .end) comment joined;
         fits =
             record {
-              long = rw public at (pair .long);
-              tag = rw public at (pair .tag);
-              private = pair .private;
-              may = pair .may;
+              public = rw public at (read .fits);
+              private = rw public at (read .private);
+              may = read .may;
               text = text;
             };
-        after = pair .after;
+        after = read .after;
         good = omega (arith, comment .place .placed);
       }
 
-  entry-read : (c : Cursor) (a : Algorithm) (q x m : Part) (d : Cursor) → entryAt s c a q ≡ entry.Key x m d → EntryRead c a q x m d
-  unfolding entryAt samePublic
+  -- a key that is the same has the same kind and bytes
+  key-same : (j a : Algorithm) (p q : Public) → sameKey s j p a q ≡ true → (j ≡ a) × (publicBytes s p ≡ publicBytes s q)
+  unfolding sameKey publicBytes
+  key-same j a p q e =
+      let e₃ = both-true _ (sameBytes (viewOf s (p .exponent)) (viewOf s (q .exponent))) e in
+      let e₂ = both-true _ (sameBytes (viewOf s (p .modulus)) (viewOf s (q .modulus))) (e₃ .0) in
+      let e₁ = both-true (sameAlgorithm j a) (sameBytes (viewOf s (p .point)) (viewOf s (q .point))) (e₂ .0) in
+      let point : viewOf s (p .point) ≡ viewOf s (q .point) = same-true _ _ (e₁ .1) in
+      let modulus : viewOf s (p .modulus) ≡ viewOf s (q .modulus) = same-true _ _ (e₂ .1) in
+      let exponent : viewOf s (p .exponent) ≡ viewOf s (q .exponent) = same-true _ _ (e₃ .1) in
+      (algorithm-same j a (e₁ .0), rw (point, modulus, exponent))
+
+  entry-read : (c : Cursor) (a : Algorithm) (q : Public) (x : Private) (m : Part) (d : Cursor) → entryAt s c a q ≡ entry.Key x m d → EntryRead c a q x m d
+  unfolding entryAt
   entry-read c a q x m d e =
       by-keypair (keypairAt s c)
       (λ f w. let g : entry.Refused f ≡ entry.Key x m d = rw w at e in clash cc)
       (λ j p y b w.
       let g = rw w at e in
-      by-bool (samePublic s j p a q)
+      by-bool (sameKey s j p a q)
       (λ v.
       let h = rw v at g in
       by-field (stringAt s b)
@@ -158,22 +172,20 @@ module _ (s : List ℕ) (all : AllBytes s) where
       let o₁ : y ≡ x = cc in
       let o₂ : t ≡ m = cc in
       let o₃ : z ≡ d = cc in
-      let both = both-true (sameAlgorithm j a) (sameBytes (viewOf s p) (viewOf s q)) v in
-      let kind : j ≡ a = algorithm-same j a (both .0) in
-      let public : viewOf s p ≡ viewOf s q = same-true _ _ (both .1) in
-      entry-joined c a p q x m b d (keypair-read s all c a p x b (rw (kind, o₁) at w)) public (string-read s all b m d (rw (o₂, o₃) at u)) (rw o₂ at r))
+      let same = key-same j a p q v in
+      entry-joined c a p q x m b d (keypair-read s all c a p x b (rw (same .0, o₁) at w)) (same .1) (string-read s all b m d (rw (o₂, o₃) at u)) (rw o₂ at r))
       (λ r. let k = rw r at i in clash cc)))
       (λ v. let h = rw v at g in clash cc))
 
   -- an accepted plain section
-  pub record PlainRead (c : Cursor) (a : Algorithm) (q : Part) (x : Section) : Type 0 where
+  pub record PlainRead (c : Cursor) (a : Algorithm) (q : Public) (x : Section) : Type 0 where
     pub zero : Bool
     pub plain : x .kind ≡ Plain
-    pub text : rest s c ≡ string (section (x .checkint) a (viewOf s q) (standing zero (viewOf s (x .scalar))) (viewOf s (x .comment)))
-    pub fits : KeyFits a zero (viewOf s q) (viewOf s (x .scalar)) (viewOf s (x .comment))
+    pub text : rest s c ≡ string (section (x .checkint) (pair a zero (publicBytes s q) (privateBytes s (x .private))) (viewOf s (x .comment)))
+    pub fits : KeyFits a zero (publicBytes s q) (privateBytes s (x .private)) (viewOf s (x .comment))
     pub checkint : x .checkint < 2 ^ 32
-    pub after : afterZero s (x .scalar) ≡ zero
-    pub place : x .comment .start ≡ c .at + 4 + beforeComment a (viewOf s q) (standing zero (viewOf s (x .scalar))) + 4
+    pub after : IfScalar a (afterZero s (x .private .scalar) ≡ zero)
+    pub place : x .comment .start ≡ c .at + 4 + beforeComment (pair a zero (publicBytes s q) (privateBytes s (x .private))) + 4
 
   -- how long the padding is follows from the multiple of 8
   padding-is : (n p : ℕ) → (n + p) % 8 ≡ 0 → p < 8 → p ≡ paddingLength n
@@ -181,19 +193,19 @@ module _ (s : List ℕ) (all : AllBytes s) where
 
   -- the fields one after the other, and the padding that they leave
   content-joined :
-      (c : Cursor) (a : Algorithm) (q : Part) (n : ℕ) (d : Cursor) (x m : Part) (b : Cursor) → c .end ≤ length s → (c .end - c .at) % 8 ≡ 0
+      (c : Cursor) (a : Algorithm) (q : Public) (n : ℕ) (d : Cursor) (x : Private) (m : Part) (b : Cursor) → c .end ≤ length s → (c .end - c .at) % 8 ≡ 0
       → checkintsAt s c ≡ answer.Value n d → (r : EntryRead d a q x m b) → paddingAt s b ≡ ending.Clean
-      → rest s c ≡ section n a (viewOf s q) (standing (r .zero) (viewOf s x)) (viewOf s m)
+      → rest s c ≡ section n (pair a (r .zero) (publicBytes s q) (privateBytes s x)) (viewOf s m)
   unfolding section
   content-joined c a q n d x m b inside whole w r u =
-      let stored = standing (r .zero) (viewOf s x) in
-      let body = content n a (viewOf s q) stored (viewOf s m) in
+      let keys = pair a (r .zero) (publicBytes s q) (privateBytes s x) in
+      let body = content n keys (viewOf s m) in
       let k = checkints-read c n d w in
       let p = padding-read s b (r .good) u in
       let left = b .end - b .at in
       let text : rest s c ≡ body ++ take left paddingBytes =
       k .0 ∙ ap (λ (l : List ℕ). uint32 n ++ (uint32 n ++ l)) (r .text)
-      ∙ sym (content-then n a (viewOf s q) stored (viewOf s m) (rest s b))
+      ∙ sym (content-then n keys (viewOf s m) (rest s b))
       ∙ ap (λ (l : List ℕ). body ++ l) (p .0) in
       let long : c .end - c .at ≡ length body + left =
       sym (length-slice (c .at) (c .end) s inside) ∙ ap length text ∙ length-append body (take left paddingBytes)
@@ -202,16 +214,16 @@ module _ (s : List ℕ) (all : AllBytes s) where
       text ∙ ap (λ (i : ℕ). body ++ take i paddingBytes) fills
 
   -- what reading the content found
-  record ContentRead (c : Cursor) (a : Algorithm) (q : Part) (x : Section) : Type 0 where
+  record ContentRead (c : Cursor) (a : Algorithm) (q : Public) (x : Section) : Type 0 where
     pub zero : Bool
     pub plain : x .kind ≡ Plain
-    pub text : rest s c ≡ section (x .checkint) a (viewOf s q) (standing zero (viewOf s (x .scalar))) (viewOf s (x .comment))
-    pub fits : KeyFits a zero (viewOf s q) (viewOf s (x .scalar)) (viewOf s (x .comment))
+    pub text : rest s c ≡ section (x .checkint) (pair a zero (publicBytes s q) (privateBytes s (x .private))) (viewOf s (x .comment))
+    pub fits : KeyFits a zero (publicBytes s q) (privateBytes s (x .private)) (viewOf s (x .comment))
     pub checkint : x .checkint < 2 ^ 32
-    pub after : afterZero s (x .scalar) ≡ zero
-    pub place : x .comment .start ≡ c .at + beforeComment a (viewOf s q) (standing zero (viewOf s (x .scalar))) + 4
+    pub after : IfScalar a (afterZero s (x .private .scalar) ≡ zero)
+    pub place : x .comment .start ≡ c .at + beforeComment (pair a zero (publicBytes s q) (privateBytes s (x .private))) + 4
 
-  content-read : (c : Cursor) (a : Algorithm) (q : Part) (x : Section) → c .end ≤ length s → contentAt s c a q ≡ section-read.Section x → ContentRead c a q x
+  content-read : (c : Cursor) (a : Algorithm) (q : Public) (x : Section) → c .end ≤ length s → contentAt s c a q ≡ section-read.Section x → ContentRead c a q x
   unfolding contentAt
   content-read c a q x inside e =
       by-bool (eqb ((c .end - c .at) % 8) 0)
@@ -230,10 +242,10 @@ module _ (s : List ℕ) (all : AllBytes s) where
       (λ t.
       let k :
       section-read.Section
-      (record { kind = Plain; checkint = n; padding = b .end - b .at; scalar = y; comment = m; ciphertext = absent; tag = absent })
+      (record { kind = Plain; checkint = n; padding = b .end - b .at; private = y; comment = m; ciphertext = absent; tag = absent })
       ≡ section-read.Section x = rw t at i in
       let o :
-      record { kind = Plain; checkint = n; padding = b .end - b .at; scalar = y; comment = m; ciphertext = absent; tag = absent } ≡ x =
+      record { kind = Plain; checkint = n; padding = b .end - b .at; private = y; comment = m; ciphertext = absent; tag = absent } ≡ x =
       cc in
       let r = entry-read d a q y m b u in
       rw (← o)
@@ -248,7 +260,7 @@ module _ (s : List ℕ) (all : AllBytes s) where
       })))))
       (λ w. let g = rw w at e in clash cc)
 
-  pub plain-read : (c : Cursor) (a : Algorithm) (q : Part) (x : Section) → plainAt s c a q ≡ section-read.Section x → PlainRead c a q x
+  pub plain-read : (c : Cursor) (a : Algorithm) (q : Public) (x : Section) → plainAt s c a q ≡ section-read.Section x → PlainRead c a q x
   unfolding plainAt
   plain-read c a q x e =
       by-field (stringAt s c)
@@ -267,7 +279,7 @@ module _ (s : List ℕ) (all : AllBytes s) where
       let r = string-read s all c p d w in
       let inside : p .start + p .length ≤ length s = omega (arith, r .place .placed) in
       let k = content-read (within p) a q x inside (v ∙ ap section-read.Section o) in
-      let body : viewOf s p ≡ section (x .checkint) a (viewOf s q) (standing (k .zero) (viewOf s (x .scalar))) (viewOf s (x .comment)) =
+      let body : viewOf s p ≡ section (x .checkint) (pair a (k .zero) (publicBytes s q) (privateBytes s (x .private))) (viewOf s (x .comment)) =
       sym (rest-within s p inside) ∙ k .text in
       record {
         zero = k .zero;

@@ -1,4 +1,5 @@
--- Document 01, 'Bytes of the container', steps 6 and 7, and 'Plain section, in order': what reading the section finds.
+-- Document 01, 'Bytes of the container', steps 6 and 7, and 'Plain section, in order': what reading the section finds. Document 02, request
+-- Two: RSA keys are compared by n and e.
 use Prim.Native.Nat.{ℕ, _-_, _%_}
 use mathlib.Core.List.{List}
 use mathlib.Core.Bool.{Bool, cond, _&&_}
@@ -20,7 +21,9 @@ use Rattle.names.specs.Algorithms.{sameAlgorithm}
 use Rattle.names.specs.Ciphers.{blockSize, tagLength}
 use Rattle.utf8.specs.Utf8.{utf8}
 use Rattle.format.specs.Format.{paddingBytes}
-use Rattle.pairs.specs.Pairs.{onKeypair, keypairAt}
+use Rattle.keys.specs.declared.Public.{Public}
+use Rattle.pairs.specs.declared.Private.{Private}
+use Rattle.pairs.specs.Pairs.{onKeypair, scalarPlace, keypairAt}
 use Rattle.section.specs.declared.Entry.{Entry}
 use Rattle.section.specs.declared.Entry.the-variants as entry
 use Rattle.section.specs.declared.Kind.the-variants.{Plain, Encrypted}
@@ -29,9 +32,9 @@ use Rattle.section.specs.declared.SectionRead.{SectionRead}
 use Rattle.section.specs.declared.SectionRead.the-variants as section-read
 
 -- by what was read
-abbrev pub onEntry : {R : Type 0} → Entry → (Fault → R) → (Part → Part → Cursor → R) → R
+abbrev pub onEntry : {R : Type 0} → Entry → (Fault → R) → (Private → Part → Cursor → R) → R
 onEntry (entry.Refused f) refused key = refused f
-onEntry (entry.Key scalar comment c) refused key = key scalar comment c
+onEntry (entry.Key private comment c) refused key = key private comment c
 
 abbrev pub onSectionRead : {R : Type 0} → SectionRead → (Fault → R) → (Section → R) → R
 onSectionRead (section-read.Refused f) refused read = refused f
@@ -44,17 +47,21 @@ checkintsAt s c =
     onUint32 (uint32At s d) uint32.Refused (λ second e.
     cond (eqb second first) (uint32.Value first e) (uint32.Refused (fault Crypto (d .at)))))
 
--- the same public key, kind included
-unfoldable pub samePublic : List ℕ → Algorithm → Part → Algorithm → Part → Bool
-samePublic s a p b q = sameAlgorithm a b && sameBytes (viewOf s p) (viewOf s q)
+-- the same public key, kind included: what a kind lacks has no bytes
+unfoldable pub sameKey : List ℕ → Algorithm → Public → Algorithm → Public → Bool
+sameKey s a p b q =
+    sameAlgorithm a b
+    && sameBytes (viewOf s (p .point)) (viewOf s (q .point))
+    && sameBytes (viewOf s (p .modulus)) (viewOf s (q .modulus))
+    && sameBytes (viewOf s (p .exponent)) (viewOf s (q .exponent))
 
 -- keypair; public key unlike the header's: 5, at the keypair's name; comment string; not UTF-8: 7
-unfoldable pub entryAt : List ℕ → Cursor → Algorithm → Part → Entry
-entryAt s c algorithm point =
-    onKeypair (keypairAt s c) entry.Refused (λ a p scalar d.
-    cond (samePublic s a p algorithm point)
+unfoldable pub entryAt : List ℕ → Cursor → Algorithm → Public → Entry
+entryAt s c algorithm public =
+    onKeypair (keypairAt s c) entry.Refused (λ a p private d.
+    cond (sameKey s a p algorithm public)
     (onField (stringAt s d) entry.Refused (λ comment e.
-    cond (utf8 (viewOf s comment)) (entry.Key scalar comment e) (entry.Refused (fault CharacterEncoding (d .at)))))
+    cond (utf8 (viewOf s comment)) (entry.Key private comment e) (entry.Refused (fault CharacterEncoding (d .at)))))
     (entry.Refused (fault PublicKey (c .at))))
 
 -- padding is what remains: 8 or more: 1; not the bytes 1, 2, 3 and so on: 2; both at its first byte
@@ -66,18 +73,18 @@ paddingAt s c =
     (ending.Refused (fault Length (c .at)))
 
 -- length not a multiple of 8: 1, at the first byte of the content; checkints; key and comment; padding
-unfoldable pub contentAt : List ℕ → Cursor → Algorithm → Part → SectionRead
-contentAt s c algorithm point =
+unfoldable pub contentAt : List ℕ → Cursor → Algorithm → Public → SectionRead
+contentAt s c algorithm public =
     cond (eqb ((c .end - c .at) % 8) 0)
     (onUint32 (checkintsAt s c) section-read.Refused (λ checkint d.
-    onEntry (entryAt s d algorithm point) section-read.Refused (λ scalar comment e.
+    onEntry (entryAt s d algorithm public) section-read.Refused (λ private comment e.
     onEnding (paddingAt s e) section-read.Refused
     (section-read.Section
     (record {
       kind = Plain;
       checkint = checkint;
       padding = e .end - e .at;
-      scalar = scalar;
+      private = private;
       comment = comment;
       ciphertext = absent;
       tag = absent;
@@ -85,10 +92,10 @@ contentAt s c algorithm point =
     (section-read.Refused (fault Length (c .at)))
 
 -- 7. (cipher `none`) the section string, then end of image, else 6. Errors inside the section come before this 6.
-unfoldable pub plainAt : List ℕ → Cursor → Algorithm → Part → SectionRead
-plainAt s c algorithm point =
+unfoldable pub plainAt : List ℕ → Cursor → Algorithm → Public → SectionRead
+plainAt s c algorithm public =
     onField (stringAt s c) section-read.Refused (λ p d.
-    onSectionRead (contentAt s (within p) algorithm point) section-read.Refused (λ x.
+    onSectionRead (contentAt s (within p) algorithm public) section-read.Refused (λ x.
     onEnding (endAt d) section-read.Refused
     (section-read.Section x)))
 
@@ -98,7 +105,7 @@ encryptedOf ciphertext tag =
       kind = Encrypted;
       checkint = 0;
       padding = 0;
-      scalar = absent;
+      private = scalarPlace absent;
       comment = absent;
       ciphertext = ciphertext;
       tag = tag;

@@ -1,6 +1,6 @@
 // The container's section: plain, with its keypair, comment and padding, or encrypted, with its tag.
 ghost use mathlib.Core.Path.{_≡_};
-ghost use Rattle.section.specs.Section.{checkintsAt, samePublic, entryAt, paddingAt, contentAt, plainAt, encryptedOf, presentOf, encryptedAt};
+ghost use Rattle.section.specs.Section.{checkintsAt, sameKey, entryAt, paddingAt, contentAt, plainAt, encryptedOf, presentOf, encryptedAt};
 use fields::Cursor;
 use fields::Ending;
 use fields::Fault;
@@ -8,22 +8,24 @@ use fields::Field;
 use fields::Part;
 use fields::Refusal;
 use fields::Uint32;
+use keys::Public;
 use names::Algorithm;
 use names::Cipher;
 use pairs::Keypair;
+use pairs::Private;
 
 pub enum Kind {
     Plain,
     Encrypted,
 }
 
-// What the section adds to a header. A field that its kind doesn't have is absent, a number 0. The
-// scalar's place is that of its SIZE bytes, an extra zero left off; for Ed25519 the seed's.
+// What the section adds to a header. A field that its kind doesn't have is absent, a number 0. A scalar's
+// place is that of its SIZE bytes, an extra zero left off; for Ed25519 the seed's.
 pub struct Section {
     pub kind: Kind,
     pub checkint: u32,
     pub padding: usize,
-    pub scalar: Part,
+    pub private: Private,
     pub comment: Part,
     pub ciphertext: Part,
     pub tag: Part,
@@ -59,35 +61,41 @@ fn read_checkints(c: Cursor, image: &[u8]) -> Uint32
 }
 
 // Is it the same public key, kind included?
-fn same_public(image: &[u8], a: Algorithm, p: Part, b: Algorithm, q: Part) -> bool
-    ensures { λ r. ⌜ r ≡ samePublic (now (image .entry)) a p b q ⌝ }
+fn same_key(image: &[u8], a: Algorithm, p: Public, b: Algorithm, q: Public) -> bool
+    ensures { λ r. ⌜ r ≡ sameKey (now (image .entry)) a p b q ⌝ }
 {
-    if a.code() == b.code() {
-        return fields::same(fields::view(image, p), fields::view(image, q));
-    }
-    false
+    (a.code() == b.code())
+        & fields::same(fields::view(image, p.point), fields::view(image, q.point))
+        & fields::same(
+            fields::view(image, p.modulus),
+            fields::view(image, q.modulus),
+        )
+        & fields::same(
+            fields::view(image, p.exponent),
+            fields::view(image, q.exponent),
+        )
 }
 
 enum Entry {
-    Key(Part, Part, Cursor),
+    Key(Private, Part, Cursor),
     Refused(Fault),
 }
 
-// One key of a section, its keypair and comment, held to the algorithm and point of its public blob.
-fn read_entry(c: Cursor, image: &[u8], algorithm: Algorithm, point: Part) -> Entry
-    ensures { λ r. ⌜ r ≡ entryAt (now (image .entry)) c algorithm point ⌝ }
+// One key of a section, its keypair and comment, held to the public key of its blob.
+fn read_entry(c: Cursor, image: &[u8], algorithm: Algorithm, public: Public) -> Entry
+    ensures { λ r. ⌜ r ≡ entryAt (now (image .entry)) c algorithm public ⌝ }
 {
     let at = c.at;
     match pairs::read_keypair(c, image) {
         Keypair::Refused(f) => Entry::Refused(f),
-        Keypair::Pair(a, p, scalar, d) => {
-            if same_public(image, a, p, algorithm, point) {
+        Keypair::Pair(a, p, private, d) => {
+            if same_key(image, a, p, algorithm, public) {
                 let from = d.at;
                 match d.string(image) {
                     Field::Refused(f) => return Entry::Refused(f),
                     Field::Part(comment, e) => {
                         if utf8::is_utf8(fields::view(image, comment)) {
-                            return Entry::Key(scalar, comment, e);
+                            return Entry::Key(private, comment, e);
                         }
                         return Entry::Refused(Fault {
                             why: Refusal::CharacterEncoding,
@@ -131,8 +139,8 @@ fn read_padding(c: Cursor, image: &[u8]) -> Ending
 }
 
 // The inside of a plain section, of which c is the whole.
-fn read_content(c: Cursor, image: &[u8], algorithm: Algorithm, point: Part) -> SectionRead
-    ensures { λ r. ⌜ r ≡ contentAt (now (image .entry)) c algorithm point ⌝ }
+fn read_content(c: Cursor, image: &[u8], algorithm: Algorithm, public: Public) -> SectionRead
+    ensures { λ r. ⌜ r ≡ contentAt (now (image .entry)) c algorithm public ⌝ }
 {
     let at = c.at;
     if c.remaining() % 8 != 0 {
@@ -143,9 +151,9 @@ fn read_content(c: Cursor, image: &[u8], algorithm: Algorithm, point: Part) -> S
     }
     match read_checkints(c, image) {
         Uint32::Refused(f) => SectionRead::Refused(f),
-        Uint32::Value(checkint, d) => match read_entry(d, image, algorithm, point) {
+        Uint32::Value(checkint, d) => match read_entry(d, image, algorithm, public) {
             Entry::Refused(f) => SectionRead::Refused(f),
-            Entry::Key(scalar, comment, e) => {
+            Entry::Key(private, comment, e) => {
                 let padding = e.remaining();
                 match read_padding(e, image) {
                     Ending::Refused(f) => SectionRead::Refused(f),
@@ -153,7 +161,7 @@ fn read_content(c: Cursor, image: &[u8], algorithm: Algorithm, point: Part) -> S
                         kind: Kind::Plain,
                         checkint: checkint,
                         padding: padding,
-                        scalar: scalar,
+                        private: private,
                         comment: comment,
                         ciphertext: Part {
                             start: 0,
@@ -171,8 +179,8 @@ fn read_content(c: Cursor, image: &[u8], algorithm: Algorithm, point: Part) -> S
 }
 
 // A plain section and the image's end; what is wrong within the section comes first.
-pub fn read_plain(c: Cursor, image: &[u8], algorithm: Algorithm, point: Part) -> SectionRead
-    ensures { λ r. ⌜ r ≡ plainAt (now (image .entry)) c algorithm point ⌝ }
+pub fn read_plain(c: Cursor, image: &[u8], algorithm: Algorithm, public: Public) -> SectionRead
+    ensures { λ r. ⌜ r ≡ plainAt (now (image .entry)) c algorithm public ⌝ }
 {
     match c.string(image) {
         Field::Refused(f) => SectionRead::Refused(f),
@@ -183,7 +191,7 @@ pub fn read_plain(c: Cursor, image: &[u8], algorithm: Algorithm, point: Part) ->
                 at: start,
                 end: start + length,
             };
-            match read_content(inside, image, algorithm, point) {
+            match read_content(inside, image, algorithm, public) {
                 SectionRead::Refused(f) => SectionRead::Refused(f),
                 SectionRead::Section(x) => match d.finish() {
                     Ending::Refused(f) => SectionRead::Refused(f),
@@ -201,10 +209,10 @@ fn encrypted(ciphertext: Part, tag: Part) -> Section
         kind: Kind::Encrypted,
         checkint: 0,
         padding: 0,
-        scalar: Part {
+        private: pairs::at_scalar(Part {
             start: 0,
             length: 0,
-        },
+        }),
         comment: Part {
             start: 0,
             length: 0,

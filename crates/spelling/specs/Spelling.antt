@@ -9,7 +9,8 @@ use Rattle.fields.specs.Bytes.{ascii, string, join}
 use Rattle.fields.specs.Fields.{part, viewOf}
 use Rattle.fields.specs.declared.Part.{Part}
 use Rattle.names.specs.declared.Algorithm.{Algorithm}
-use Rattle.names.specs.declared.Algorithm.the-variants.{Ed25519, Ecdsa}
+use Rattle.names.specs.declared.Algorithm.the-variants.{Elliptic as OnCurve, Rsa}
+use Rattle.names.specs.declared.Elliptic.the-variants.{Ed25519, Ecdsa}
 use Rattle.names.specs.declared.Cipher.{Cipher}
 use Rattle.names.specs.declared.Cipher.the-variants as cipher
 use Rattle.names.specs.declared.Curve.{Curve}
@@ -24,14 +25,15 @@ nameTable =
     join
     (ascii "none bcrypt 3des-cbc aes128-cbc aes192-cbc aes256-cbc aes128-ctr aes192-ctr aes256-ctr "
     ∷ ascii "aes128-gcm@openssh.com aes256-gcm@openssh.com ssh-ed25519 ecdsa-sha2-nistp256 ecdsa-sha2-nistp384 "
-    ∷ ascii "ecdsa-sha2-nistp521"
+    ∷ ascii "ecdsa-sha2-nistp521 ssh-rsa"
     ∷ [])
 
 abbrev pub algorithmPlace : Algorithm → Part
-algorithmPlace Ed25519 = part 133 11
-algorithmPlace (Ecdsa Nistp256) = part 145 19
-algorithmPlace (Ecdsa Nistp384) = part 165 19
-algorithmPlace (Ecdsa Nistp521) = part 185 19
+algorithmPlace (OnCurve Ed25519) = part 133 11
+algorithmPlace (OnCurve (Ecdsa Nistp256)) = part 145 19
+algorithmPlace (OnCurve (Ecdsa Nistp384)) = part 165 19
+algorithmPlace (OnCurve (Ecdsa Nistp521)) = part 185 19
+algorithmPlace Rsa = part 205 7
 
 -- a curve's name ends its algorithm's
 abbrev pub curvePlace : Curve → Part
@@ -64,10 +66,11 @@ spelled false name = name
 
 pub algorithm-spelled : (a : Algorithm) → viewOf nameTable (algorithmPlace a) ≡ algorithmName a
 unfolding viewOf
-algorithm-spelled Ed25519 = refl
-algorithm-spelled (Ecdsa Nistp256) = refl
-algorithm-spelled (Ecdsa Nistp384) = refl
-algorithm-spelled (Ecdsa Nistp521) = refl
+algorithm-spelled (OnCurve Ed25519) = refl
+algorithm-spelled (OnCurve (Ecdsa Nistp256)) = refl
+algorithm-spelled (OnCurve (Ecdsa Nistp384)) = refl
+algorithm-spelled (OnCurve (Ecdsa Nistp521)) = refl
+algorithm-spelled Rsa = refl
 
 pub curve-spelled : (k : Curve) → viewOf nameTable (curvePlace k) ≡ curveName k
 unfolding viewOf

@@ -9,6 +9,7 @@ use fields::Part;
 use names::Algorithm;
 use names::Cipher;
 use names::Curve;
+use names::Elliptic;
 use names::Kdf;
 
 fn named(start: usize, length: usize) -> Part
@@ -26,12 +27,15 @@ pub fn algorithm_name(algorithm: Algorithm) -> Part
     ensures { λ r. ⌜ r ≡ algorithmPlace algorithm ⌝ }
 {
     match algorithm {
-        Algorithm::Ed25519 => named(133, 11),
-        Algorithm::Ecdsa(curve) => match curve {
-            Curve::Nistp256 => named(145, 19),
-            Curve::Nistp384 => named(165, 19),
-            Curve::Nistp521 => named(185, 19),
+        Algorithm::Elliptic(e) => match e {
+            Elliptic::Ed25519 => named(133, 11),
+            Elliptic::Ecdsa(curve) => match curve {
+                Curve::Nistp256 => named(145, 19),
+                Curve::Nistp384 => named(165, 19),
+                Curve::Nistp521 => named(185, 19),
+            },
         },
+        Algorithm::Rsa => named(205, 7),
     }
 }
 
@@ -78,7 +82,7 @@ fn put_spelled(out: &mut [u8], at: usize, name: Part, as_string: bool) -> usize
     let table =
         b"none bcrypt 3des-cbc aes128-cbc aes192-cbc aes256-cbc aes128-ctr aes192-ctr aes256-ctr \
         aes128-gcm@openssh.com aes256-gcm@openssh.com ssh-ed25519 ecdsa-sha2-nistp256 ecdsa-sha2-nistp384 \
-        ecdsa-sha2-nistp521";
+        ecdsa-sha2-nistp521 ssh-rsa";
     if as_string {
         return buffer::put_string(out, at, fields::view(table, name));
     }

@@ -5,7 +5,8 @@ use mathlib.Core.List.{List, [], _∷_}
 use lib.ListN.{length}
 use Rattle.fields.specs.Fields.{uint32At, onUint32}
 use Rattle.names.specs.declared.Algorithm.{Algorithm}
-use Rattle.names.specs.declared.Algorithm.the-variants.{Ed25519}
+use Rattle.names.specs.declared.Algorithm.the-variants.{Elliptic as OnCurve}
+use Rattle.names.specs.declared.Elliptic.the-variants.{Ed25519}
 use Rattle.names.specs.declared.AlgorithmName.{AlgorithmName}
 use Rattle.names.specs.declared.AlgorithmName.the-variants as algorithm-name
 use Rattle.names.specs.declared.Cipher.{Cipher}
@@ -25,7 +26,7 @@ numberIn s at = onUint32 (uint32At s (record { at = at; end = length s })) (λ f
 -- what is named, or the first of its kind
 abbrev pub knownAlgorithm : AlgorithmName → Algorithm
 knownAlgorithm (algorithm-name.Known a) = a
-knownAlgorithm algorithm-name.Unknown = Ed25519
+knownAlgorithm algorithm-name.Unknown = OnCurve Ed25519
 
 abbrev pub knownCipher : CipherName → Cipher
 knownCipher (cipher-name.Known c) = c

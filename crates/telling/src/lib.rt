@@ -10,6 +10,7 @@ use names::Algorithm;
 use names::AlgorithmName;
 use names::Cipher;
 use names::CipherName;
+use names::Elliptic;
 use names::Kdf;
 use names::KdfName;
 
@@ -47,7 +48,7 @@ pub fn algorithm_of(n: u32) -> Algorithm
 {
     match codes::algorithm_coded(code(n)) {
         AlgorithmName::Known(algorithm) => algorithm,
-        AlgorithmName::Unknown => Algorithm::Ed25519,
+        AlgorithmName::Unknown => Algorithm::Elliptic(Elliptic::Ed25519),
     }
 }
 

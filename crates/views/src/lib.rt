@@ -21,13 +21,13 @@ pub fn blob<'a>(r: Record<'a>) -> &'a [u8]
 }
 
 pub fn point<'a>(r: Record<'a>) -> &'a [u8]
-    ensures { λ v. ⌜ isView v (r .entry .image) (r .entry .fields .header .point) ⌝ }
+    ensures { λ v. ⌜ isView v (r .entry .image) (r .entry .fields .header .public .point) ⌝ }
 {
     parts::point(r.image, r.fields)
 }
 
 pub fn scalar<'a>(r: Record<'a>) -> &'a [u8]
-    ensures { λ v. ⌜ isView v (r .entry .image) (r .entry .fields .section .scalar) ⌝ }
+    ensures { λ v. ⌜ isView v (r .entry .image) (r .entry .fields .section .private .scalar) ⌝ }
 {
     parts::scalar(r.image, r.fields)
 }
@@ -48,4 +48,40 @@ pub fn tag<'a>(r: Record<'a>) -> &'a [u8]
     ensures { λ v. ⌜ isView v (r .entry .image) (r .entry .fields .section .tag) ⌝ }
 {
     parts::tag(r.image, r.fields)
+}
+
+pub fn modulus<'a>(r: Record<'a>) -> &'a [u8]
+    ensures { λ v. ⌜ isView v (r .entry .image) (r .entry .fields .header .public .modulus) ⌝ }
+{
+    parts::modulus(r.image, r.fields)
+}
+
+pub fn exponent<'a>(r: Record<'a>) -> &'a [u8]
+    ensures { λ v. ⌜ isView v (r .entry .image) (r .entry .fields .header .public .exponent) ⌝ }
+{
+    parts::exponent(r.image, r.fields)
+}
+
+pub fn d<'a>(r: Record<'a>) -> &'a [u8]
+    ensures { λ v. ⌜ isView v (r .entry .image) (r .entry .fields .section .private .d) ⌝ }
+{
+    parts::d(r.image, r.fields)
+}
+
+pub fn iqmp<'a>(r: Record<'a>) -> &'a [u8]
+    ensures { λ v. ⌜ isView v (r .entry .image) (r .entry .fields .section .private .iqmp) ⌝ }
+{
+    parts::iqmp(r.image, r.fields)
+}
+
+pub fn p<'a>(r: Record<'a>) -> &'a [u8]
+    ensures { λ v. ⌜ isView v (r .entry .image) (r .entry .fields .section .private .p) ⌝ }
+{
+    parts::p(r.image, r.fields)
+}
+
+pub fn q<'a>(r: Record<'a>) -> &'a [u8]
+    ensures { λ v. ⌜ isView v (r .entry .image) (r .entry .fields .section .private .q) ⌝ }
+{
+    parts::q(r.image, r.fields)
 }

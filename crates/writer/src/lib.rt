@@ -1,10 +1,41 @@
 // An image's record written again.
-ghost use Rattle.writer.specs.Rewrite.{isRewrite, isRewritten, isHanded};
+ghost use Rattle.writer.specs.Rewrite.{isPlainAgain, isRewrite, isRewritten, isHanded};
 use container::Fields;
 use container::ImageRead;
 use fields::Refusal;
+use names::Algorithm;
 use reply::Written;
 use section::Kind;
+
+fn write_plain(image: &[u8], f: Fields, out: &mut [u8]) -> Written
+    ensures { λ r. ⌜ isPlainAgain (now (image .entry)) f (now (out .entry)) r (now (out .exit)) ⌝ }
+{
+    let header = f.header;
+    let section = f.section;
+    let algorithm = header.algorithm;
+    let checkint = section.checkint;
+    match algorithm {
+        Algorithm::Elliptic(e) => plain::write_parts(
+            e,
+            parts::point(image, f),
+            parts::scalar(image, f),
+            checkint,
+            parts::comment(image, f),
+            out,
+        ),
+        Algorithm::Rsa => plain_rsa::write_parts(
+            parts::modulus(image, f),
+            parts::exponent(image, f),
+            parts::d(image, f),
+            parts::iqmp(image, f),
+            parts::p(image, f),
+            parts::q(image, f),
+            checkint,
+            parts::comment(image, f),
+            out,
+        ),
+    }
+}
 
 fn write_record(image: &[u8], f: Fields, out: &mut [u8]) -> Written
     ensures { λ r. ⌜ isRewrite (now (image .entry)) f (now (out .entry)) r (now (out .exit)) ⌝ }
@@ -12,18 +43,10 @@ fn write_record(image: &[u8], f: Fields, out: &mut [u8]) -> Written
     let header = f.header;
     let section = f.section;
     let kind = section.kind;
-    let algorithm = header.algorithm;
     let cipher = header.cipher;
     let kdf = header.kdf;
     match kind {
-        Kind::Plain => plain::write_parts(
-            algorithm,
-            parts::point(image, f),
-            parts::scalar(image, f),
-            section.checkint,
-            parts::comment(image, f),
-            out,
-        ),
+        Kind::Plain => write_plain(image, f, out),
         Kind::Encrypted => encrypted::write_encrypted(
             cipher,
             kdf,

@@ -21,9 +21,11 @@ const CIPHERS: [(&str, usize, usize); 10] = [
 
 const KDFS: [&str; 2] = ["none", "bcrypt"];
 
-/// The code of Ed25519; each other algorithm's code is the place of its curve, counted from 1.
+/// The codes of Ed25519 and RSA; each other algorithm's code is the place of its curve, counted from 1.
 const ED25519: u8 = 0;
-const ALGORITHMS: [&str; 4] = ["ssh-ed25519", "ecdsa-sha2-nistp256", "ecdsa-sha2-nistp384", "ecdsa-sha2-nistp521"];
+const RSA: u8 = 4;
+const ALGORITHMS: [&str; 5] =
+    ["ssh-ed25519", "ecdsa-sha2-nistp256", "ecdsa-sha2-nistp384", "ecdsa-sha2-nistp521", "ssh-rsa"];
 const CURVES: [(&str, usize); 3] = [("nistp256", 32), ("nistp384", 48), ("nistp521", 66)];
 
 #[derive(Clone, Copy, Debug, PartialEq, Eq)]
@@ -66,13 +68,27 @@ pub struct Record {
     pub tag: Part,
     /// The place of the section's length field.
     pub section: u64,
+    /// The bits of an RSA modulus.
+    pub bits: u64,
+    pub modulus: Part,
+    pub exponent: Part,
+    pub d: Part,
+    pub iqmp: Part,
+    pub p: Part,
+    pub q: Part,
 }
 
 /// Everything that a read answers, in the C interface's order.
-pub type Numbers = [u64; 26];
+pub type Numbers = [u64; 39];
+
+/// The places of the parts among these.
+const FIRST_PARTS: usize = 11;
+const SECTION: usize = 25;
+const BITS: usize = 26;
+const RSA_PARTS: usize = 27;
 
 pub fn numbers(read: &Result<Record, Refusal>) -> Numbers {
-    let mut numbers = [0; 26];
+    let mut numbers = [0; 39];
     match read {
         Err(refusal) => numbers[..3].copy_from_slice(&[refusal.number, refusal.count, refusal.at]),
         Ok(record) => {
@@ -80,14 +96,20 @@ pub fn numbers(read: &Result<Record, Refusal>) -> Numbers {
             numbers[7..9].copy_from_slice(&[record.rounds, record.checkint].map(u64::from));
             numbers[9..11].copy_from_slice(&[record.padding, u64::from(record.form)]);
             let Record { blob, point, scalar, comment, salt, ciphertext, tag, .. } = record;
-            let parts = [blob, point, scalar, comment, salt, ciphertext, tag];
-            for (part, two) in parts.iter().zip(numbers[11..].chunks_mut(2)) {
-                two.copy_from_slice(&[part.start, part.bytes.len() as u64]);
-            }
-            numbers[25] = record.section;
+            put_places(&mut numbers[FIRST_PARTS..], &[blob, point, scalar, comment, salt, ciphertext, tag]);
+            numbers[SECTION] = record.section;
+            numbers[BITS] = record.bits;
+            let Record { modulus, exponent, d, iqmp, p, q, .. } = record;
+            put_places(&mut numbers[RSA_PARTS..], &[modulus, exponent, d, iqmp, p, q]);
         }
     }
     numbers
+}
+
+fn put_places(numbers: &mut [u64], parts: &[&Part]) {
+    for (part, two) in parts.iter().zip(numbers.chunks_mut(2)) {
+        two.copy_from_slice(&[part.start, part.bytes.len() as u64]);
+    }
 }
 
 fn refuse<T>(number: u64, at: usize) -> Result<T, Refusal> {
@@ -159,6 +181,16 @@ impl<'a> Reader<'a> {
         Ok(string)
     }
 
+    /// A string that must be a positive mpint in its fewest bytes.
+    fn mpint(&mut self) -> Result<Part, Refusal> {
+        let field = self.at;
+        let number = self.string()?.part();
+        if !is_mpint(&number.bytes) {
+            return refuse(2, field);
+        }
+        Ok(number)
+    }
+
     /// A string that must be one of `names`; answers which.
     fn name<'n>(&mut self, names: impl IntoIterator<Item = &'n str>) -> Result<usize, Refusal> {
         let field = self.at;
@@ -177,24 +209,76 @@ impl<'a> Reader<'a> {
     }
 }
 
-/// The public half of a key, as the blob and the section both have it.
+/// Is this a positive mpint in its fewest bytes (RFC 4251, section 5)? Its highest bit is the sign.
+fn is_mpint(bytes: &[u8]) -> bool {
+    match bytes {
+        [] | [0] => false,
+        [0, second, ..] => *second >= 0x80,
+        [first, ..] => *first < 0x80,
+    }
+}
+
+/// The bits of a number without its leading zero bits.
+fn bits(number: &[u8]) -> usize {
+    match number.iter().position(|byte| *byte != 0) {
+        Some(first) => 8 * (number.len() - first) - number[first].leading_zeros() as usize,
+        None => 0,
+    }
+}
+
+/// The place of the first number with a wrong size; `modulus` is the place of the modulus among them.
+fn wrong_size(numbers: &[&[u8]], modulus: usize) -> Option<usize> {
+    let most = bits(numbers[modulus]);
+    (0..numbers.len()).find(|place| {
+        if *place == modulus {
+            !(1_024..=8_192).contains(&most)
+        } else {
+            bits(numbers[*place]) > most
+        }
+    })
+}
+
+/// Holds numbers, in the order in which they were read, to their sizes.
+fn check_sizes(numbers: &[&Part], modulus: usize) -> Result<(), Refusal> {
+    let contents: Vec<&[u8]> = numbers.iter().map(|number| &number.bytes[..]).collect();
+    match wrong_size(&contents, modulus) {
+        Some(place) => refuse(1, numbers[place].start as usize - 4),
+        None => Ok(()),
+    }
+}
+
+/// The public half of a key, of the blob or of the section. RSA has no point, and the others have no numbers.
+#[derive(Default)]
 struct Public {
     algorithm: u8,
-    /// The place of the key's name.
-    name: usize,
+    point: Part,
+    modulus: Part,
+    exponent: Part,
+}
+
+impl Public {
+    fn is_of(&self, record: &Record) -> bool {
+        self.algorithm == record.algorithm
+            && self.point.bytes == record.point.bytes
+            && self.modulus.bytes == record.modulus.bytes
+            && self.exponent.bytes == record.exponent.bytes
+    }
+}
+
+/// What follows the name of an Ed25519 or ECDSA key, the same in a blob and a section.
+struct Elliptic {
+    algorithm: u8,
     /// The place and the algorithm of the curve string; Ed25519 has none.
     curve: Option<(usize, u8)>,
     size: usize,
     point: Part,
 }
 
-impl Public {
-    fn read(reader: &mut Reader) -> Result<Public, Refusal> {
-        let name = reader.at;
-        let algorithm = reader.name(ALGORITHMS)? as u8;
+impl Elliptic {
+    fn read(algorithm: u8, reader: &mut Reader) -> Result<Elliptic, Refusal> {
         if algorithm == ED25519 {
             let point = reader.fixed(32)?.part();
-            return Ok(Public { algorithm, name, curve: None, size: 32, point });
+            return Ok(Elliptic { algorithm, curve: None, size: 32, point });
         }
         let curve = reader.at;
         let which = reader.name(CURVES.iter().map(|row| row.0))?;
@@ -204,22 +288,58 @@ impl Public {
         if point.bytes[0] != 4 {
             return refuse(2, field);
         }
-        Ok(Public { algorithm, name, curve: Some((curve, which as u8 + 1)), size, point })
+        Ok(Elliptic { algorithm, curve: Some((curve, which as u8 + 1)), size, point })
     }
 
-    fn check_curve(&self) -> Result<(), Refusal> {
+    /// The public half, once the curve is the algorithm's.
+    fn public(self) -> Result<Public, Refusal> {
         match self.curve {
             Some((place, algorithm)) if algorithm != self.algorithm => refuse(4, place),
-            _ => Ok(()),
+            _ => Ok(Public { algorithm: self.algorithm, point: self.point, ..Public::default() }),
         }
     }
 }
 
 fn read_blob(blob: &mut Reader) -> Result<Public, Refusal> {
-    let public = Public::read(blob)?;
-    public.check_curve()?;
+    let algorithm = blob.name(ALGORITHMS)? as u8;
+    let public = match algorithm {
+        RSA => read_rsa_blob(blob)?,
+        _ => Elliptic::read(algorithm, blob)?.public()?,
+    };
     blob.finish()?;
     Ok(public)
+}
+
+fn read_rsa_blob(blob: &mut Reader) -> Result<Public, Refusal> {
+    let exponent = blob.mpint()?;
+    let modulus = blob.mpint()?;
+    check_sizes(&[&exponent, &modulus], 1)?;
+    Ok(Public { algorithm: RSA, modulus, exponent, ..Public::default() })
+}
+
+/// The section's keypair: its private parts are put into the record, its public half is answered.
+fn read_pair(section: &mut Reader, record: &mut Record) -> Result<Public, Refusal> {
+    let algorithm = section.name(ALGORITHMS)? as u8;
+    if algorithm == RSA {
+        return read_rsa_pair(section, record);
+    }
+    let key = Elliptic::read(algorithm, section)?;
+    record.scalar = match key.curve {
+        None => read_seed(section, &key.point.bytes)?,
+        Some(_) => read_scalar(section, key.size)?,
+    };
+    key.public()
+}
+
+fn read_rsa_pair(section: &mut Reader, record: &mut Record) -> Result<Public, Refusal> {
+    let modulus = section.mpint()?;
+    let exponent = section.mpint()?;
+    record.d = section.mpint()?;
+    record.iqmp = section.mpint()?;
+    record.p = section.mpint()?;
+    record.q = section.mpint()?;
+    check_sizes(&[&modulus, &exponent, &record.d, &record.iqmp, &record.p, &record.q], 0)?;
+    Ok(Public { algorithm: RSA, modulus, exponent, ..Public::default() })
 }
 
 /// The seed that follows an Ed25519 public string.
@@ -256,14 +376,10 @@ fn read_plain_section(section: &mut Reader, record: &mut Record) -> Result<(), R
     if section.uint32()? != record.checkint {
         return refuse(3, second);
     }
-    let public = Public::read(section)?;
-    record.scalar = match public.curve {
-        None => read_seed(section, &public.point.bytes)?,
-        Some(_) => read_scalar(section, public.size)?,
-    };
-    public.check_curve()?;
-    if public.algorithm != record.algorithm || public.point.bytes != record.point.bytes {
-        return refuse(5, public.name);
+    let name = section.at;
+    let public = read_pair(section, record)?;
+    if !public.is_of(record) {
+        return refuse(5, name);
     }
     let comment = section.at;
     record.comment = section.string()?.part();
@@ -327,8 +443,9 @@ pub fn read_header(image: &[u8]) -> Result<Record, Refusal> {
     let mut blob = reader.string()?;
     record.blob = blob.part();
     let public = read_blob(&mut blob)?;
-    record.algorithm = public.algorithm;
-    record.point = public.point;
+    record.bits = bits(&public.modulus.bytes) as u64;
+    (record.algorithm, record.point) = (public.algorithm, public.point);
+    (record.modulus, record.exponent) = (public.modulus, public.exponent);
     record.section = reader.at as u64;
     Ok(record)
 }
@@ -373,7 +490,7 @@ fn put_string(image: &mut Vec<u8>, bytes: &[u8]) {
     image.extend_from_slice(bytes);
 }
 
-/// Name and public half, the same in a blob and a section.
+/// Name and public half of an Ed25519 or ECDSA key, the same in a blob and a section.
 fn public_bytes(algorithm: u8, public: &[u8]) -> Vec<u8> {
     let mut bytes = Vec::new();
     put_string(&mut bytes, ALGORITHMS[usize::from(algorithm)].as_bytes());
@@ -384,18 +501,21 @@ fn public_bytes(algorithm: u8, public: &[u8]) -> Vec<u8> {
     bytes
 }
 
-fn section_bytes(algorithm: u8, public: &[u8], private: &[u8], checkint: u32, comment: &[u8]) -> Vec<u8> {
+/// The name of RSA and these numbers.
+fn rsa_bytes(numbers: &[&[u8]]) -> Vec<u8> {
+    let mut bytes = Vec::new();
+    put_string(&mut bytes, ALGORITHMS[usize::from(RSA)].as_bytes());
+    for number in numbers {
+        put_string(&mut bytes, number);
+    }
+    bytes
+}
+
+fn section_bytes(pair: &[u8], checkint: u32, comment: &[u8]) -> Vec<u8> {
     let mut section = Vec::new();
     put_uint32(&mut section, checkint);
     put_uint32(&mut section, checkint);
-    section.extend(public_bytes(algorithm, public));
-    let mut field = private.to_vec();
-    if algorithm == ED25519 {
-        field.extend_from_slice(public);
-    } else if private[0] >= 0x80 {
-        field.insert(0, 0);
-    }
-    put_string(&mut section, &field);
+    section.extend_from_slice(pair);
     put_string(&mut section, comment);
     let mut padding = 0;
     while section.len() % 8 != 0 {
@@ -405,16 +525,36 @@ fn section_bytes(algorithm: u8, public: &[u8], private: &[u8], checkint: u32, co
     section
 }
 
-/// The image of a plain key of the right lengths, however long it gets.
-fn plain_image(algorithm: u8, public: &[u8], private: &[u8], checkint: u32, comment: &[u8]) -> Vec<u8> {
+/// A plain image with this blob and this keypair, however long it gets.
+fn image_of(blob: &[u8], pair: &[u8], checkint: u32, comment: &[u8]) -> Vec<u8> {
     let mut image = MAGIC.to_vec();
     put_string(&mut image, b"none");
     put_string(&mut image, b"none");
     put_string(&mut image, b"");
     put_uint32(&mut image, 1);
-    put_string(&mut image, &public_bytes(algorithm, public));
-    put_string(&mut image, &section_bytes(algorithm, public, private, checkint, comment));
+    put_string(&mut image, blob);
+    put_string(&mut image, &section_bytes(pair, checkint, comment));
     image
+}
+
+/// The image of a plain Ed25519 or ECDSA key of the right lengths.
+fn plain_image(algorithm: u8, public: &[u8], private: &[u8], checkint: u32, comment: &[u8]) -> Vec<u8> {
+    let mut field = private.to_vec();
+    if algorithm == ED25519 {
+        field.extend_from_slice(public);
+    } else if private[0] >= 0x80 {
+        field.insert(0, 0);
+    }
+    let blob = public_bytes(algorithm, public);
+    let mut pair = blob.clone();
+    put_string(&mut pair, &field);
+    image_of(&blob, &pair, checkint, comment)
+}
+
+/// The image of a plain RSA key with right numbers: n, e, d, iqmp, p, q.
+fn rsa_image(numbers: [&[u8]; 6], checkint: u32, comment: &[u8]) -> Vec<u8> {
+    let [n, e, ..] = numbers;
+    image_of(&rsa_bytes(&[e, n]), &rsa_bytes(&numbers), checkint, comment)
 }
 
 fn encrypted_image(
@@ -452,6 +592,11 @@ fn written(record: &Record) -> Vec<u8> {
 
 /// The image that the writer makes of a plain record with another comment.
 fn commented(record: &Record, comment: &[u8]) -> Vec<u8> {
+    if record.algorithm == RSA {
+        let Record { modulus, exponent, d, iqmp, p, q, .. } = record;
+        let numbers = [modulus, exponent, d, iqmp, p, q].map(|number| &number.bytes[..]);
+        return rsa_image(numbers, record.checkint, comment);
+    }
     plain_image(record.algorithm, &record.point.bytes, &record.scalar.bytes, record.checkint, comment)
 }
 
@@ -480,7 +625,7 @@ fn derived_checkint(private: &[u8]) -> u32 {
     groups.fold(0, |sum, group| sum ^ u32::from_be_bytes([group[0], group[1], group[2], group[3]]))
 }
 
-/// Writes a plain image; `derive` other than 0 derives the checkint.
+/// Writes a plain image of an Ed25519 or ECDSA key; `derive` other than 0 derives the checkint.
 pub fn write_plain(
     algorithm: u8,
     public: &[u8],
@@ -504,6 +649,28 @@ pub fn write_plain(
     }
     let checkint = if derive == 0 { checkint } else { derived_checkint(private) };
     store(&plain_image(algorithm, public, private, checkint, comment), out)
+}
+
+/// Writes a plain image of an RSA key: n, e, d, iqmp, p, q; `derive` other than 0 derives the checkint.
+pub fn write_rsa(
+    numbers: [&[u8]; 6],
+    derive: u8,
+    checkint: u32,
+    comment: &[u8],
+    out: &mut [u8],
+) -> Result<usize, Refusal> {
+    if !numbers.iter().all(|number| is_mpint(number)) {
+        return refuse(2, 0);
+    }
+    if wrong_size(&numbers, 0).is_some() {
+        return refuse(1, 0);
+    }
+    if std::str::from_utf8(comment).is_err() {
+        return refuse(7, 0);
+    }
+    let [_, _, d, ..] = numbers;
+    let checkint = if derive == 0 { checkint } else { derived_checkint(d) };
+    store(&rsa_image(numbers, checkint, comment), out)
 }
 
 /// Writes an encrypted image.

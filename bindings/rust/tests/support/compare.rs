@@ -3,20 +3,23 @@
 use super::model::{self, Numbers, Part, Record, Refusal};
 use super::{hex, seed};
 use saltorchard::raw;
-use saltorchard::{Algorithm, Checkint, Cipher, EcdsaCurve, EncryptedKey, Error, Header, Image, KdfAlg, PlainKey};
+use saltorchard::{Algorithm, Checkint, Cipher, EcdsaCurve, EncryptedKey, Error, Header, Image, KdfAlg};
+use saltorchard::{PlainKey, RsaKey};
 
-const FIELDS: [&str; 26] = [
+const FIELDS: [&str; 39] = [
     "number", "count", "at", "kind", "algorithm", "cipher", "kdf", "rounds", "checkint", "padding", "form",
     "blob start", "blob length", "point start", "point length", "scalar start", "scalar length", "comment start",
     "comment length", "salt start", "salt length", "ciphertext start", "ciphertext length", "tag start", "tag length",
-    "section",
+    "section", "bits", "modulus start", "modulus length", "exponent start", "exponent length", "d start", "d length",
+    "iqmp start", "iqmp length", "p start", "p length", "q start", "q length",
 ];
 
-pub const ALGORITHMS: [Algorithm; 4] = [
+pub const ALGORITHMS: [Algorithm; 5] = [
     Algorithm::Ed25519,
     Algorithm::Ecdsa { curve: EcdsaCurve::NistP256 },
     Algorithm::Ecdsa { curve: EcdsaCurve::NistP384 },
     Algorithm::Ecdsa { curve: EcdsaCurve::NistP521 },
+    Algorithm::Rsa,
 ];
 pub const CIPHERS: [Cipher; 10] = [
     Cipher::None,
@@ -38,6 +41,15 @@ pub struct Plain<'a> {
     pub algorithm: u8,
     pub public: &'a [u8],
     pub private: &'a [u8],
+    pub derive: u8,
+    pub checkint: u32,
+    pub comment: &'a [u8],
+}
+
+/// A call of the writer of RSA keys; the numbers are n, e, d, iqmp, p, q.
+#[derive(Clone, Copy)]
+pub struct Rsa<'a> {
+    pub numbers: [&'a [u8]; 6],
     pub derive: u8,
     pub checkint: u32,
     pub comment: &'a [u8],
@@ -104,7 +116,9 @@ pub fn numbers_of(image: &raw::Image) -> Numbers {
         image.checkint, image.padding, image.form, image.blob.start, image.blob.length, image.point.start,
         image.point.length, image.scalar.start, image.scalar.length, image.comment.start, image.comment.length,
         image.salt.start, image.salt.length, image.ciphertext.start, image.ciphertext.length, image.tag.start,
-        image.tag.length, image.section,
+        image.tag.length, image.section, image.bits, image.modulus.start, image.modulus.length, image.exponent.start,
+        image.exponent.length, image.d.start, image.d.length, image.iqmp.start, image.iqmp.length, image.p.start,
+        image.p.length, image.q.start, image.q.length,
     ]
 }
 
@@ -131,6 +145,20 @@ pub fn raw_of(numbers: Numbers) -> raw::Image {
         ciphertext: part(21),
         tag: part(23),
         section: numbers[25],
+        bits: numbers[26],
+        modulus: part(27),
+        exponent: part(29),
+        d: part(31),
+        iqmp: part(33),
+        p: part(35),
+        q: part(37),
+    }
+}
+
+fn checkint_of(derive: u8, given: u32) -> Checkint {
+    match derive {
+        0 => Checkint::Given(given),
+        _ => Checkint::Derived,
     }
 }
 
@@ -149,6 +177,7 @@ macro_rules! accessor_unlike {
             ("is_encrypted", $read.is_encrypted() == ($record.cipher != 0)),
             ("rounds", $read.rounds() == $record.rounds),
             ("section_start", $read.section_start() as u64 == $record.section),
+            ("bits", $read.bits() as u64 == $record.bits),
         ])
     };
 }
@@ -169,6 +198,8 @@ fn header_unlike(header: &Header, record: &Record, bytes: &[u8]) -> Option<&'sta
         ("public_blob", header.public_blob(), &record.blob),
         ("point", header.point(), &record.point),
         ("salt", header.salt(), &record.salt),
+        ("modulus", header.modulus(), &record.modulus),
+        ("exponent", header.exponent(), &record.exponent),
     ];
     accessor_unlike!(header, record).or_else(|| view_unlike(&views, bytes))
 }
@@ -189,6 +220,12 @@ fn image_unlike(image: &Image, record: &Record, bytes: &[u8]) -> Option<&'static
         ("salt", image.salt(), &record.salt),
         ("ciphertext", image.ciphertext(), &record.ciphertext),
         ("tag", image.tag(), &record.tag),
+        ("modulus", image.modulus(), &record.modulus),
+        ("exponent", image.exponent(), &record.exponent),
+        ("d", image.d(), &record.d),
+        ("iqmp", image.iqmp(), &record.iqmp),
+        ("p", image.p(), &record.p),
+        ("q", image.q(), &record.q),
     ];
     accessor_unlike!(image, record).or_else(|| first_unlike(&of_the_section)).or_else(|| view_unlike(&views, bytes))
 }
@@ -354,12 +391,30 @@ impl Tally {
         let reply = raw::write_plain(algorithm, public, private, derive, checkint, comment, lent(&mut buffer));
         self.same("write_plain", (reply, &buffer), (model, &right), &input);
         if let Some(algorithm) = ALGORITHMS.get(usize::from(algorithm)).copied() {
-            let checkint = if derive == 0 { Checkint::Given(checkint) } else { Checkint::Derived };
-            let key = PlainKey { algorithm, public, private, checkint };
+            let key = PlainKey { algorithm, public, private, checkint: checkint_of(derive, checkint) };
             let mut buffer = before.clone();
             let answer = saltorchard::write_plain(&key, comment, lent(&mut buffer)).map_err(refusal_of);
             self.same("write_plain of the crate", (reply_of(answer), &buffer), (model, &right), &input);
         }
+        self.count(reply.number);
+        Answer { written: model.ok(), buffer: lent(&mut right).to_vec() }
+    }
+
+    /// Writes a plain image of an RSA key with both into buffers of `room` bytes.
+    pub fn write_rsa(&mut self, call: Rsa, room: usize) -> Answer {
+        let Rsa { numbers, derive, checkint, comment } = call;
+        let input = || format!("{:?} {} {} {} room {}", numbers.map(hex), derive, checkint, hex(comment), room);
+        let before = guarded(room);
+        let mut right = before.clone();
+        let model = model::write_rsa(numbers, derive, checkint, comment, lent(&mut right));
+        let mut buffer = before.clone();
+        let reply = raw::write_rsa(numbers, derive, checkint, comment, lent(&mut buffer));
+        self.same("write_rsa", (reply, &buffer), (model, &right), &input);
+        let [n, e, d, iqmp, p, q] = numbers;
+        let key = RsaKey { n, e, d, iqmp, p, q, checkint: checkint_of(derive, checkint) };
+        let mut buffer = before.clone();
+        let answer = saltorchard::write_rsa(&key, comment, lent(&mut buffer)).map_err(refusal_of);
+        self.same("write_rsa of the crate", (reply_of(answer), &buffer), (model, &right), &input);
         self.count(reply.number);
         Answer { written: model.ok(), buffer: lent(&mut right).to_vec() }
     }

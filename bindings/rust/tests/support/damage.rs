@@ -1,6 +1,6 @@
 //! Damage: to an image's parts, so that the lengths around them still fit, and to its bytes.
 
-use super::images::{Draft, Flat, Key, ALGORITHMS, CIPHERS, CURVES, KDFS, SIZES};
+use super::images::{mpint, Draft, Flat, Key, RsaKey, ALGORITHMS, CIPHERS, CURVES, KDFS, SIZES};
 use super::Rng;
 
 /// Comments at the borders of UTF-8, some of them not UTF-8.
@@ -53,11 +53,11 @@ fn name(rng: &mut Rng) -> Vec<u8> {
     name
 }
 
-/// A string that could stand at a key's place `place`: a name, a curve, a point or a private half.
+/// A string that could stand at a key's place `place`: a name, a curve, a point, a private half or a number.
 fn key_string(place: usize, old: &[u8], rng: &mut Rng) -> Vec<u8> {
     let mut new = old.to_vec();
-    match rng.below(7) {
-        0 if place == 0 => ALGORITHMS[rng.below(4)].into(),
+    match rng.below(8) {
+        0 if place == 0 => ALGORITHMS[rng.below(5)].into(),
         1 if place == 1 => CURVES[rng.below(3)].into(),
         0 | 1 => name(rng),
         2 => {
@@ -76,6 +76,10 @@ fn key_string(place: usize, old: &[u8], rng: &mut Rng) -> Vec<u8> {
             let place = rng.below(new.len());
             new[place] ^= 1 << rng.below(8);
             new
+        }
+        6 => {
+            let bits = *rng.pick(&[1, 17, 1_023, 1_024, 1_025, 8_192, 8_193]);
+            mpint(bits, rng)
         }
         _ => {
             new.truncate(rng.below(old.len() + 1));
@@ -121,15 +125,25 @@ fn sealed_parts(draft: &mut Draft, rng: &mut Rng) {
 
 /// Another key in the header or in the section, of the same kind or of another.
 fn other_key(draft: &mut Draft, rng: &mut Rng) {
-    let key = Key::new(rng.below(4) as u8, rng);
-    match rng.below(3) {
-        0 => draft.blob = key.blob(),
-        1 => draft.pair = key.pair(rng.one_in(2)),
-        _ => {
-            draft.blob = key.blob();
-            draft.pair = key.pair(key.needs_zero());
-        }
+    let (blob, pair) = any_key(rng);
+    let both = rng.below(3);
+    if both != 0 {
+        draft.pair = pair;
     }
+    if both != 1 {
+        draft.blob = blob;
+    }
+}
+
+/// The strings of a key of any kind, one in two scalars not in the form.
+fn any_key(rng: &mut Rng) -> (Vec<Vec<u8>>, Vec<Vec<u8>>) {
+    let algorithm = rng.below(5) as u8;
+    if algorithm == 4 {
+        let key = RsaKey::new(1_024 + rng.below(20), rng);
+        return (key.blob(), key.pair());
+    }
+    let key = Key::new(algorithm, rng);
+    (key.blob(), key.pair(rng.one_in(2)))
 }
 
 /// A curve that isn't the algorithm's, with a point and a scalar of its size.
@@ -259,30 +273,71 @@ const FAULTS: [fn(&mut Draft); 35] = [
     |draft| draft.padding.push(1),
 ];
 
-/// The place of the first fault in the padding: before it, each fault has the section padded anew.
-const FIRST_IN_PADDING: usize = 32;
+/// How many of these are in the padding: each fault before them has the section padded anew.
+const IN_PADDING: usize = 3;
 
-fn put_fault(draft: &mut Draft, place: usize) {
-    FAULTS[place](draft);
-    if place < FIRST_IN_PADDING {
+/// A fault for each rule of RSA's numbers, and for each of the numbers.
+const RSA_FAULTS: [fn(&mut Draft); 22] = [
+    |draft| draft.blob[1][0] |= 0x80,
+    |draft| draft.blob[2][0] |= 0x80,
+    |draft| draft.pair[1][0] |= 0x80,
+    |draft| draft.pair[2][0] |= 0x80,
+    |draft| draft.pair[3].insert(0, 0),
+    |draft| draft.pair[4].clear(),
+    |draft| draft.pair[5].insert(0, 0),
+    |draft| draft.pair[6] = vec![0],
+    |draft| draft.blob[1].resize(1_024, 1),
+    |draft| draft.blob[2].truncate(128),
+    |draft| draft.blob[2].resize(1_026, 1),
+    |draft| draft.pair[1].truncate(128),
+    |draft| draft.pair[1].resize(1_026, 1),
+    |draft| draft.pair[2].resize(1_024, 1),
+    |draft| draft.pair[3].resize(1_024, 1),
+    |draft| draft.pair[4].resize(1_024, 1),
+    |draft| draft.pair[5].resize(1_024, 1),
+    |draft| draft.pair[6].resize(1_024, 1),
+    |draft| draft.blob.swap(1, 2),
+    |draft| draft.pair.swap(1, 2),
+    |draft| draft.pair.swap(2, 3),
+    |draft| drop(draft.pair.pop()),
+];
+
+/// The faults that this image can have.
+fn faults(draft: &Draft) -> Vec<fn(&mut Draft)> {
+    let of_the_key: &[fn(&mut Draft)] = if draft.blob[0] == b"ssh-rsa" { &RSA_FAULTS } else { &[] };
+    [of_the_key, &FAULTS].concat()
+}
+
+fn put_fault(draft: &mut Draft, faults: &[fn(&mut Draft)], place: usize) {
+    faults[place](draft);
+    if place < faults.len() - IN_PADDING {
         draft.pad();
     }
 }
 
 /// The image with each fault, and with every two of them.
 pub fn with_two_faults(draft: &Draft) -> Vec<Vec<u8>> {
+    let faults = faults(draft);
     let mut images = Vec::new();
-    for first in 0..FAULTS.len() {
+    for first in 0..faults.len() {
         let mut one = draft.clone();
-        put_fault(&mut one, first);
+        put_fault(&mut one, &faults, first);
         images.push(one.bytes());
-        for second in first + 1..FAULTS.len() {
+        for second in first + 1..faults.len() {
             let mut two = one.clone();
-            put_fault(&mut two, second);
+            put_fault(&mut two, &faults, second);
             images.push(two.bytes());
         }
     }
     images
+}
+
+/// A right RSA number made wrong: empty, zero, negative, or with a byte before it that it doesn't need.
+pub fn spoiled(number: &[u8]) -> Vec<Vec<u8>> {
+    let mut negative = number.to_vec();
+    negative[0] |= 0x80;
+    let (needless_zero, longer_negative) = ([&[0], number].concat(), [&[0xff], number].concat());
+    vec![vec![], vec![0], vec![0x80], vec![0, 0x7f], negative, needless_zero, longer_negative]
 }
 
 /// Changes one to three parts and mostly pads the section anew; now and then damages the bytes too.

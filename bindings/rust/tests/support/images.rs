@@ -3,7 +3,8 @@
 use super::Rng;
 
 pub const MAGIC: &[u8] = b"openssh-key-v1\0";
-pub const ALGORITHMS: [&str; 4] = ["ssh-ed25519", "ecdsa-sha2-nistp256", "ecdsa-sha2-nistp384", "ecdsa-sha2-nistp521"];
+pub const ALGORITHMS: [&str; 5] =
+    ["ssh-ed25519", "ecdsa-sha2-nistp256", "ecdsa-sha2-nistp384", "ecdsa-sha2-nistp521", "ssh-rsa"];
 pub const CURVES: [&str; 3] = ["nistp256", "nistp384", "nistp521"];
 pub const CIPHERS: [&str; 10] = [
     "none", "3des-cbc", "aes128-cbc", "aes192-cbc", "aes256-cbc", "aes128-ctr", "aes192-ctr", "aes256-ctr",
@@ -21,7 +22,7 @@ pub fn public_length(algorithm: u8) -> usize {
     }
 }
 
-/// A key's two halves.
+/// The two halves of an Ed25519 or ECDSA key.
 #[derive(Clone)]
 pub struct Key {
     pub algorithm: u8,
@@ -68,6 +69,46 @@ impl Key {
 
     pub fn needs_zero(&self) -> bool {
         self.private[0] >= 0x80
+    }
+}
+
+/// A made-up number of that many bits, as an mpint.
+pub fn mpint(bits: usize, rng: &mut Rng) -> Vec<u8> {
+    let mut number = rng.bytes(bits / 8 + 1);
+    let highest = 1 << (bits % 8);
+    number[0] = (number[0] % highest) | (highest / 2);
+    if bits % 8 == 0 {
+        number[1] |= 0x80;
+    }
+    number
+}
+
+/// The six numbers of an RSA key: n, e, d, iqmp, p, q.
+#[derive(Clone)]
+pub struct RsaKey(pub [Vec<u8>; 6]);
+
+impl RsaKey {
+    /// Made-up numbers for a modulus of that many bits, with the sizes that the numbers of such a key have.
+    pub fn new(bits: usize, rng: &mut Rng) -> Self {
+        let half = bits / 2;
+        Self([bits, 17, bits - rng.below(4), half - rng.below(4), half, half].map(|bits| mpint(bits, rng)))
+    }
+
+    pub fn numbers(&self) -> [&[u8]; 6] {
+        let [n, e, d, iqmp, p, q] = &self.0;
+        [n, e, d, iqmp, p, q]
+    }
+
+    /// The strings of the blob.
+    pub fn blob(&self) -> Vec<Vec<u8>> {
+        vec![ALGORITHMS[4].into(), self.0[1].clone(), self.0[0].clone()]
+    }
+
+    /// The strings of the section's keypair.
+    pub fn pair(&self) -> Vec<Vec<u8>> {
+        let mut strings = vec![ALGORITHMS[4].into()];
+        strings.extend_from_slice(&self.0);
+        strings
     }
 }
 
@@ -127,7 +168,7 @@ impl Flat {
 }
 
 impl Draft {
-    pub fn plain(key: &Key, zero: bool, checkint: u32, comment: &[u8]) -> Self {
+    fn of(blob: Vec<Vec<u8>>, pair: Vec<Vec<u8>>, checkint: u32, comment: &[u8]) -> Self {
         let mut draft = Self {
             magic: MAGIC.to_vec(),
             cipher: "none".into(),
@@ -135,11 +176,11 @@ impl Draft {
             options: None,
             options_rest: Vec::new(),
             count: 1,
-            blob: key.blob(),
+            blob,
             blob_rest: Vec::new(),
             sealed: None,
             checkints: [checkint; 2],
-            pair: key.pair(zero),
+            pair,
             comment: comment.to_vec(),
             padding: Vec::new(),
             rest: Vec::new(),
@@ -148,18 +189,26 @@ impl Draft {
         draft
     }
 
+    pub fn plain(key: &Key, zero: bool, checkint: u32, comment: &[u8]) -> Self {
+        Self::of(key.blob(), key.pair(zero), checkint, comment)
+    }
+
+    pub fn rsa(key: &RsaKey, checkint: u32, comment: &[u8]) -> Self {
+        Self::of(key.blob(), key.pair(), checkint, comment)
+    }
+
     /// A plain image in the writer's form.
     pub fn in_form(key: &Key, checkint: u32, comment: &[u8]) -> Self {
         Self::plain(key, key.needs_zero(), checkint, comment)
     }
 
-    pub fn sealed(key: &Key, cipher: u8, options: Option<(Vec<u8>, u32)>, ciphertext: &[u8], tag: &[u8]) -> Self {
-        let mut draft = Self::plain(key, false, 0, b"");
-        draft.cipher = CIPHERS[usize::from(cipher)].into();
-        draft.kdf = KDFS[usize::from(options.is_some())].into();
-        draft.options = options;
-        draft.sealed = Some((ciphertext.to_vec(), tag.to_vec()));
-        draft
+    /// The plain image's header, then a made-up ciphertext of that many blocks; with KDF bcrypt or none.
+    pub fn sealed(mut self, cipher: u8, bcrypt: bool, blocks: usize, rng: &mut Rng) -> Self {
+        self.cipher = CIPHERS[usize::from(cipher)].into();
+        self.kdf = KDFS[usize::from(bcrypt)].into();
+        self.options = if bcrypt { Some((rng.bytes(16), 16)) } else { None };
+        self.sealed = Some((rng.bytes(blocks * block(cipher)), rng.bytes(tag_length(cipher))));
+        self
     }
 
     /// Gives the section the fewest padding bytes.
@@ -216,7 +265,11 @@ impl Draft {
 }
 
 pub fn blob_bytes(key: &Key) -> Vec<u8> {
-    Flat::of(&key.blob()).bytes
+    strings_bytes(&key.blob())
+}
+
+pub fn strings_bytes(strings: &[Vec<u8>]) -> Vec<u8> {
+    Flat::of(strings).bytes
 }
 
 pub fn tag_length(cipher: u8) -> usize {
@@ -236,13 +289,10 @@ pub fn block(cipher: u8) -> usize {
 }
 
 pub fn sealed(algorithm: u8, cipher: u8, bcrypt: bool, blocks: usize, rng: &mut Rng) -> Draft {
-    let options = if bcrypt { Some((rng.bytes(16), 16)) } else { None };
-    let ciphertext = rng.bytes(blocks * block(cipher));
-    let tag = rng.bytes(tag_length(cipher));
-    Draft::sealed(&Key::new(algorithm, rng), cipher, options, &ciphertext, &tag)
+    Draft::plain(&Key::new(algorithm, rng), false, 0, b"").sealed(cipher, bcrypt, blocks, rng)
 }
 
-/// Plain images of every kind: comments of several lengths, scalars in the form and out of it.
+/// Plain images of every kind but RSA: comments of several lengths, scalars in the form and out of it.
 pub fn plain_drafts(rng: &mut Rng) -> Vec<Draft> {
     let comments: [&[u8]; 4] = [b"", b"oven7", b"oven 7", "Bäckerei Süd, Ofen 7".as_bytes()];
     let mut drafts = Vec::new();
@@ -258,7 +308,7 @@ pub fn plain_drafts(rng: &mut Rng) -> Vec<Draft> {
     drafts
 }
 
-/// Encrypted images of every cipher with every kind, and of every cipher with both KDFs.
+/// Encrypted images of every cipher with every kind but RSA, and of every cipher with both KDFs.
 pub fn sealed_drafts(rng: &mut Rng) -> Vec<Draft> {
     let mut drafts = Vec::new();
     for cipher in 1..10 {
@@ -270,8 +320,24 @@ pub fn sealed_drafts(rng: &mut Rng) -> Vec<Draft> {
     drafts
 }
 
+/// Images of small RSA keys: two plain ones, two encrypted ones.
+pub fn rsa_drafts(rng: &mut Rng) -> Vec<Draft> {
+    let plain = |bits, comment: &[u8], rng: &mut Rng| Draft::rsa(&RsaKey::new(bits, rng), rng.uint32(), comment);
+    vec![
+        plain(1_024, b"", rng),
+        plain(1_025, b"silo 3", rng),
+        plain(1_024, b"", rng).sealed(7, true, 2, rng),
+        plain(1_031, b"", rng).sealed(9, false, 0, rng),
+    ]
+}
+
+/// How many images [`drafts`] gives.
+pub const DRAFTS: u64 = 92;
+
 pub fn drafts(rng: &mut Rng) -> Vec<Draft> {
     let mut all = plain_drafts(rng);
     all.extend(sealed_drafts(rng));
+    all.extend(rsa_drafts(rng));
+    assert_eq!(all.len() as u64, DRAFTS);
     all
 }

@@ -1,4 +1,4 @@
--- `container::scalar_in_form` meets its contract: kind, algorithm and the two tests pick the case of `scalarInForm`. Assumes nothing.
+-- `container::scalar_in_form` meets its contract: kind and algorithm pick the case of `scalarInForm`. Rests on `scalar_stands`.
 use Rattle.container.specs.Form.{scalarInForm}
 use borrow.Author.Needs.{needs}
 use Rattle.container.proofs.scalar_in_form.Statement.{statement}
@@ -10,43 +10,26 @@ enum-told c = search needs
 enum-told-2 : tie.Need-enum-told-2
 enum-told-2 c = search needs
 
+enum-known-algorithm : tie.Need-enum-known-algorithm
+enum-known-algorithm c = search needs
+
+scalar-stands-requires : tie.Need-scalar-stands-requires
+scalar-stands-requires c κs = search needs
+
 enum-told-3 : tie.Need-enum-told-3
 enum-told-3 c = search needs
 
-enum-told-4 : tie.Need-enum-told-4
-enum-told-4 c = search needs
-
-view-requires : tie.Need-view-requires
-view-requires c κs = search needs
-
-needs-leading-zero-requires : tie.Need-needs-leading-zero-requires
-needs-leading-zero-requires c κs = search needs
-
-after-zero-requires : tie.Need-after-zero-requires
-after-zero-requires c κs = search needs
-
 returns : tie.Need-returns
 unfolding scalarInForm
-returns c = rw (c .before .before .before .before .before .before .enum-told2 .given .1, c .before .before .before .before .enum-told4 .given .1, ← c .before .before .before .view .ensures .0, ← c .before .before .needs-leading-zero .ensures, c .before .if1 .taken) (c .after-zero .ensures)
-
-after-zero-requires-2 : tie.Need-after-zero-requires-2
-after-zero-requires-2 c κs = search needs
+returns c = rw (c .enum-told .given .1)
 
 returns-2 : tie.Need-returns-2
 unfolding scalarInForm
-returns-2 c = rw (c .before .before .before .before .before .before .before .enum-told2 .given .1, c .before .before .before .before .before .enum-told4 .given .1, ← c .before .before .before .before .view .ensures .0, ← c .before .before .before .needs-leading-zero .ensures, c .before .before .if1 .left, ← c .before .after-zero2 .ensures, c .if2 .taken)
+returns-2 c = rw (c .before .before .before .before .enum-told2 .given .1, c .before .before .algorithm .given .1, ← c .scalar-stands .ensures)
 
 returns-3 : tie.Need-returns-3
 unfolding scalarInForm
-returns-3 c = rw (c .enum-told .given .1)
-
-returns-4 : tie.Need-returns-4
-unfolding scalarInForm
-returns-4 c = rw (c .before .before .enum-told2 .given .1, c .enum-told3 .given .1)
-
-returns-5 : tie.Need-returns-5
-unfolding scalarInForm
-returns-5 c = rw (c .before .before .before .before .before .before .before .enum-told2 .given .1, c .before .before .before .before .before .enum-told4 .given .1, ← c .before .before .before .before .view .ensures .0, ← c .before .before .before .needs-leading-zero .ensures, c .before .before .if1 .left, ← c .before .after-zero2 .ensures, c .if2 .left)
+returns-3 c = rw (c .before .before .enum-told2 .given .1, c .enum-told3 .given .1)
 
 pub scalar-in-form-spec : {M : Type 1} → statement M
 scalar-in-form-spec =
@@ -54,14 +37,9 @@ scalar-in-form-spec =
     (tie.spec
     enum-told
     enum-told-2
+    enum-known-algorithm
+    scalar-stands-requires
     enum-told-3
-    enum-told-4
-    view-requires
-    needs-leading-zero-requires
-    after-zero-requires
     returns
-    after-zero-requires-2
     returns-2
-    returns-3
-    returns-4
-    returns-5)
+    returns-3)

@@ -28,12 +28,12 @@ code-requires-2 c κs = search needs
 same-part-requires-2 : tie.Need-same-part-requires-2
 same-part-requires-2 c κs = search needs
 
-same-part-requires-3 : tie.Need-same-part-requires-3
-same-part-requires-3 c κs = search needs
+same-public-requires : tie.Need-same-public-requires
+same-public-requires c κs = search needs
 
 returns : tie.Need-returns
 unfolding sameHeader
-returns c = rw (← c .before .before .before .before .before .before .before .before .before .before .before .before .cipher-code .ensures, ← c .before .before .before .before .before .before .before .before .before .before .before .cipher-code2 .ensures, ← c .before .before .before .before .before .before .before .before .before .before .kdf-code .ensures, ← c .before .before .before .before .before .before .before .before .before .kdf-code2 .ensures, ← c .before .before .before .before .before .before .before .before .same-part .ensures, ← c .before .before .before .before .before .code .ensures, ← c .before .before .before .before .code2 .ensures, ← c .before .before .before .same-part2 .ensures, ← c .before .before .same-part3 .ensures)
+returns c = rw (← c .before .before .before .before .before .before .before .before .before .before .before .before .cipher-code .ensures, ← c .before .before .before .before .before .before .before .before .before .before .before .cipher-code2 .ensures, ← c .before .before .before .before .before .before .before .before .before .before .kdf-code .ensures, ← c .before .before .before .before .before .before .before .before .before .kdf-code2 .ensures, ← c .before .before .before .before .before .before .before .before .same-part .ensures, ← c .before .before .before .before .before .code .ensures, ← c .before .before .before .before .code2 .ensures, ← c .before .before .before .same-part2 .ensures, ← c .before .before .same-public .ensures)
 
 pub same-header-spec : {M : Type 1} → statement M
 same-header-spec =
@@ -47,5 +47,5 @@ same-header-spec =
     code-requires
     code-requires-2
     same-part-requires-2
-    same-part-requires-3
+    same-public-requires
     returns)

@@ -10,6 +10,9 @@ kind-code-requires c κs = search needs
 kind-code-requires-2 : tie.Need-kind-code-requires-2
 kind-code-requires-2 c κs = search needs
 
+same-private-requires : tie.Need-same-private-requires
+same-private-requires c κs = search needs
+
 same-part-requires : tie.Need-same-part-requires
 same-part-requires c κs = search needs
 
@@ -19,12 +22,9 @@ same-part-requires-2 c κs = search needs
 same-part-requires-3 : tie.Need-same-part-requires-3
 same-part-requires-3 c κs = search needs
 
-same-part-requires-4 : tie.Need-same-part-requires-4
-same-part-requires-4 c κs = search needs
-
 returns : tie.Need-returns
 unfolding sameSection
-returns c = rw (← c .before .before .before .before .before .before .before .before .before .kind-code .ensures, ← c .before .before .before .before .before .before .before .before .kind-code2 .ensures, ← c .before .before .before .same-part .ensures, ← c .before .before .same-part2 .ensures, ← c .before .same-part3 .ensures, ← c .same-part4 .ensures)
+returns c = rw (← c .before .before .before .before .before .before .before .before .before .kind-code .ensures, ← c .before .before .before .before .before .before .before .before .kind-code2 .ensures, ← c .before .before .before .same-private .ensures, ← c .before .before .same-part .ensures, ← c .before .same-part2 .ensures, ← c .same-part3 .ensures)
 
 pub same-section-spec : {M : Type 1} → statement M
 same-section-spec =
@@ -32,8 +32,8 @@ same-section-spec =
     (tie.spec
     kind-code-requires
     kind-code-requires-2
+    same-private-requires
     same-part-requires
     same-part-requires-2
     same-part-requires-3
-    same-part-requires-4
     returns)

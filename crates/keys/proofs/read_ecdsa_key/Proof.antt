@@ -1,7 +1,7 @@
--- `keys::read_ecdsa_key` meets its contract: the codes are equal where `sameAlgorithm` is true. Assumes nothing.
+-- `keys::read_ecdsa_key` meets its contract: each return is the case of `ecdsaKeyAt` that the answers on the way pick. Assumes nothing.
+use borrow.Author.Tests.{eq-eqb, ne-eqb}
 use Rattle.keys.specs.Keys.{ecdsaKeyAt}
 use Rattle.names.specs.Algorithms.{sameAlgorithm}
-use borrow.Author.Tests.{eq-eqb, ne-eqb}
 use borrow.Author.Needs.{needs}
 use Rattle.keys.proofs.read_ecdsa_key.Statement.{statement}
 use Rattle.keys.proofs.read_ecdsa_key.Tie as tie
@@ -21,9 +21,12 @@ code-requires c κs = search needs
 code-requires-2 : tie.Need-code-requires-2
 code-requires-2 c κs = search needs
 
+at-point-requires : tie.Need-at-point-requires
+at-point-requires c κs = search needs
+
 returns : tie.Need-returns
 unfolding ecdsaKeyAt sameAlgorithm
-returns c = rw (← c .before .before .before .before .before .before .read-ecdsa-public .ensures, c .before .before .before .before .curve .given .1, ← c .before .before .code .ensures, ← c .before .code2 .ensures, eq-eqb _ _ (c .if1 .taken))
+returns c = rw (← c .before .before .before .before .before .before .before .read-ecdsa-public .ensures, c .before .before .before .before .before .curve .given .1, ← c .before .before .before .code .ensures, ← c .before .before .code2 .ensures, eq-eqb _ _ (c .before .if1 .taken), ← c .at-point .ensures)
 
 returns-2 : tie.Need-returns-2
 unfolding ecdsaKeyAt sameAlgorithm
@@ -42,6 +45,7 @@ read-ecdsa-key-spec =
     enum-known-curve
     code-requires
     code-requires-2
+    at-point-requires
     returns
     returns-2
     returns-3)

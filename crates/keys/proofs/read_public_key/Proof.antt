@@ -28,20 +28,14 @@ enum-known-a c = search needs
 enum-known-a-2 : tie.Need-enum-known-a-2
 enum-known-a-2 c = search needs
 
-read-ecdsa-key-requires : tie.Need-read-ecdsa-key-requires
-read-ecdsa-key-requires c κs = search needs
+read-elliptic-key-requires : tie.Need-read-elliptic-key-requires
+read-elliptic-key-requires c κs = search needs
 
 enum-told-2 : tie.Need-enum-told-2
 enum-told-2 c = search needs
 
-fixed-requires : tie.Need-fixed-requires
-fixed-requires c κs = search needs
-
-enum-known-f-2 : tie.Need-enum-known-f-2
-enum-known-f-2 c = search needs
-
-enum-known-point : tie.Need-enum-known-point
-enum-known-point c = search needs
+read-rsa-key-requires : tie.Need-read-rsa-key-requires
+read-rsa-key-requires c κs = search needs
 
 returns : tie.Need-returns
 unfolding publicKeyAt
@@ -53,15 +47,11 @@ returns-2 c = rw (← c .before .before .before .before .before .before .before 
 
 returns-3 : tie.Need-returns-3
 unfolding publicKeyAt
-returns-3 c = rw (← c .before .before .before .before .before .before .before .before .before .before .before .before .string .ensures, c .before .before .before .before .before .before .before .before .before .before .name .given .1, ← c .before .before .before .before .before .before .before .before .view .ensures .0, ← c .before .before .before .before .before .before .before .algorithm-named .ensures, c .before .before .before .before .before .a .given .1, c .before .before .a2 .given .1) (c .read-ecdsa-key .ensures)
+returns-3 c = rw (← c .before .before .before .before .before .before .before .before .before .before .before .before .string .ensures, c .before .before .before .before .before .before .before .before .before .before .name .given .1, ← c .before .before .before .before .before .before .before .before .view .ensures .0, ← c .before .before .before .before .before .before .before .algorithm-named .ensures, c .before .before .before .before .before .a .given .1, c .before .before .a2 .given .1, ← c .read-elliptic-key .ensures)
 
 returns-4 : tie.Need-returns-4
 unfolding publicKeyAt
-returns-4 c = rw (← c .before .before .before .before .before .before .before .before .before .before .before .before .before .before .string .ensures, c .before .before .before .before .before .before .before .before .before .before .before .before .name .given .1, ← c .before .before .before .before .before .before .before .before .before .before .view .ensures .0, ← c .before .before .before .before .before .before .before .before .before .algorithm-named .ensures, c .before .before .before .before .before .before .before .a .given .1, c .before .before .before .before .enum-told2 .given .1, ← c .before .before .before .fixed .ensures, c .before .f2 .given .1)
-
-returns-5 : tie.Need-returns-5
-unfolding publicKeyAt
-returns-5 c = rw (← c .before .before .before .before .before .before .before .before .before .before .before .before .before .before .string .ensures, c .before .before .before .before .before .before .before .before .before .before .before .before .name .given .1, ← c .before .before .before .before .before .before .before .before .before .before .view .ensures .0, ← c .before .before .before .before .before .before .before .before .before .algorithm-named .ensures, c .before .before .before .before .before .before .before .a .given .1, c .before .before .before .before .enum-told2 .given .1, ← c .before .before .before .fixed .ensures, c .before .point .given .1)
+returns-4 c = rw (← c .before .before .before .before .before .before .before .before .before .before .before .string .ensures, c .before .before .before .before .before .before .before .before .before .name .given .1, ← c .before .before .before .before .before .before .before .view .ensures .0, ← c .before .before .before .before .before .before .algorithm-named .ensures, c .before .before .before .before .a .given .1, c .before .enum-told2 .given .1, ← c .read-rsa-key .ensures)
 
 pub read-public-key-spec : {M : Type 1} → statement M
 read-public-key-spec =
@@ -75,13 +65,10 @@ read-public-key-spec =
     enum-told
     enum-known-a
     enum-known-a-2
-    read-ecdsa-key-requires
+    read-elliptic-key-requires
     enum-told-2
-    fixed-requires
-    enum-known-f-2
-    enum-known-point
+    read-rsa-key-requires
     returns
     returns-2
     returns-3
-    returns-4
-    returns-5)
+    returns-4)

@@ -44,9 +44,19 @@ returns-4 : tie.Need-returns-4
 unfolding algorithmNamed
 returns-4 c = rw (← c .before .before .before .before .before .before .before .before .before .before .same .ensures, c .before .before .before .before .before .before .before .before .before .if1 .left, ← c .before .before .before .before .before .before .before .same2 .ensures, c .before .before .before .before .before .before .if2 .left, ← c .before .before .before .before .same3 .ensures, c .before .before .before .if3 .left, ← c .before .same4 .ensures, c .if4 .taken)
 
+slice-aggregate-same-5 : tie.Need-slice-aggregate-same-5
+slice-aggregate-same-5 c = search needs
+
+same-requires-5 : tie.Need-same-requires-5
+same-requires-5 c κs = search needs
+
 returns-5 : tie.Need-returns-5
 unfolding algorithmNamed
-returns-5 c = rw (← c .before .before .before .before .before .before .before .before .before .before .same .ensures, c .before .before .before .before .before .before .before .before .before .if1 .left, ← c .before .before .before .before .before .before .before .same2 .ensures, c .before .before .before .before .before .before .if2 .left, ← c .before .before .before .before .same3 .ensures, c .before .before .before .if3 .left, ← c .before .same4 .ensures, c .if4 .left)
+returns-5 c = rw (← c .before .before .before .before .before .before .before .before .before .before .before .before .before .same .ensures, c .before .before .before .before .before .before .before .before .before .before .before .before .if1 .left, ← c .before .before .before .before .before .before .before .before .before .before .same2 .ensures, c .before .before .before .before .before .before .before .before .before .if2 .left, ← c .before .before .before .before .before .before .before .same3 .ensures, c .before .before .before .before .before .before .if3 .left, ← c .before .before .before .before .same4 .ensures, c .before .before .before .if4 .left, ← c .before .same5 .ensures, c .if5 .taken)
+
+returns-6 : tie.Need-returns-6
+unfolding algorithmNamed
+returns-6 c = rw (← c .before .before .before .before .before .before .before .before .before .before .before .before .before .same .ensures, c .before .before .before .before .before .before .before .before .before .before .before .before .if1 .left, ← c .before .before .before .before .before .before .before .before .before .before .same2 .ensures, c .before .before .before .before .before .before .before .before .before .if2 .left, ← c .before .before .before .before .before .before .before .same3 .ensures, c .before .before .before .before .before .before .if3 .left, ← c .before .before .before .before .same4 .ensures, c .before .before .before .if4 .left, ← c .before .same5 .ensures, c .if5 .left)
 
 pub algorithm-named-spec : {M : Type 1} → statement M
 algorithm-named-spec =
@@ -64,4 +74,7 @@ algorithm-named-spec =
     slice-aggregate-same-4
     same-requires-4
     returns-4
-    returns-5)
+    slice-aggregate-same-5
+    same-requires-5
+    returns-5
+    returns-6)

@@ -1,7 +1,7 @@
--- `pairs::read_ecdsa_pair` meets its contract: the scalar is read at the curve string's size, and then the codes are compared as `sameAlgorithm` does. Assumes nothing.
+-- `pairs::read_ecdsa_pair` meets its contract: each return is the case of `ecdsaPairAt` that the answers on the way pick. Assumes nothing.
+use borrow.Author.Tests.{eq-eqb, ne-eqb}
 use Rattle.pairs.specs.Pairs.{ecdsaPairAt}
 use Rattle.names.specs.Algorithms.{sameAlgorithm}
-use borrow.Author.Tests.{eq-eqb, ne-eqb}
 use borrow.Author.Needs.{needs}
 use Rattle.pairs.proofs.read_ecdsa_pair.Statement.{statement}
 use Rattle.pairs.proofs.read_ecdsa_pair.Tie as tie
@@ -33,9 +33,15 @@ code-requires c κs = search needs
 code-requires-2 : tie.Need-code-requires-2
 code-requires-2 c κs = search needs
 
+at-point-requires : tie.Need-at-point-requires
+at-point-requires c κs = search needs
+
+at-scalar-requires : tie.Need-at-scalar-requires
+at-scalar-requires c κs = search needs
+
 returns : tie.Need-returns
 unfolding ecdsaPairAt sameAlgorithm
-returns c = rw (← c .before .before .before .before .before .before .before .before .before .before .before .read-ecdsa-public .ensures, c .before .before .before .before .before .before .before .before .before .curve .given .1, ← c .before .before .before .before .before .before .before .size .ensures, ← c .before .before .before .before .before .before .read-scalar .ensures, c .before .before .before .before .scalar .given .1, ← c .before .before .code .ensures, ← c .before .code2 .ensures, eq-eqb _ _ (c .if1 .taken))
+returns c = rw (← c .before .before .before .before .before .before .before .before .before .before .before .before .before .read-ecdsa-public .ensures, c .before .before .before .before .before .before .before .before .before .before .before .curve .given .1, ← c .before .before .before .before .before .before .before .before .before .size .ensures, ← c .before .before .before .before .before .before .before .before .read-scalar .ensures, c .before .before .before .before .before .before .scalar .given .1, ← c .before .before .before .before .code .ensures, ← c .before .before .before .code2 .ensures, eq-eqb _ _ (c .before .before .if1 .taken), ← c .before .at-point .ensures, ← c .at-scalar .ensures)
 
 returns-2 : tie.Need-returns-2
 unfolding ecdsaPairAt sameAlgorithm
@@ -62,6 +68,8 @@ read-ecdsa-pair-spec =
     enum-known-scalar
     code-requires
     code-requires-2
+    at-point-requires
+    at-scalar-requires
     returns
     returns-2
     returns-3

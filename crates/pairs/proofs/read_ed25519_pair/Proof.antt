@@ -39,9 +39,15 @@ view-requires-2 c κs = search needs
 same-requires : tie.Need-same-requires
 same-requires c κs = search needs
 
+at-point-requires : tie.Need-at-point-requires
+at-point-requires c κs = search needs
+
+at-scalar-requires : tie.Need-at-scalar-requires
+at-scalar-requires c κs = search needs
+
 returns : tie.Need-returns
 unfolding ed25519PairAt
-returns c = rw (← c .before .before .before .before .before .before .before .before .before .before .before .fixed .ensures, c .before .before .before .before .before .before .before .before .before .public .given .1, ← c .before .before .before .before .before .before .before .fixed2 .ensures, c .before .before .before .before .before .both .given .1, ← c .before .before .before .view .ensures .0, ← c .before .before .view2 .ensures .0, ← c .before .same .ensures, c .if1 .taken)
+returns c = rw (← c .before .before .before .before .before .before .before .before .before .before .before .before .before .fixed .ensures, c .before .before .before .before .before .before .before .before .before .before .before .public .given .1, ← c .before .before .before .before .before .before .before .before .before .fixed2 .ensures, c .before .before .before .before .before .before .before .both .given .1, ← c .before .before .before .before .before .view .ensures .0, ← c .before .before .before .before .view2 .ensures .0, ← c .before .before .before .same .ensures, c .before .before .if1 .taken, ← c .before .at-point .ensures, ← c .at-scalar .ensures)
 
 returns-2 : tie.Need-returns-2
 unfolding ed25519PairAt
@@ -69,6 +75,8 @@ read-ed25519-pair-spec =
     view-requires
     view-requires-2
     same-requires
+    at-point-requires
+    at-scalar-requires
     returns
     returns-2
     returns-3

@@ -25,17 +25,17 @@ enum-told c = search needs
 enum-known-a : tie.Need-enum-known-a
 enum-known-a c = search needs
 
-enum-told-2 : tie.Need-enum-told-2
-enum-told-2 c = search needs
-
-read-ed25519-pair-requires : tie.Need-read-ed25519-pair-requires
-read-ed25519-pair-requires c κs = search needs
-
 enum-known-a-2 : tie.Need-enum-known-a-2
 enum-known-a-2 c = search needs
 
-read-ecdsa-pair-requires : tie.Need-read-ecdsa-pair-requires
-read-ecdsa-pair-requires c κs = search needs
+read-elliptic-pair-requires : tie.Need-read-elliptic-pair-requires
+read-elliptic-pair-requires c κs = search needs
+
+enum-told-2 : tie.Need-enum-told-2
+enum-told-2 c = search needs
+
+read-rsa-keypair-requires : tie.Need-read-rsa-keypair-requires
+read-rsa-keypair-requires c κs = search needs
 
 returns : tie.Need-returns
 unfolding keypairAt
@@ -47,11 +47,11 @@ returns-2 c = rw (← c .before .before .before .before .before .before .before 
 
 returns-3 : tie.Need-returns-3
 unfolding keypairAt
-returns-3 c = rw (← c .before .before .before .before .before .before .before .before .before .before .before .string .ensures, c .before .before .before .before .before .before .before .before .before .name .given .1, ← c .before .before .before .before .before .before .before .view .ensures .0, ← c .before .before .before .before .before .before .algorithm-named .ensures, c .before .before .before .before .a .given .1, c .before .enum-told2 .given .1) (c .read-ed25519-pair .ensures)
+returns-3 c = rw (← c .before .before .before .before .before .before .before .before .before .before .before .before .string .ensures, c .before .before .before .before .before .before .before .before .before .before .name .given .1, ← c .before .before .before .before .before .before .before .before .view .ensures .0, ← c .before .before .before .before .before .before .before .algorithm-named .ensures, c .before .before .before .before .before .a .given .1, c .before .before .a2 .given .1, ← c .read-elliptic-pair .ensures)
 
 returns-4 : tie.Need-returns-4
 unfolding keypairAt
-returns-4 c = rw (← c .before .before .before .before .before .before .before .before .before .before .before .before .string .ensures, c .before .before .before .before .before .before .before .before .before .before .name .given .1, ← c .before .before .before .before .before .before .before .before .view .ensures .0, ← c .before .before .before .before .before .before .before .algorithm-named .ensures, c .before .before .before .before .before .a .given .1, c .before .before .a2 .given .1) (c .read-ecdsa-pair .ensures)
+returns-4 c = rw (← c .before .before .before .before .before .before .before .before .before .before .before .string .ensures, c .before .before .before .before .before .before .before .before .before .name .given .1, ← c .before .before .before .before .before .before .before .view .ensures .0, ← c .before .before .before .before .before .before .algorithm-named .ensures, c .before .before .before .before .a .given .1, c .before .enum-told2 .given .1, ← c .read-rsa-keypair .ensures)
 
 pub read-keypair-spec : {M : Type 1} → statement M
 read-keypair-spec =
@@ -64,10 +64,10 @@ read-keypair-spec =
     algorithm-named-requires
     enum-told
     enum-known-a
-    enum-told-2
-    read-ed25519-pair-requires
     enum-known-a-2
-    read-ecdsa-pair-requires
+    read-elliptic-pair-requires
+    enum-told-2
+    read-rsa-keypair-requires
     returns
     returns-2
     returns-3

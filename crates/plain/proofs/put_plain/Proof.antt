@@ -4,7 +4,8 @@ use mathlib.Core.Path.{_≡_, sym, _∙_}
 use Prim.Native.Nat.{_+_}
 use lib.ListN.{length}
 use Rattle.fields.specs.Bytes.{uint32, string}
-use Rattle.format.specs.Format.{magic, standing, needsLeadingZero, section, writtenImage, blob}
+use Rattle.names.specs.declared.Algorithm.the-variants.{Elliptic as OnCurve}
+use Rattle.format.specs.Format.{ofPoint, ofScalar, magic, scalarZero, keypair, section, writtenImage, blob}
 use Rattle.format.specs.Laws.{section-length}
 use Rattle.format.specs.Lengths.{blob-length, written-content-length}
 use Rattle.buffer.specs.Puts.{isPut}
@@ -48,15 +49,19 @@ same-length c = search needs
 returns : tie.Need-returns
 unfolding plainFields writtenImage
 returns c room =
-    let a = c .before .before .before .before .before .before .before .before .before .before .before .before .before .before .before .before .before .before .before .before .before .before .before .before .before .before .before .before .args in
-    let h = c .before .before .before .before .before .before .before .before .before .before .before .before .before .before .before .before .before .before .before .before .before .before .before .before .before .before .before .before .pre .0 in
-    let stored = standing (needsLeadingZero (a .algorithm) (a .scalar .now)) (a .scalar .now) in
-    let joined = plain-joined (a .checkint) (a .algorithm) (a .point .now) stored (a .comment .now) in
-    let long = written-content-length (a .checkint) (a .algorithm) (a .point .now) (a .scalar .now) (a .comment .now) (h .0) (h .1) in
-    let key : c .before .before .before .before .before .before .before .before .before .before .before .before .before .before .before .blob-length .result ≡ length (blob (a .algorithm) (a .point .now)) = c .before .before .before .before .before .before .before .before .before .before .before .before .before .before .before .blob-length .ensures .0 ∙ sym (blob-length (a .algorithm) (a .point .now) (h .0)) in
-    let whole : a .content + c .before .before .before .before .before .before .before .before .before .before .before .before .before .before .before .before .before .before .before .before .before .before .before .padding .result ≡ length (section (a .checkint) (a .algorithm) (a .point .now) stored (a .comment .now)) =
-    rw (c .before .before .before .before .before .before .before .before .before .before .before .before .before .before .before .before .before .before .before .before .before .before .before .padding .ensures, c .before .before .before .before .before .before .before .before .before .before .before .before .before .before .before .before .before .before .before .before .before .before .before .before .before .before .before .before .pre .1 .0, ← long) (sym (section-length (a .checkint) (a .algorithm) (a .point .now) stored (a .comment .now))) in
-    let fronts = step (step (start-as _ joined room) (front-put (c .before .before .before .before .before .before .before .before .before .before .before .before .before .before .before .before .before .before .before))) (rw key at (c .before .before .before .before .before .before .before .before .before .before .before .before .before .before .put-uint32 .ensures)) in
+    let b = c .before .before .before .before .before .before .before .before .before .before .before .before .before .before .before .before .before .before .before .before .before .before .before .before .before .before .before .before in
+    let a = b .args in
+    let h = b .pre .0 in
+    let key = ofPoint (a .point .now) in
+    let x = ofScalar (a .scalar .now) in
+    let pair = keypair (OnCurve (a .algorithm)) (scalarZero (a .algorithm) (a .scalar .now)) key x in
+    let joined = plain-joined (a .checkint) (blob (OnCurve (a .algorithm)) key) pair (a .comment .now) in
+    let long = written-content-length (a .checkint) (OnCurve (a .algorithm)) key x (a .comment .now) h in
+    let size : c .before .before .before .before .before .before .before .before .before .before .before .before .before .before .before .blob-length .result ≡ length (blob (OnCurve (a .algorithm)) key) =
+    c .before .before .before .before .before .before .before .before .before .before .before .before .before .before .before .blob-length .ensures .0 ∙ sym (blob-length key x (OnCurve (a .algorithm)) h) in
+    let whole : a .content + c .before .before .before .before .before .before .before .before .before .before .before .before .before .before .before .before .before .before .before .before .before .before .before .padding .result ≡ length (section (a .checkint) pair (a .comment .now)) =
+    rw (c .before .before .before .before .before .before .before .before .before .before .before .before .before .before .before .before .before .before .before .before .before .before .before .padding .ensures, b .pre .1 .0, ← long) (sym (section-length (a .checkint) pair (a .comment .now))) in
+    let fronts = step (step (start-as _ joined room) (front-put (c .before .before .before .before .before .before .before .before .before .before .before .before .before .before .before .before .before .before .before))) (rw size at (c .before .before .before .before .before .before .before .before .before .before .before .before .before .before .put-uint32 .ensures)) in
     finish-as _ joined (run (step (run fronts (c .before .before .before .before .before .before .before .before .before .before .put-key .ensures)) (rw whole at (c .before .before .before .before .before .before .put-uint322 .ensures))) (c .before .before .put-section .ensures))
 
 pub put-plain-spec : {M : Type 1} → statement M

@@ -1,7 +1,7 @@
 -- `plain::write_parts` meets its contract: each test is the definition's, in its order. Rests on the callees' contracts.
 use borrow.Author.Tests.{eq-eqb, ne-eqb, not-true, not-false}
 use mathlib.Core.Path.{refl, sym, _∙_}
-use Rattle.plain.specs.Plain.{plainReply, plainLeft}
+use Rattle.plain.specs.Plain.{keyChecked, plainReply, plainLeft}
 use borrow.Author.Needs.{needs}
 use Rattle.reply.specs.Reply.{answered}
 use Rattle.plain.proofs.write_parts.Statement.{statement}
@@ -14,7 +14,7 @@ refused-requires : tie.Need-refused-requires
 refused-requires c κs = search needs
 
 returns : tie.Need-returns
-unfolding plainReply plainLeft
+unfolding plainReply plainLeft keyChecked
 returns c = rw (c .refused .ensures, ne-eqb _ _ (λ e. c .before .if1 .taken (e ∙ sym (c .before .before .public-length .ensures)))) (refl, refl, refl)
 
 private-length-requires : tie.Need-private-length-requires
@@ -24,7 +24,7 @@ refused-requires-2 : tie.Need-refused-requires-2
 refused-requires-2 c κs = search needs
 
 returns-2 : tie.Need-returns-2
-unfolding plainReply plainLeft
+unfolding plainReply plainLeft keyChecked
 returns-2 c = rw
     (c .refused2 .ensures, eq-eqb _ _ (c .before .before .before .if1 .left ∙ c .before .before .before .before .public-length .ensures), ne-eqb _ _ (λ e. c .before .if2 .taken (e ∙ sym (c .before .before .private-length .ensures))))
     (refl, refl, refl)
@@ -36,7 +36,7 @@ refused-requires-3 : tie.Need-refused-requires-3
 refused-requires-3 c κs = search needs
 
 returns-3 : tie.Need-returns-3
-unfolding plainReply plainLeft
+unfolding plainReply plainLeft keyChecked
 returns-3 c = rw
     (c .refused3 .ensures, eq-eqb _ _ (c .before .before .before .before .before .if1 .left ∙ c .before .before .before .before .before .before .public-length .ensures), eq-eqb _ _ (c .before .before .before .if2 .left ∙ c .before .before .before .before .private-length .ensures), ← c .before .before .tagged .ensures, not-true (c .before .before .tagged .result) (c .before .if3 .taken))
     (refl, refl, refl)
@@ -48,7 +48,7 @@ refused-requires-4 : tie.Need-refused-requires-4
 refused-requires-4 c κs = search needs
 
 returns-4 : tie.Need-returns-4
-unfolding plainReply plainLeft
+unfolding plainReply plainLeft keyChecked
 returns-4 c = rw
     (c .refused4 .ensures, eq-eqb _ _ (c .before .before .before .before .before .before .before .if1 .left ∙ c .before .before .before .before .before .before .before .before .public-length .ensures), eq-eqb _ _ (c .before .before .before .before .before .if2 .left ∙ c .before .before .before .before .before .before .private-length .ensures), ← c .before .before .before .before .tagged .ensures, not-false (c .before .before .before .before .tagged .result) (c .before .before .before .if3 .left), ← c .before .before .is-utf8 .ensures, not-true (c .before .before .is-utf8 .result) (c .before .if4 .taken))
     (refl, refl, refl)
@@ -60,7 +60,7 @@ same-length : tie.Need-same-length
 same-length c = search needs
 
 returns-5 : tie.Need-returns-5
-unfolding plainReply plainLeft
+unfolding plainReply plainLeft keyChecked
 returns-5 c = rw
     (eq-eqb _ _ (c .before .before .before .before .before .before .before .before .before .before .if1 .left ∙ c .before .before .before .before .before .before .before .before .before .before .before .public-length .ensures), eq-eqb _ _ (c .before .before .before .before .before .before .before .before .if2 .left ∙ c .before .before .before .before .before .before .before .before .before .private-length .ensures), ← c .before .before .before .before .before .before .before .tagged .ensures, not-false (c .before .before .before .before .before .before .before .tagged .result) (c .before .before .before .before .before .before .if3 .left), ← c .before .before .before .before .before .is-utf8 .ensures, not-false (c .before .before .before .before .before .is-utf8 .result) (c .before .before .before .before .if4 .left))
     (answered _ _ _ _ (c .before .before .write-sized .ensures))

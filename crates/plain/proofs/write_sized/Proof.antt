@@ -1,9 +1,10 @@
 -- `plain::write_sized` meets its contract: the lengths that it adds up are the image's. Rests on the length law.
-use mathlib.Core.Path.{_≡_}
+use mathlib.Core.Path.{_≡_, ap₂}
 use native.Mathlib.Omega.{arith}
 use lib.ListN.{length}
-use Prim.Native.Nat.{_+_}
-use Rattle.format.specs.Format.{writtenImage}
+use Prim.Native.Nat.{ℕ, _+_}
+use Rattle.names.specs.declared.Algorithm.the-variants.{Elliptic as OnCurve}
+use Rattle.format.specs.Format.{ofPoint, ofScalar, writtenImage}
 use Rattle.format.specs.Lengths.{written-length}
 use Rattle.reply.specs.Sized.{too-large, no-room, done}
 use Rattle.plain.specs.Parts.{plain-size}
@@ -11,11 +12,15 @@ use borrow.Author.Needs.{needs}
 use Rattle.plain.proofs.write_sized.Statement.{statement}
 use Rattle.plain.proofs.write_sized.Tie as tie
 
-size-is : (c : tie.After-padding) → length (writtenImage (c .before .before .before .before .before .before .before .before .args .checkint) (c .before .before .before .before .before .before .before .before .args .algorithm) (c .before .before .before .before .before .before .before .before .args .point .now) (c .before .before .before .before .before .before .before .before .args .scalar .now) (c .before .before .before .before .before .before .before .before .args .comment .now)) ≡ 47 + c .before .before .blob-length .result + (8 + (c .before .before .blob-length .result + c .before .private-length .result) + (4 + length (c .before .before .before .before .before .before .before .before .args .comment .now)) + c .padding .result)
+size-is :
+    (c : tie.After-padding) → length (writtenImage (c .before .before .before .before .before .before .before .before .args .checkint) (OnCurve (c .before .before .before .before .before .before .before .before .args .algorithm)) (ofPoint (c .before .before .before .before .before .before .before .before .args .point .now)) (ofScalar (c .before .before .before .before .before .before .before .before .args .scalar .now)) (c .before .before .before .before .before .before .before .before .args .comment .now))
+    ≡ 47 + c .before .before .blob-length .result + (8 + (c .before .before .blob-length .result + c .before .private-length .result) + (4 + length (c .before .before .before .before .before .before .before .before .args .comment .now)) + c .padding .result)
 size-is c =
-    let a = c .before .before .before .before .before .before .before .before .args in
-    plain-size (a .checkint) (a .algorithm) (a .point .now) (a .scalar .now) (a .comment .now) _ _ _ (c .before .before .before .before .before .before .before .before .pre .0) (c .before .before .before .before .before .before .before .before .pre .1)
-    (c .before .before .blob-length .ensures .0) (c .before .private-length .ensures .0) (c .padding .ensures)
+    let a = c .before .before .before .before .before .before .before .before in
+    let n = a .args in
+    let pair = ap₂ (λ (i j : ℕ). i + j) (c .before .before .blob-length .ensures .0) (c .before .private-length .ensures .0) in
+    plain-size (n .checkint) (OnCurve (n .algorithm)) (ofPoint (n .point .now)) (ofScalar (n .scalar .now)) (n .comment .now) _ _ _ (a .pre)
+    (c .before .before .blob-length .ensures .0) pair (c .padding .ensures)
 
 refused-requires : tie.Need-refused-requires
 refused-requires c κs = search needs
@@ -24,14 +29,17 @@ returns : tie.Need-returns
 returns c =
     let a = c .before .before .before .before .before .before .args in
     rw (c .refused .ensures)
-    (too-large (writtenImage (a .checkint) (a .algorithm) (a .point .now) (a .scalar .now) (a .comment .now)) (a .out .now)
-    (omega (arith, c .before .if1 .taken, written-length (a .checkint) (a .algorithm) (a .point .now) (a .scalar .now) (a .comment .now) (c .before .before .before .before .before .before .pre .0) (c .before .before .before .before .before .before .pre .1))))
+    (too-large (writtenImage (a .checkint) (OnCurve (a .algorithm)) (ofPoint (a .point .now)) (ofScalar (a .scalar .now)) (a .comment .now)) (a .out .now)
+    (omega (arith, c .before .if1 .taken, written-length (a .checkint) (OnCurve (a .algorithm)) (ofPoint (a .point .now)) (ofScalar (a .scalar .now)) (a .comment .now) (c .before .before .before .before .before .before .pre))))
 
 blob-length-requires : tie.Need-blob-length-requires
 blob-length-requires c κs = search needs
 
 private-length-requires : tie.Need-private-length-requires
 private-length-requires c κs = search needs
+
+add-pair : tie.Need-add-pair
+add-pair c = search needs
 
 add-content : tie.Need-add-content
 add-content c = search needs
@@ -41,9 +49,6 @@ add-content-2 c = search needs
 
 add-content-3 : tie.Need-add-content-3
 add-content-3 c = search needs
-
-add-content-4 : tie.Need-add-content-4
-add-content-4 c = search needs
 
 add-size : tie.Need-add-size
 add-size c = search needs
@@ -89,10 +94,10 @@ write-sized-spec =
     returns
     blob-length-requires
     private-length-requires
+    add-pair
     add-content
     add-content-2
     add-content-3
-    add-content-4
     add-size
     padding-requires
     add-size-2

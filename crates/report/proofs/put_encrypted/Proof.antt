@@ -49,9 +49,9 @@ returns c =
     let begin = kind .before .before .before .before in
     let a = begin .args in
     let fit = begin .fits in (
-      lines-short (Encrypted (a .algorithm) (a .cipher) (a .kdf) (a .ciphertext) (a .tag) (a .image)) (omega (arith, fit), omega (arith, fit), omega (arith, fit)),
+      lines-short (Encrypted (a .algorithm) (a .bits) (a .cipher) (a .kdf) (a .ciphertext) (a .tag) (a .image)) (omega (arith, fit), omega (arith, fit), omega (arith, fit), omega (arith, fit)),
       λ room.
-          let four = runs (names (a .algorithm) (a .cipher) (a .kdf)) (step (start room) (kind .put .ensures)) (named .put-names .ensures) in
+          let four = runs (names (a .algorithm) (a .bits) (a .cipher) (a .kdf)) (step (start room) (kind .put .ensures)) (named .put-names .ensures) in
           finish (run (run (run four (ciphertext .put-number .ensures)) (tag .put-number2 .ensures)) (image .put-number3 .ensures)),
     )
 

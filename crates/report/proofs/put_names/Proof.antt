@@ -16,6 +16,9 @@ algorithm-name-requires c κs = search needs
 put-name-requires : tie.Need-put-name-requires
 put-name-requires c κs = search needs
 
+put-bits-requires : tie.Need-put-bits-requires
+put-bits-requires c κs = search needs
+
 slice-aggregate-put-name-2 : tie.Need-slice-aggregate-put-name-2
 slice-aggregate-put-name-2 c = search needs
 
@@ -42,11 +45,12 @@ unfolding names
 returns c =
     let third = c .before .before in
     let second = third .before .before .before .before .before .before in
-    let first = second .before .before .before .before .before .before in
+    let bits = second .before .before .before .before .before .before in
+    let first = bits .before .before .before .before in
     let one = rw (first .before .algorithm-name .ensures) at (first .put-name .ensures) in
     let two = rw (second .before .cipher-name .ensures) at (second .put-name2 .ensures) in
     let three = rw (third .before .kdf-name .ensures) at (third .put-name3 .ensures) in
-    rw (← algorithm-spelled _, ← cipher-spelled _, ← kdf-spelled _) (λ room. finish (run (run (run (start room) one) two) three))
+    rw (← algorithm-spelled _, ← cipher-spelled _, ← kdf-spelled _) (λ room. finish (run (run (run (run (start room) one) (bits .put-bits .ensures)) two) three))
 
 pub put-names-spec : {M : Type 1} → statement M
 put-names-spec =
@@ -55,6 +59,7 @@ put-names-spec =
     slice-aggregate-put-name
     algorithm-name-requires
     put-name-requires
+    put-bits-requires
     slice-aggregate-put-name-2
     cipher-name-requires
     put-name-requires-2

@@ -53,9 +53,9 @@ returns c =
     let begin = kind .before .before .before .before in
     let a = begin .args in
     let fit = begin .fits in (
-      lines-short (Plain (a .algorithm) (a .cipher) (a .kdf) (a .comment) (a .padding) (a .image) (a .form)) (omega (arith, fit), omega (arith, fit), omega (arith, fit)),
+      lines-short (Plain (a .algorithm) (a .bits) (a .cipher) (a .kdf) (a .comment) (a .padding) (a .image) (a .form)) (omega (arith, fit), omega (arith, fit), omega (arith, fit), omega (arith, fit)),
       λ room.
-          let four = runs (names (a .algorithm) (a .cipher) (a .kdf)) (step (start room) (kind .put .ensures)) (named .put-names .ensures) in
+          let four = runs (names (a .algorithm) (a .bits) (a .cipher) (a .kdf)) (step (start room) (kind .put .ensures)) (named .put-names .ensures) in
           let seven = run (run (run four (comment .put-number .ensures)) (padding .put-number2 .ensures)) (image .put-number3 .ensures) in
           finish (step seven (form .put-form .ensures)),
     )

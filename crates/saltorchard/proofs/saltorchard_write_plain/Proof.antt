@@ -17,6 +17,15 @@ names-nothing-requires c κs = search needs
 enum-known-a : tie.Need-enum-known-a
 enum-known-a c = search needs
 
+enum-told-2 : tie.Need-enum-told-2
+enum-told-2 c = search needs
+
+names-nothing-requires-2 : tie.Need-names-nothing-requires-2
+names-nothing-requires-2 c κs = search needs
+
+enum-known-a-2 : tie.Need-enum-known-a-2
+enum-known-a-2 c = search needs
+
 checkint-of-requires : tie.Need-checkint-of-requires
 checkint-of-requires c κs = search needs
 
@@ -30,12 +39,16 @@ returns : tie.Need-returns
 unfolding codedPlainReply codedPlainLeft
 returns c = rw (← c .before .before .before .algorithm-coded .ensures, c .before .enum-told .given .1) (c .names-nothing .ensures, refl)
 
+returns-2 : tie.Need-returns-2
+unfolding codedPlainReply codedPlainLeft
+returns-2 c = rw (← c .before .before .before .before .before .before .algorithm-coded .ensures, c .before .before .before .before .a .given .1, c .before .enum-told2 .given .1) (c .names-nothing2 .ensures, refl)
+
 same-length : tie.Need-same-length
 same-length c = search needs
 
-returns-2 : tie.Need-returns-2
+returns-3 : tie.Need-returns-3
 unfolding codedPlainReply codedPlainLeft
-returns-2 c = rw (← c .before .before .before .before .before .before .before .before .before .algorithm-coded .ensures, c .before .before .before .before .before .before .before .a .given .1, ← c .before .before .before .before .before .checkint-of .ensures) (handed-on _ _ _ _ _ (c .reply-of .ensures) (c .before .before .before .write-parts .ensures))
+returns-3 c = rw (← c .before .before .before .before .before .before .before .before .before .before .before .before .algorithm-coded .ensures, c .before .before .before .before .before .before .before .before .before .before .a .given .1, c .before .before .before .before .before .before .before .a2 .given .1, ← c .before .before .before .before .before .checkint-of .ensures) (handed-on _ _ _ _ _ (c .reply-of .ensures) (c .before .before .before .write-parts .ensures))
 
 pub saltorchard-write-plain-spec : {M : Type 1} → statement M
 saltorchard-write-plain-spec =
@@ -45,9 +58,13 @@ saltorchard-write-plain-spec =
     enum-told
     names-nothing-requires
     enum-known-a
+    enum-told-2
+    names-nothing-requires-2
+    enum-known-a-2
     checkint-of-requires
     write-parts-requires
     reply-of-requires
     returns
+    returns-2
     same-length
-    returns-2)
+    returns-3)

@@ -27,8 +27,8 @@ read-entry-requires c κs = search needs
 enum-known-f-2 : tie.Need-enum-known-f-2
 enum-known-f-2 c = search needs
 
-enum-known-scalar : tie.Need-enum-known-scalar
-enum-known-scalar c = search needs
+enum-known-private : tie.Need-enum-known-private
+enum-known-private c = search needs
 
 remaining-requires-2 : tie.Need-remaining-requires-2
 remaining-requires-2 c κs = search needs
@@ -52,11 +52,11 @@ returns-3 c = rw (← c .before .before .before .before .before .before .before 
 
 returns-4 : tie.Need-returns-4
 unfolding contentAt
-returns-4 c = rw (← c .before .before .before .before .before .before .before .before .before .before .before .before .before .before .remaining .ensures, eq-eqb _ _ (c .before .before .before .before .before .before .before .before .before .before .before .before .before .if1 .left), ← c .before .before .before .before .before .before .before .before .before .before .before .before .read-checkints .ensures, c .before .before .before .before .before .before .before .before .before .before .checkint .given .1, ← c .before .before .before .before .before .before .before .before .read-entry .ensures, c .before .before .before .before .before .before .scalar .given .1, ← c .before .before .before .before .remaining2 .ensures, ← c .before .before .before .read-padding .ensures, c .before .f3 .given .1)
+returns-4 c = rw (← c .before .before .before .before .before .before .before .before .before .before .before .before .before .before .remaining .ensures, eq-eqb _ _ (c .before .before .before .before .before .before .before .before .before .before .before .before .before .if1 .left), ← c .before .before .before .before .before .before .before .before .before .before .before .before .read-checkints .ensures, c .before .before .before .before .before .before .before .before .before .before .checkint .given .1, ← c .before .before .before .before .before .before .before .before .read-entry .ensures, c .before .before .before .before .before .before .private .given .1, ← c .before .before .before .before .remaining2 .ensures, ← c .before .before .before .read-padding .ensures, c .before .f3 .given .1)
 
 returns-5 : tie.Need-returns-5
 unfolding contentAt
-returns-5 c = rw (← c .before .before .before .before .before .before .before .before .before .before .before .before .before .remaining .ensures, eq-eqb _ _ (c .before .before .before .before .before .before .before .before .before .before .before .before .if1 .left), ← c .before .before .before .before .before .before .before .before .before .before .before .read-checkints .ensures, c .before .before .before .before .before .before .before .before .before .checkint .given .1, ← c .before .before .before .before .before .before .before .read-entry .ensures, c .before .before .before .before .before .scalar .given .1, ← c .before .before .before .remaining2 .ensures, ← c .before .before .read-padding .ensures, c .enum-told .given .1)
+returns-5 c = rw (← c .before .before .before .before .before .before .before .before .before .before .before .before .before .remaining .ensures, eq-eqb _ _ (c .before .before .before .before .before .before .before .before .before .before .before .before .if1 .left), ← c .before .before .before .before .before .before .before .before .before .before .before .read-checkints .ensures, c .before .before .before .before .before .before .before .before .before .checkint .given .1, ← c .before .before .before .before .before .before .before .read-entry .ensures, c .before .before .before .before .before .private .given .1, ← c .before .before .before .remaining2 .ensures, ← c .before .before .read-padding .ensures, c .enum-told .given .1)
 
 pub read-content-spec : {M : Type 1} → statement M
 read-content-spec =
@@ -69,7 +69,7 @@ read-content-spec =
     enum-known-checkint
     read-entry-requires
     enum-known-f-2
-    enum-known-scalar
+    enum-known-private
     remaining-requires-2
     read-padding-requires
     enum-known-f-3

@@ -13,8 +13,8 @@ enum-known-f c = search needs
 enum-known-a : tie.Need-enum-known-a
 enum-known-a c = search needs
 
-same-public-requires : tie.Need-same-public-requires
-same-public-requires c κs = search needs
+same-key-requires : tie.Need-same-key-requires
+same-key-requires c κs = search needs
 
 string-requires : tie.Need-string-requires
 string-requires c κs = search needs
@@ -24,7 +24,7 @@ enum-known-f-2 c = search needs
 
 returns : tie.Need-returns
 unfolding entryAt
-returns c = rw (← c .before .before .before .before .before .before .before .before .before .read-keypair .ensures, c .before .before .before .before .before .before .before .a .given .1, ← c .before .before .before .before .before .same-public .ensures, c .before .before .before .before .if1 .taken, ← c .before .before .before .string .ensures, c .before .f2 .given .1)
+returns c = rw (← c .before .before .before .before .before .before .before .before .before .read-keypair .ensures, c .before .before .before .before .before .before .before .a .given .1, ← c .before .before .before .before .before .same-key .ensures, c .before .before .before .before .if1 .taken, ← c .before .before .before .string .ensures, c .before .f2 .given .1)
 
 enum-known-comment : tie.Need-enum-known-comment
 enum-known-comment c = search needs
@@ -37,11 +37,11 @@ is-utf8-requires c κs = search needs
 
 returns-2 : tie.Need-returns-2
 unfolding entryAt
-returns-2 c = rw (← c .before .before .before .before .before .before .before .before .before .before .before .before .read-keypair .ensures, c .before .before .before .before .before .before .before .before .before .before .a .given .1, ← c .before .before .before .before .before .before .before .before .same-public .ensures, c .before .before .before .before .before .before .before .if1 .taken, ← c .before .before .before .before .before .before .string .ensures, c .before .before .before .before .comment .given .1, ← c .before .before .view .ensures .0, ← c .before .is-utf8 .ensures, c .if2 .taken)
+returns-2 c = rw (← c .before .before .before .before .before .before .before .before .before .before .before .before .read-keypair .ensures, c .before .before .before .before .before .before .before .before .before .before .a .given .1, ← c .before .before .before .before .before .before .before .before .same-key .ensures, c .before .before .before .before .before .before .before .if1 .taken, ← c .before .before .before .before .before .before .string .ensures, c .before .before .before .before .comment .given .1, ← c .before .before .view .ensures .0, ← c .before .is-utf8 .ensures, c .if2 .taken)
 
 returns-3 : tie.Need-returns-3
 unfolding entryAt
-returns-3 c = rw (← c .before .before .before .before .before .before .before .before .before .before .before .before .read-keypair .ensures, c .before .before .before .before .before .before .before .before .before .before .a .given .1, ← c .before .before .before .before .before .before .before .before .same-public .ensures, c .before .before .before .before .before .before .before .if1 .taken, ← c .before .before .before .before .before .before .string .ensures, c .before .before .before .before .comment .given .1, ← c .before .before .view .ensures .0, ← c .before .is-utf8 .ensures, c .if2 .left)
+returns-3 c = rw (← c .before .before .before .before .before .before .before .before .before .before .before .before .read-keypair .ensures, c .before .before .before .before .before .before .before .before .before .before .a .given .1, ← c .before .before .before .before .before .before .before .before .same-key .ensures, c .before .before .before .before .before .before .before .if1 .taken, ← c .before .before .before .before .before .before .string .ensures, c .before .before .before .before .comment .given .1, ← c .before .before .view .ensures .0, ← c .before .is-utf8 .ensures, c .if2 .left)
 
 returns-4 : tie.Need-returns-4
 unfolding entryAt
@@ -49,7 +49,7 @@ returns-4 c = rw (← c .before .before .before .read-keypair .ensures, c .befor
 
 returns-5 : tie.Need-returns-5
 unfolding entryAt
-returns-5 c = rw (← c .before .before .before .before .before .read-keypair .ensures, c .before .before .before .a .given .1, ← c .before .same-public .ensures, c .if1 .left)
+returns-5 c = rw (← c .before .before .before .before .before .read-keypair .ensures, c .before .before .before .a .given .1, ← c .before .same-key .ensures, c .if1 .left)
 
 pub read-entry-spec : {M : Type 1} → statement M
 read-entry-spec =
@@ -58,7 +58,7 @@ read-entry-spec =
     read-keypair-requires
     enum-known-f
     enum-known-a
-    same-public-requires
+    same-key-requires
     string-requires
     enum-known-f-2
     returns

@@ -1,6 +1,6 @@
 -- `writer::write_record` meets its contract: the kind picks the writer, which is handed the record's views. Rests on the callees'
 -- contracts.
-use Rattle.writer.specs.Rewrite.{recordReply, recordLeft}
+use Rattle.writer.specs.Rewrite.{plainAgain, plainAgainLeft, recordReply, recordLeft}
 use borrow.Author.Needs.{needs}
 use Rattle.writer.proofs.write_record.Statement.{statement}
 use Rattle.writer.proofs.write_record.Tie as tie
@@ -8,17 +8,8 @@ use Rattle.writer.proofs.write_record.Tie as tie
 enum-told : tie.Need-enum-told
 enum-told c = search needs
 
-point-requires : tie.Need-point-requires
-point-requires c κs = search needs
-
-scalar-requires : tie.Need-scalar-requires
-scalar-requires c κs = search needs
-
-comment-requires : tie.Need-comment-requires
-comment-requires c κs = search needs
-
-write-parts-requires : tie.Need-write-parts-requires
-write-parts-requires c κs = search needs
+write-plain-requires : tie.Need-write-plain-requires
+write-plain-requires c κs = search needs
 
 enum-told-2 : tie.Need-enum-told-2
 enum-told-2 c = search needs
@@ -42,14 +33,14 @@ same-length : tie.Need-same-length
 same-length c = search needs
 
 returns : tie.Need-returns
-unfolding recordReply recordLeft
-returns c = rw (c .before .before .before .before .before .before .before .enum-told .given .1, ← c .before .before .before .before .before .before .point .ensures .0, ← c .before .before .before .before .before .scalar .ensures .0, ← c .before .before .before .before .comment .ensures .0) (c .before .before .write-parts .ensures)
+unfolding recordReply recordLeft plainAgain plainAgainLeft
+returns c = rw (c .before .before .before .before .enum-told .given .1) (c .before .before .write-plain .ensures)
 
 same-length-2 : tie.Need-same-length-2
 same-length-2 c = search needs
 
 returns-2 : tie.Need-returns-2
-unfolding recordReply recordLeft
+unfolding recordReply recordLeft plainAgain plainAgainLeft
 returns-2 c = rw (c .before .before .before .before .before .before .before .before .enum-told2 .given .1, ← c .before .before .before .before .before .before .before .salt .ensures .0, ← c .before .before .before .before .before .before .blob .ensures .0, ← c .before .before .before .before .before .ciphertext .ensures .0, ← c .before .before .before .before .tag .ensures .0) (c .before .before .write-encrypted .ensures)
 
 pub write-record-spec : {M : Type 1} → statement M
@@ -57,10 +48,7 @@ write-record-spec =
     tie.close
     (tie.spec
     enum-told
-    point-requires
-    scalar-requires
-    comment-requires
-    write-parts-requires
+    write-plain-requires
     enum-told-2
     salt-requires
     blob-requires

@@ -1,0 +1,4 @@
+pub mod Mpint
+pub mod Zeros
+pub mod Values
+pub mod Laws

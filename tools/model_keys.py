@@ -1,0 +1,148 @@
+"""The rules on keys, of document 01's 'Keys' and of document 02's request Two: how a blob's key and a section's keypair are read,
+and how they are written. Like model.py, whose part this is, it was written from the documents alone."""
+from fields import ALGORITHMS, CURVES, ED25519, RSA, SIZES, Refused, content, hold_to_length, string
+from rsa import BLOB_NUMBERS, NUMBERS, bits_of, read_numbers
+
+# What a record calls the numbers of an RSA key; modulus and exponent are the blob's, the others the section's.
+RSA_PARTS = {"n": "modulus", "e": "exponent", "d": "d", "iqmp": "iqmp", "p": "p", "q": "q"}
+
+
+def read_name(reader, names):
+    """A string that must be one of the names; answers its place among them."""
+    field = reader.place
+    name = content(reader.image, reader.string())
+    if name not in names:
+        raise Refused(4, field)
+    return names.index(name)
+
+
+# ---- the blob's key
+
+
+def read_blob(reader):
+    """Step 5, within the blob: name, key fields, end. Answers the algorithm and the public fields of a record."""
+    algorithm = read_name(reader, ALGORITHMS)
+    if algorithm == ED25519:
+        public = dict(point=reader.fixed(32))
+    elif algorithm == RSA:
+        public = read_rsa_public(reader)
+    else:
+        public = dict(point=read_ecdsa_public(reader, algorithm))
+    reader.finish()
+    return algorithm, public
+
+
+def read_ecdsa_public(reader, algorithm):
+    curve, curve_field = read_curve(reader)
+    point = read_point(reader, curve)
+    hold_to_name(curve, algorithm, curve_field)
+    return point
+
+
+def read_rsa_public(reader):
+    parts = read_numbers(reader, BLOB_NUMBERS)
+    return dict(modulus=parts["n"], exponent=parts["e"], bits=bits_of(content(reader.image, parts["n"])))
+
+
+# ---- the section's keypair
+
+
+def read_keypair(reader):
+    """A section's keypair, by its own name. Answers the algorithm, the bytes by which public keys of that kind are compared,
+    and the private fields of a record."""
+    algorithm = read_name(reader, ALGORITHMS)
+    if algorithm == ED25519:
+        return (algorithm, *read_ed25519_pair(reader))
+    if algorithm == RSA:
+        return (algorithm, *read_rsa_pair(reader))
+    curve, curve_field = read_curve(reader)
+    point = content(reader.image, read_point(reader, curve))
+    scalar = read_scalar(reader, SIZES[curve])
+    hold_to_name(curve, algorithm, curve_field)
+    return algorithm, (point,), dict(scalar=scalar)
+
+
+def read_ed25519_pair(reader):
+    public = content(reader.image, reader.fixed(32))
+    field = reader.place
+    start, _ = reader.fixed(64)
+    if reader.image[start + 32 : start + 64] != public:
+        raise Refused(3, field)
+    return (public,), dict(scalar=(start, 32))
+
+
+def read_rsa_pair(reader):
+    parts = read_numbers(reader, NUMBERS)
+    public = tuple(content(reader.image, parts[name]) for name in ("n", "e"))
+    return public, {name: parts[name] for name in ("d", "iqmp", "p", "q")}
+
+
+def compared(image, half):
+    """Of a header's public key, the bytes that the section's must have too."""
+    parts = (half.modulus, half.exponent) if half.algorithm == RSA else (half.point,)
+    return tuple(content(image, part) for part in parts)
+
+
+# ---- curve, point and scalar
+
+
+def read_curve(reader):
+    """The curve string; answers the algorithm that it belongs to, and where the string began."""
+    field = reader.place
+    name = content(reader.image, reader.string())
+    if name not in CURVES:
+        raise Refused(4, field)
+    return CURVES[name], field
+
+
+def read_point(reader, curve):
+    field = reader.place
+    start, length = reader.fixed(1 + 2 * SIZES[curve])
+    if reader.image[start] != 4:
+        raise Refused(2, field)
+    return (start, length)
+
+
+def hold_to_name(curve, algorithm, curve_field):
+    if curve != algorithm:
+        raise Refused(4, curve_field)
+
+
+def read_scalar(reader, size):
+    """SIZE bytes, or SIZE + 1 with a zero first, which is left off."""
+    field = reader.place
+    start, length = reader.string()
+    if length == size + 1:
+        if reader.image[start] != 0:
+            raise Refused(2, field)
+        return (start + 1, size)
+    hold_to_length(size, length, field)
+    return (start, length)
+
+
+# ---- what is written: the key fields of the blob, and those of the section
+
+
+def public_fields(algorithm, point):
+    """Name and public fields, as they stand in the blob and again in the section."""
+    name = ALGORITHMS[algorithm]
+    if algorithm == ED25519:
+        return string(name) + string(point)
+    return string(name) + string(name[len(b"ecdsa-sha2-") :]) + string(point)
+
+
+def private_field(algorithm, point, scalar):
+    if algorithm == ED25519:
+        return string(scalar, point)
+    if scalar[0] >= 0x80:
+        return string(b"\0", scalar)
+    return string(scalar)
+
+
+def rsa_blob(n, e):
+    return string(ALGORITHMS[RSA]) + string(e) + string(n)
+
+
+def rsa_keypair(numbers):
+    """The six numbers in the section's order, after the name."""
+    return string(ALGORITHMS[RSA]) + b"".join(map(string, numbers))
