@@ -1,11 +1,14 @@
 #!/usr/bin/env python3
 """What the gate holds the texts to, beside the proofs: every public function of a library has a contract that asks nothing,
 a theorem NAME-determined and a place in docs/CONTRACTS.md, every proof and specification file says at its top what it is, nothing
-names a place outside the project, and what docs/CONTRACTS.md names is there. It reads text and proves nothing."""
+names a place outside the project, what docs/CONTRACTS.md names is there, and its table of places is that of cases_places.py. It
+reads text and proves nothing."""
 import glob
 import os
 import re
 import sys
+
+import check_places
 
 OUTSIDE = re.compile(r"\.\./shared|/work/|/opt/rattle|https?://[^\s)]*(debian|pypi|crates\.io)")
 CODE = (".rt", ".antt", ".py", ".sh", ".md", ".edit", ".txt", ".rs", ".c", ".h", ".toml")
@@ -107,6 +110,7 @@ def named_functions():
 
 def main():
     wrong = list(contracts()) + list(texts()) + list(contracts_document()) + list(named_functions())
+    wrong += check_places.faults()
     for line in wrong:
         print(line)
     print("texts: %s" % ("%d faults" % len(wrong) if wrong else "ok"))

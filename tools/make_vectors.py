@@ -1,8 +1,9 @@
 #!/usr/bin/env python3
 """Makes the stored vectors of crates/replay, crates/replay_writing and crates/replay_records anew: the images, the calls and
-the records handed in, and what must be answered to each.
+the records handed in, and what must be answered to each; and for the Rust tests the images of cases_places.py once more, each
+with its place and its field.
 
-    python3 tools/make_vectors.py            writes data/ and stdout of the three crates
+    python3 tools/make_vectors.py            writes data/ and stdout of the three crates, and the file for the Rust tests
     python3 tools/make_vectors.py --check    only compares them with what would be written; exit status 1 if they differ
 
 It comes out the same each time: the images are made here or stored in tools/corpus, and the answers are those of model.py
@@ -26,6 +27,7 @@ import pathlib
 import sys
 
 import calls
+import cases_places
 import model
 import records
 from cases_change import change_rows
@@ -47,10 +49,12 @@ from damage import damages
 from fields import content
 from images import corpus
 
-CRATES = pathlib.Path(__file__).resolve().parent.parent / "crates"
+ROOT = pathlib.Path(__file__).resolve().parent.parent
+CRATES = ROOT / "crates"
 REPLAY = CRATES / "replay"
 WRITING = CRATES / "replay_writing"
 RECORDS = CRATES / "replay_records"
+PLACES = ROOT / "bindings" / "rust" / "tests" / "data" / "places"
 MUST_OCCUR = {
     "read": [0, 1, 2, 3, 4, 5, 6, 7, 11],
     "header": [0, 1, 2, 3, 4, 6, 11],
@@ -76,19 +80,22 @@ def all_cases():
     yield from half_cases()
     yield from rsa_cases()
     yield from rsa_image_cases()
+    yield from cases_places.place_cases()
 
 
-def hold_reply(title, meant, answer):
-    """Where a reply was meant for a read, it must be the model's."""
+def hold_reply(title, meant, image, answer):
+    """Where a reply was meant for a read of an image, it must be the model's; and no place is past the image's end."""
     reply = (answer.number, answer.count, answer.at)
     if meant not in (None, reply):
         sys.exit(f"{title}: meant {meant}, but the model says {reply}")
+    if answer.at > len(image):
+        sys.exit(f"{title}: the model says {reply} of an image of {len(image)} bytes")
 
 
 def hold(case):
     """The model's answers must be what the maker of the image meant."""
-    hold_reply(case.title, case.reply, model.read(case.image))
-    hold_reply(f"{case.title}, its header", case.header, model.read_header(case.image))
+    hold_reply(case.title, case.reply, case.image, model.read(case.image))
+    hold_reply(f"{case.title}, its header", case.header, case.image, model.read_header(case.image))
     if case.form is not None and case.form != model.form(case.image):
         sys.exit(f"{case.title}: the form was meant to be {case.form}")
 
@@ -174,12 +181,12 @@ def handed():
     for case in itertools.chain(record_cases(), half_record_cases(), rsa_record_cases()):
         reply, after = records.answer(case)
         hold_call(case.title, case.reply, reply, calls.filled(case.room), after)
-        hold_reply(f"{case.title}, its section", case.section, records.section_answer(case))
+        hold_reply(f"{case.title}, its section", case.section, case.image, records.section_answer(case))
         once.setdefault(records.stored(case), case)
     return once
 
 
-# ---- all three
+# ---- all of them
 
 
 def counted(vectors, answers, by_hand):
@@ -207,6 +214,7 @@ def made():
         WRITING / "stdout": lines.encode(),
         RECORDS / "data" / "records": b"".join(by_hand),
         RECORDS / "stdout": "".join(map(records.lines, by_hand.values())).encode(),
+        PLACES: "".join(map(cases_places.stored, cases_places.rows())).encode(),
     }
     return files, count, vectors
 
@@ -221,13 +229,13 @@ def summary(files, count, vectors):
     not_in_form = sum(model.read(image).number == 0 and not model.form(image) for image in vectors)
     print(f"read, accepted but not in the form: {not_in_form}")
     for path, content_of in files.items():
-        print(f"{path.relative_to(CRATES)}: {len(content_of)} bytes")
+        print(f"{path.relative_to(ROOT)}: {len(content_of)} bytes")
 
 
 def check(files):
     different = [path for path, wanted in files.items() if not path.exists() or path.read_bytes() != wanted]
     for path in different:
-        print(f"different: {path.relative_to(CRATES.parent)}")
+        print(f"different: {path.relative_to(ROOT)}")
     return 1 if different else 0
 
 

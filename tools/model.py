@@ -1,4 +1,4 @@
-"""The reading rules of document 01, and of document 02's requests One and Two, once more, in plain Python: a second opinion.
+"""The reading rules of document 01, and of document 02's requests One to Three, once more, in plain Python: a second opinion.
 
 This file was written from these and from the readings recorded in docs/DECISIONS.md, and from no other code of
 this project. Nothing is proved here. It says what the reader, the form and the inspection program should answer, so
@@ -268,7 +268,7 @@ def report(image):
     """The inspection program's whole output."""
     answer = read(image)
     if answer.number != 0:
-        return f"refused {answer.number} {answer.count}\n"
+        return f"refused {answer.number} {answer.count} {answer.at}\n"
     lines = [
         "kind " + ("plain" if answer.kind == PLAIN else "encrypted"),
         "algorithm " + ALGORITHMS[answer.algorithm].decode(),

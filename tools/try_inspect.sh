@@ -1,6 +1,6 @@
 #!/usr/bin/env bash
-# Runs ./inspect as a user would, on an empty input, stored binary images and the same images in their armour, and holds its
-# answers to the model's.
+# Runs ./inspect as a user would, on an empty input, stored binary images, the same images in their armour and a damaged one, and
+# holds its answers to the model's.
 set -euo pipefail
 cd "$(dirname "$0")/.."
 
@@ -13,7 +13,7 @@ same() { # WHAT GOT WANTED
 }
 model() { python3 -c 'import sys; sys.path.insert(0, "tools"); import model; sys.stdout.write(model.report(open(sys.argv[1], "rb").read()))' "$1"; }
 
-same "an empty input" "$(./inspect </dev/null)" "refused 1 0"
+same "an empty input" "$(./inspect </dev/null)" "refused 1 0 0"
 folder=$(mktemp -d)
 trap 'rm -rf "$folder"' EXIT
 for name in keygen-ed25519-ascii keygen-p521-aes128-gcm openssh-sshkey-dsa_n openssh-sshkey-rsa_n keygen-rsa8192-ascii \
@@ -27,5 +27,11 @@ for name in keygen-ed25519-ascii keygen-p521-aes128-gcm openssh-sshkey-dsa_n ope
     } >"$folder/key"
     same "$image in its armour" "$(./inspect "$folder/key")" "$(model "$image")"
 done
+image=tools/corpus/keygen-ed25519-ascii.bin
+{
+    cat "$image"
+    printf '\0\0'
+} >"$folder/left"
+same "$image and two bytes" "$(./inspect "$folder/left")" "refused 6 2 242"
 head -c 70000 /dev/zero >"$folder/long"
-same "70,000 bytes" "$(./inspect "$folder/long")" "refused 11 0"
+same "70,000 bytes" "$(./inspect "$folder/long")" "refused 11 0 0"

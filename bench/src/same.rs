@@ -115,7 +115,7 @@ fn shown(record: &Image) -> String {
 
 fn from_model(answer: Result<model::Record, model::Refusal>) -> Image {
     let (record, refusal) = match answer {
-        Ok(record) => (record, model::Refusal { number: 0, count: 0, at: 0 }),
+        Ok(record) => (record, model::Refusal::default()),
         Err(refusal) => (model::Record::default(), refusal),
     };
     Image {

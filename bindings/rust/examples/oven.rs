@@ -1,4 +1,4 @@
-use saltorchard::{write_plain, Algorithm, Checkint, Error, Image, LentImage, PlainKey};
+use saltorchard::{write_plain, Algorithm, Checkint, Error, Field, Image, LentImage, PlainKey};
 
 pub fn main() -> Result<(), Error> {
     let key = PlainKey {
@@ -21,7 +21,7 @@ pub fn main() -> Result<(), Error> {
     assert_eq!(lent.image()?.comment(), "oven 7, line 2");
 
     let refusal = lent.set_comment(b"\xff").unwrap_err();
-    assert_eq!((refusal.number(), refusal.place()), (7, 225));
+    assert_eq!((refusal.number(), refusal.field(), refusal.place()), (7, Field::Comment, 225));
     println!("{}", refusal);
     Ok(())
 }

@@ -16,7 +16,7 @@ pub(crate) struct Accepted<'a> {
 impl<'a> Accepted<'a> {
     /// What a read of `bytes` answered, or its refusal.
     pub fn new(bytes: &'a [u8], fields: c::Image) -> Result<Self, Error> {
-        if let Some(refusal) = Error::refused(&fields) {
+        if let Some(refusal) = Error::refused(bytes, &fields) {
             return Err(refusal);
         }
         Ok(Self {

@@ -95,7 +95,7 @@ impl<'a> Image<'a> {
     /// Writes the image's record, with its own checkint, to the start of `out` and answers the length. For an image in the
     /// form these are its own bytes.
     pub fn rewrite(&self, out: &mut [u8]) -> Result<usize, Error> {
-        Error::written(c::rewrite(self.read.bytes, out))
+        Error::written_of(self.read.bytes, c::rewrite(self.read.bytes, out))
     }
 }
 

@@ -12,7 +12,9 @@ use crate::{Error, Image};
 /// the buffer's length (1), the reader's refusals, an encrypted image (8), an image that isn't in the writer's form (10), a
 /// comment that isn't UTF-8 (7, at the old comment's field), and a new image above 65,535 bytes (11) or longer than the buffer (9).
 pub fn set_comment(buffer: &mut [u8], len: usize, comment: impl AsRef<[u8]>) -> Result<usize, Error> {
-    Error::written(c::change_comment(buffer, len, comment.as_ref()))
+    let reply = c::change_comment(buffer, len, comment.as_ref());
+    // A refused change left the bytes as they were; where there are fewer than `len` the refusal is at 0.
+    Error::changed(buffer.get(..len).unwrap_or_default(), reply)
 }
 
 /// A lent buffer whose first bytes are an image, and that image's length.

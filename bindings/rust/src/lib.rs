@@ -7,6 +7,7 @@ mod accepted;
 #[allow(unsafe_code, missing_docs)]
 mod c;
 mod error;
+mod field;
 mod header;
 mod image;
 mod lent;
@@ -14,6 +15,7 @@ mod names;
 mod write;
 
 pub use error::Error;
+pub use field::Field;
 pub use header::Header;
 pub use image::Image;
 pub use lent::{set_comment, LentImage};

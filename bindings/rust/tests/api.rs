@@ -6,7 +6,7 @@ use std::collections::BTreeSet;
 
 use saltorchard::{set_comment, write_encrypted, write_plain, write_rsa, MAX_IMAGE_LEN};
 use saltorchard::{Algorithm, Checkint, Cipher, EcdsaCurve, KdfAlg};
-use saltorchard::{EncryptedKey, Error, Header, Image, LentImage, PlainKey, RsaKey};
+use saltorchard::{EncryptedKey, Error, Field, Header, Image, LentImage, PlainKey, RsaKey};
 use support::hex;
 use support::images::{self, blob_bytes, sealed, strings_bytes, Draft, Key, CIPHERS};
 use support::Rng;
@@ -55,24 +55,24 @@ fn refusals() -> Vec<Error> {
 #[test]
 fn refusals_in_words() {
     let sentences = [
-        "Refusal 1 (Length): a field runs past its end, or a length or the key count is wrong; the field begins at byte 35.",
-        "Refusal 2 (FormatEncoding): the magic, a padding byte, a point's tag or a scalar's leading byte is wrong; it concerns the whole image, or what was handed in.",
-        "Refusal 3 (Crypto): the two checkints, the KDF's use, the ciphertext's length or the halves of the Ed25519 key don't fit; the field begins at byte 155.",
-        "Refusal 4 (AlgorithmUnknown): a name is unknown, or a curve isn't its algorithm's; the field begins at byte 15.",
-        "Refusal 5 (PublicKey): the section's public key isn't the header's; the field begins at byte 159.",
-        "Refusal 6 (TrailingData): 2 bytes are left over; the first is byte 311.",
-        "Refusal 7 (CharacterEncoding): the comment isn't UTF-8; the field begins at byte 300.",
-        "Refusal 8 (Encrypted): the section is encrypted, and a plain one is needed; it concerns the whole image, or what was handed in.",
-        "Refusal 9 (BufferTooShort): the lent buffer is too short; it concerns the whole image, or what was handed in.",
-        "Refusal 10 (NotInForm): the image isn't the one that the writer makes of its record; it concerns the whole image, or what was handed in.",
-        "Refusal 11 (TooLarge): the image is, or would be, above 65,535 bytes; it concerns the whole image, or what was handed in.",
+        "Refusal 1 (Length): the key count at byte 35 is cut short, or isn't 1.",
+        "Refusal 2 (FormatEncoding): the image doesn't begin with the magic.",
+        "Refusal 3 (Crypto): the second checkint at byte 155 isn't equal to the first.",
+        "Refusal 4 (AlgorithmUnknown): the cipher name's string at byte 15 names none that is known.",
+        "Refusal 5 (PublicKey): the key name's string in the section at byte 159 begins another public key than the header's.",
+        "Refusal 6 (TrailingData): the image has 2 bytes too many, from byte 311 on.",
+        "Refusal 7 (CharacterEncoding): the comment's string at byte 300 isn't UTF-8.",
+        "Refusal 8 (Encrypted): the image is encrypted, and a plain one is needed.",
+        "Refusal 9 (BufferTooShort): the lent buffer is too short.",
+        "Refusal 10 (NotInForm): the image isn't the one that the writer makes of its record.",
+        "Refusal 11 (TooLarge): the image is, or would be, above 65,535 bytes.",
     ];
     for (refusal, sentence) in refusals().iter().zip(sentences) {
         assert_eq!(refusal.to_string(), sentence);
     }
     assert_eq!(
-        refusal(|draft| draft.rest = vec![0]).to_string(),
-        "Refusal 6 (TrailingData): 1 byte is left over; the first is byte 311."
+        refusal(|draft| draft.blob_rest = vec![0]).to_string(),
+        "Refusal 6 (TrailingData): the blob's string has 1 byte too many, from byte 147 on."
     );
 }
 
@@ -88,6 +88,17 @@ fn refusals_in_numbers() {
     assert_eq!(names.len(), 11);
     let boxed: Box<dyn std::error::Error> = Box::new(refusals[0]);
     assert_eq!(boxed.to_string(), refusals[0].to_string());
+}
+
+#[test]
+fn refusals_by_field() {
+    let fields: Vec<Field> = refusals().iter().map(|refusal| refusal.field()).collect();
+    let [image, count, checkint] = [Field::Image, Field::KeyCount, Field::SecondCheckint];
+    let [cipher, name, comment] = [Field::CipherName, Field::SectionKeyName, Field::Comment];
+    assert_eq!(fields, [count, image, checkint, cipher, name, image, comment, image, image, image, image]);
+    assert_eq!(format!("{:>26}|{:?}", comment, comment), "      the comment's string|Comment");
+    let debug = format!("{:?}", refusals()[6]);
+    assert_eq!(debug, "Error { number: 7, count: 0, at: 300, field: Comment, new_comment: false }");
 }
 
 #[test]
@@ -229,6 +240,7 @@ fn rsa_has_its_own_writer() {
     let key = PlainKey { algorithm, public: &[], private: &[], checkint };
     let refusal = write_plain(&key, b"\xff", &mut []).expect_err("a refusal");
     assert_eq!((refusal.number(), refusal.count(), refusal.place()), (4, 0, 0));
+    assert_eq!(refusal.field(), Field::HandedIn);
 }
 
 #[test]

@@ -40,7 +40,7 @@ use Rattle.claims.specs.Handed.{fails}
 
 -- ---- the full read is the one followed by the other
 
-refused-whole : (s : List ℕ) (f : Fault) → headerAt s ≡ header-read.Refused f → readAt s ≡ read.Refused f
+pub refused-whole : (s : List ℕ) (f : Fault) → headerAt s ≡ header-read.Refused f → readAt s ≡ read.Refused f
 unfolding readAt
 refused-whole s f e = rw e
 

@@ -1,5 +1,5 @@
 -- Demand 1: Refusals, Ordered. Demand 2: Reading, Sealed, Form. Demand 3: Change, Front, Sequence. The two halves of a read:
--- Halves, HeaderAlone. Records handed in: Handed. What is printed: Printed.
+-- Halves, HeaderAlone. Records handed in: Handed. What is printed: Printed. Where a refusal is: Places, PlacesWritten.
 -- The marked examples: Marked. The paper's wrong programs: ShutOut. The others hold what these rest on.
 pub mod Reading
 pub mod Sealed
@@ -20,4 +20,6 @@ pub mod Sizes
 pub mod Marked
 pub mod ShutOut
 pub mod Printed
+pub mod Places
+pub mod PlacesWritten
 pub mod Rsa

@@ -1,5 +1,5 @@
 -- Document 01, 'Views and the inspection program': the program prints no private byte. What it prints of every image: of an accepted one its
--- kind, its names, its lengths and its form, of a refused one number and count. Images that are alike in these have the same report,
+-- kind, its names, its lengths and its form, of a refused one number, count and place. Images that are alike in these have the same report,
 -- whatever their private bytes. (Length and form of an ECDSA image together tell whether its scalar's first byte is 0x80 or more.)
 use Prim.Native.Nat.{ℕ, _+_, _*_, _≤_, _<_, _^_}
 use native.Mathlib.Omega.{arith}
@@ -207,6 +207,6 @@ report-accepted-encrypted s all f e sealed = go (image-text s all f e)
         ∙ ap printed-as (sym (ap length joined))
 
 -- refused
-pub report-refused : (s : List ℕ) (g : Fault) → readAt s ≡ read.Refused g → reportOf s ≡ lines (Refused (numberOf (g .why)) (countOf (g .why)))
+pub report-refused : (s : List ℕ) (g : Fault) → readAt s ≡ read.Refused g → reportOf s ≡ lines (Refused (numberOf (g .why)) (countOf (g .why)) (g .at))
 unfolding reportOf summaryOf
 report-refused s g e = rw e

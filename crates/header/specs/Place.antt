@@ -42,7 +42,7 @@ pub by-kdf-name : {P : Type 0} (w : KdfName) → (w ≡ kdf-name.Unknown → P) 
 by-kdf-name kdf-name.Unknown unknown known = unknown refl
 by-kdf-name (kdf-name.Known k) unknown known = known k refl
 
-by-blob : {P : Type 0} (w : Blob) → ((f : Fault) → w ≡ key.Refused f → P) → ((a : Algorithm) (p : Public) → w ≡ key.Key a p → P) → P
+pub by-blob : {P : Type 0} (w : Blob) → ((f : Fault) → w ≡ key.Refused f → P) → ((a : Algorithm) (p : Public) → w ≡ key.Key a p → P) → P
 by-blob (key.Refused f) refused read = refused f refl
 by-blob (key.Key a p) refused read = read a p refl
 

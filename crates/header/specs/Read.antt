@@ -37,18 +37,18 @@ use Rattle.header.specs.Header.{onKdf, cipherAt, noneAt, bcryptAt, kdfAt
 use Rattle.header.specs.Place.{cipher-place, none-place, bcrypt-place, kdf-place, count-place, blob-place}
 
 -- by cases, with the equation in hand
-by-cipher-field :
+pub by-cipher-field :
     {P : Type 0} (w : CipherField) → ((f : Fault) → w ≡ cipher-field.Refused f → P) → ((k : Cipher) (c : Cursor) → w ≡ cipher-field.Cipher k c → P) → P
 by-cipher-field (cipher-field.Refused f) refused read = refused f refl
 by-cipher-field (cipher-field.Cipher k c) refused read = read k c refl
 
-by-kdf-field :
+pub by-kdf-field :
     {P : Type 0} (w : KdfField) → ((f : Fault) → w ≡ kdf-field.Refused f → P)
     → ((k : Kdf) (salt : Part) (rounds : ℕ) (c : Cursor) → w ≡ kdf-field.Options k salt rounds c → P) → P
 by-kdf-field (kdf-field.Refused f) refused read = refused f refl
 by-kdf-field (kdf-field.Options k salt rounds c) refused read = read k salt rounds c refl
 
-by-blob-field :
+pub by-blob-field :
     {P : Type 0} (w : BlobField) → ((f : Fault) → w ≡ blob-field.Refused f → P)
     → ((a : Algorithm) (b : Part) (p : Public) (c : Cursor) → w ≡ blob-field.Key a b p c → P) → P
 by-blob-field (blob-field.Refused f) refused read = refused f refl

@@ -54,7 +54,7 @@ fn read_magic(image: &[u8]) -> Field
     }
 }
 
-enum CipherField {
+pub enum CipherField {
     Cipher(Cipher, Cursor),
     Refused(Fault),
 }
@@ -87,7 +87,7 @@ fn read_cipher(image: &[u8]) -> CipherField
     }
 }
 
-enum KdfField {
+pub enum KdfField {
     Options(Kdf, Part, u32, Cursor),
     Refused(Fault),
 }
@@ -182,7 +182,7 @@ fn read_count(c: Cursor, image: &[u8]) -> Uint32
     }
 }
 
-enum BlobField {
+pub enum BlobField {
     Key(Algorithm, Part, Public, Cursor),
     Refused(Fault),
 }

@@ -43,7 +43,7 @@ use Rattle.keys.specs.Keys.{onAlgorithm, pointAt, ecdsaPublicAt, pointPlace, mo
 use Rattle.key_laws.specs.RsaRead.{RsaPublicRead, rsa-public-read}
 
 -- by cases, with the equation in hand
-by-curve : {P : Type 0} (w : CurveName) → (w ≡ curve-name.Unknown → P) → ((k : Curve) → w ≡ curve-name.Known k → P) → P
+pub by-curve : {P : Type 0} (w : CurveName) → (w ≡ curve-name.Unknown → P) → ((k : Curve) → w ≡ curve-name.Known k → P) → P
 by-curve curve-name.Unknown unknown known = unknown refl
 by-curve (curve-name.Known k) unknown known = known k refl
 
@@ -55,7 +55,7 @@ pub by-ecdsa : {P : Type 0} (w : EcdsaPublic) → ((f : Fault) → w ≡ ecdsa.R
 by-ecdsa (ecdsa.Refused f) refused point = refused f refl
 by-ecdsa (ecdsa.Point k p c) refused point = point k p c refl
 
-by-public : {P : Type 0} (w : PublicKey) → ((f : Fault) → w ≡ public.Refused f → P) → ((a : Algorithm) (p : Public) (c : Cursor) → w ≡ public.Key a p c → P) → P
+pub by-public : {P : Type 0} (w : PublicKey) → ((f : Fault) → w ≡ public.Refused f → P) → ((a : Algorithm) (p : Public) (c : Cursor) → w ≡ public.Key a p c → P) → P
 by-public (public.Refused f) refused key′ = refused f refl
 by-public (public.Key a p c) refused key′ = key′ a p c refl
 
@@ -73,7 +73,7 @@ ending-is p end k size ends =
     let start : p .start ≡ end - k = omega (arith, size, ends) in
     ap₂ part start size
 
-by-rsa-public :
+pub by-rsa-public :
     {P : Type 0} (w : RsaPublic) → ((f : Fault) → w ≡ rsa-public.Refused f → P)
     → ((n e : Part) (k : ℕ) (c : Cursor) → w ≡ rsa-public.Numbers n e k c → P) → P
 by-rsa-public (rsa-public.Refused f) refused numbers = refused f refl

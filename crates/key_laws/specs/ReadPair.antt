@@ -36,7 +36,7 @@ use Rattle.pairs.specs.Pairs.{scalarAt, scalarPlace, numbersPlace, privateBytes
 use Rattle.key_laws.specs.RsaRead.{RsaPairRead, rsa-pair-read}
 use Rattle.key_laws.specs.Read.{by-algorithm, by-ecdsa, ecdsa-public-read, named-text}
 
-by-rsa-pair : {P : Type 0} (w : RsaPair) → ((f : Fault) → w ≡ rsa-pair.Refused f → P) → ((x : Six) (k : ℕ) (c : Cursor) → w ≡ rsa-pair.Numbers x k c → P) → P
+pub by-rsa-pair : {P : Type 0} (w : RsaPair) → ((f : Fault) → w ≡ rsa-pair.Refused f → P) → ((x : Six) (k : ℕ) (c : Cursor) → w ≡ rsa-pair.Numbers x k c → P) → P
 by-rsa-pair (rsa-pair.Refused f) refused numbers = refused f refl
 by-rsa-pair (rsa-pair.Numbers x k c) refused numbers = numbers x k c refl
 

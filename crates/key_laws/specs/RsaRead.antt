@@ -27,15 +27,15 @@ use Rattle.rsa.specs.declared.RsaPair.the-variants as rsa-pair
 use Rattle.rsa.specs.Rsa.{twoAt, sixAt, othersAt, othersOf, rsaPublicAt, rsaPairAt}
 
 -- by cases, with the equation in hand
-by-two : {P : Type 0} (w : Two) → ((f : Fault) → w ≡ two.Refused f → P) → ((a b : Part) (c : Cursor) → w ≡ two.Numbers a b c → P) → P
+pub by-two : {P : Type 0} (w : Two) → ((f : Fault) → w ≡ two.Refused f → P) → ((a b : Part) (c : Cursor) → w ≡ two.Numbers a b c → P) → P
 by-two (two.Refused f) refused numbers = refused f refl
 by-two (two.Numbers a b c) refused numbers = numbers a b c refl
 
-by-six : {P : Type 0} (w : SixRead) → ((f : Fault) → w ≡ six.Refused f → P) → ((x : Six) (c : Cursor) → w ≡ six.Six x c → P) → P
+pub by-six : {P : Type 0} (w : SixRead) → ((f : Fault) → w ≡ six.Refused f → P) → ((x : Six) (c : Cursor) → w ≡ six.Six x c → P) → P
 by-six (six.Refused f) refused numbers = refused f refl
 by-six (six.Six x c) refused numbers = numbers x c refl
 
-by-size : {P : Type 0} (w : Size) → (w ≡ Outside → P) → ((k : ℕ) → w ≡ Bits k → P) → P
+pub by-size : {P : Type 0} (w : Size) → (w ≡ Outside → P) → ((k : ℕ) → w ≡ Bits k → P) → P
 by-size Outside outside inside = outside refl
 by-size (Bits k) outside inside = inside k refl
 

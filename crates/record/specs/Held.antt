@@ -12,7 +12,7 @@ use lib.Seq.{take-all}
 use denote.Ref.{RefT, now}
 use Rattle.fields.specs.Fields.{part, absent, viewOf, viewStart, isView}
 use Rattle.fields.specs.Room.{view-in, start-in}
-use Rattle.fields.specs.Refusals.{numberOf}
+use Rattle.fields.specs.Refusals.{numberOf, countOf}
 use Rattle.fields.specs.declared.Part.{Part}
 use Rattle.fields.specs.declared.Fault.{Fault}
 use Rattle.fields.specs.declared.Refusal.{Refusal}
@@ -99,6 +99,13 @@ never-zero Size = refl
 found-none : (s : List ℕ) (g : Fault) → readAt s ≡ read.Refused g → (foundAt s .fields ≡ noFields) × (eqb (foundAt s .number) 0 ≡ false)
 unfolding foundAt toldRead
 found-none s g e = rw e (refl, never-zero (g .why))
+
+-- a refused image's reply has the refusal's number, count and place
+pub refused-told :
+    (image over : RefT (List ℕ)) (number count at : ℕ) (fields : Fields) (g : Fault) → isReply number count at over fields image
+    → readAt (now image) ≡ read.Refused g → (number ≡ numberOf (g .why)) × (count ≡ countOf (g .why)) × (at ≡ g .at)
+unfolding foundAt toldRead
+refused-told image over number count at fields g r e = (r .0 ∙ rw e, r .1 ∙ rw e, r .2 ∙ rw e)
 
 found-zero : (s : List ℕ) (f : Fields) → readAt s ≡ read.Record f → foundAt s .number ≡ 0
 unfolding foundAt toldRead

@@ -63,17 +63,17 @@ pub sealed :
 unfolding lines names bitsLine line decimal digits digitsOf
 sealed = refl
 
--- two bytes left over
-pub left-over : lines (Refused 6 2) ≡ printed ("refused 6 2" ∷ [])
+-- two bytes left over, the first of them byte 241
+pub left-over : lines (Refused 6 2 241) ≡ printed ("refused 6 2 241" ∷ [])
 unfolding lines decimal digits digitsOf
 left-over = refl
 
 -- empty input
-pub nothing : reportOf [] ≡ printed ("refused 1 0" ∷ [])
+pub nothing : reportOf [] ≡ printed ("refused 1 0 0" ∷ [])
 unfolding reportOf summaryOf readAt headerAt cipherAt magicAt bytesAt hasRoom lines decimal digits digitsOf
 nothing = refl
 
 -- input above the limit
-pub above : (s : List ℕ) → 65535 < length s → reportOf s ≡ printed ("refused 11 0" ∷ [])
+pub above : (s : List ℕ) → 65535 < length s → reportOf s ≡ printed ("refused 11 0 0" ∷ [])
 unfolding reportOf summaryOf readAt headerAt cipherAt lines decimal digits digitsOf
 above s h = rw (lt-ltb 65535 (length s) h)

@@ -1,6 +1,7 @@
 -- Document 01, 'Views and the inspection program': the program reads standard input and prints no private byte. What it prints of an
 -- image is its summary in lines; what the summary holds is its kind, its names, its lengths and its form, or the refusal. Document 02,
--- request Two: the program shows the modulus size as a line `bits N` after `algorithm`.
+-- request Two: the program shows the modulus size as a line `bits N` after `algorithm`; request Three: it prints the byte at which the
+-- failing field began as a third number.
 use Prim.Native.Nat.{ℕ, _≤_}
 use mathlib.Core.Bool.{Bool, true, false}
 use mathlib.Core.List.{List, [], _∷_, _++_}
@@ -30,7 +31,7 @@ use Rattle.reply.specs.declared.Written.the-variants as written
 pub data Summary : Type 0 where
   Plain : (algorithm : Algorithm) (bits : ℕ) (cipher : Cipher) (kdf : Kdf) (comment padding image : ℕ) (form : Bool) → Summary
   Encrypted : (algorithm : Algorithm) (bits : ℕ) (cipher : Cipher) (kdf : Kdf) (ciphertext tag image : ℕ) → Summary
-  Refused : (number count : ℕ) → Summary
+  Refused : (number count at : ℕ) → Summary
 
 -- the summary of an accepted image: its record, its length and its form
 unfoldable pub accepted : Header → Section → ℕ → Bool → Summary
@@ -41,7 +42,7 @@ accepted h x image form =
 
 -- the summary of a refused one
 abbrev pub refusedAs : Fault → Summary
-refusedAs f = Refused (numberOf (f .why)) (countOf (f .why))
+refusedAs f = Refused (numberOf (f .why)) (countOf (f .why)) (f .at)
 
 unfoldable pub summaryOf : List ℕ → Summary
 summaryOf s = onRead (readAt s) refusedAs (λ f. accepted (f .header) (f .section) (length s) (formOf s f))
@@ -89,7 +90,7 @@ lines (Encrypted algorithm bits cipher kdf ciphertext tag image) =
     ∷ line (ascii "tag ") (decimal tag)
     ∷ line (ascii "image ") (decimal image)
     ∷ []))
-lines (Refused number count) = join (ascii "refused " ∷ decimal number ∷ ascii " " ∷ decimal count ∷ lineFeed ∷ [])
+lines (Refused number count at) = join (ascii "refused " ∷ decimal number ∷ ascii " " ∷ decimal count ∷ ascii " " ∷ decimal at ∷ lineFeed ∷ [])
 
 unfoldable pub reportOf : List ℕ → List ℕ
 reportOf s = lines (summaryOf s)

@@ -47,7 +47,7 @@ names-short a bits c k h = simp (length-append, line-length) (omega (arith, algo
 abbrev pub Fits : Summary → Type 0
 Fits (Plain a bits c k comment padding image form) = (bits < 2 ^ 64) × (comment < 2 ^ 64) × (padding < 2 ^ 64) × (image < 2 ^ 64)
 Fits (Encrypted a bits c k ciphertext tag image) = (bits < 2 ^ 64) × (ciphertext < 2 ^ 64) × (tag < 2 ^ 64) × (image < 2 ^ 64)
-Fits (Refused number count) = (number < 2 ^ 64) × (count < 2 ^ 64)
+Fits (Refused number count at) = (number < 2 ^ 64) × (count < 2 ^ 64) × (at < 2 ^ 64)
 
 pub lines-short : (x : Summary) → Fits x → length (lines x) ≤ 256
 unfolding lines
@@ -57,4 +57,4 @@ lines-short (Plain a bits c k comment padding image form) h =
 lines-short (Encrypted a bits c k ciphertext tag image) h =
     simp (length-append, line-length, join-append)
     (omega (arith, names-short a bits c k (h .0), decimal-short ciphertext (h .1), decimal-short tag (h .2), decimal-short image (h .3)))
-lines-short (Refused number count) h = simp length-append (omega (arith, decimal-short number (h .0), decimal-short count (h .1)))
+lines-short (Refused number count at) h = simp length-append (omega (arith, decimal-short number (h .0), decimal-short count (h .1), decimal-short at (h .2)))

@@ -1,5 +1,5 @@
-// The inspection's lines: what an image is, by its kind, names, lengths and form, or how it is refused.
-// What writes them is handed those, and no byte of the image.
+// The inspection's lines: what an image is, by its kind, names, lengths and form, or how it is refused, and
+// at which byte. What writes them is handed those, and no byte of the image.
 ghost use Rattle.fields.specs.Bytes.{ascii, join};
 ghost use Rattle.fields.specs.Fields.{viewOf};
 ghost use Rattle.fields.specs.Refusals.{numberOf, countOf};
@@ -114,16 +114,19 @@ fn put_encrypted(
     put_number(out, d, b"image ", image)
 }
 
-// The line of a refused image, at the start of a text.
-fn put_refused(out: &mut [u8], why: Refusal) -> usize
-    ensures { λ r. ⌜ isText (now (out .entry)) (Refused (numberOf why) (countOf why)) r (now (out .exit)) ⌝ }
+// The line of a refused image, at the start of a text: number, count, and the byte at which the failing field
+// began.
+fn put_refused(out: &mut [u8], why: Refusal, at: usize) -> usize
+    ensures { λ r. ⌜ isText (now (out .entry)) (Refused (numberOf why) (countOf why) at) r (now (out .exit)) ⌝ }
 {
     let number = why.number();
     let a = buffer::put(out, 0, b"refused ");
     let b = buffer::put_decimal(out, a, number as usize);
     let c = buffer::put(out, b, b" ");
     let d = buffer::put_decimal(out, c, why.count());
-    buffer::put(out, d, b"\n")
+    let e = buffer::put(out, d, b" ");
+    let f = buffer::put_decimal(out, e, at);
+    buffer::put(out, f, b"\n")
 }
 
 fn put_accepted(out: &mut [u8], header: Header, section: Section, image: usize, form: bool) -> usize
@@ -173,7 +176,7 @@ fn put_report(out: &mut [u8], image: &[u8]) -> usize
     match container::read_with_form(image) {
         FormRead::Refused(f) => {
             let why = f.why;
-            put_refused(out, why)
+            put_refused(out, why, f.at)
         }
         FormRead::Record(f, form) => put_accepted(out, f.header, f.section, image.len(), form),
     }

@@ -40,13 +40,13 @@ use Rattle.section.specs.Section.{checkintsAt, sameKey, entryAt, padding
 use Rattle.section.specs.Back.{KeyFits, rest-padding}
 
 -- by cases, with the equation in hand
-by-keypair :
+pub by-keypair :
     {P : Type 0} (w : Keypair) → ((f : Fault) → w ≡ keypair.Refused f → P)
     → ((a : Algorithm) (p : Public) (x : Private) (c : Cursor) → w ≡ keypair.Pair a p x c → P) → P
 by-keypair (keypair.Refused f) refused pair = refused f refl
 by-keypair (keypair.Pair a p x c) refused pair = pair a p x c refl
 
-by-entry :
+pub by-entry :
     {P : Type 0} (w : Entry) → ((f : Fault) → w ≡ entry.Refused f → P) → ((x : Private) (m : Part) (c : Cursor) → w ≡ entry.Key x m c → P) → P
 by-entry (entry.Refused f) refused key = refused f refl
 by-entry (entry.Key x m c) refused key = key x m c refl

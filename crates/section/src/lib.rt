@@ -76,7 +76,7 @@ fn same_key(image: &[u8], a: Algorithm, p: Public, b: Algorithm, q: Public) -> b
         )
 }
 
-enum Entry {
+pub enum Entry {
     Key(Private, Part, Cursor),
     Refused(Fault),
 }

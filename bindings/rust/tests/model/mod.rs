@@ -28,12 +28,45 @@ const ALGORITHMS: [&str; 5] =
     ["ssh-ed25519", "ecdsa-sha2-nistp256", "ecdsa-sha2-nistp384", "ecdsa-sha2-nistp521", "ssh-rsa"];
 const CURVES: [(&str, usize); 3] = [("nistp256", 32), ("nistp384", 48), ("nistp521", 66)];
 
-#[derive(Clone, Copy, Debug, PartialEq, Eq)]
+#[derive(Clone, Copy, Debug, Default, PartialEq, Eq)]
 pub struct Refusal {
     pub number: u64,
     pub count: u64,
     pub at: u64,
+    /// The words for the field that it is about.
+    pub field: &'static str,
 }
+
+const IMAGE: &str = "the image";
+const HANDED_IN: &str = "what was handed in";
+
+/// The words for the public fields of a key.
+struct Words {
+    name: &'static str,
+    public: &'static str,
+    curve: &'static str,
+    point: &'static str,
+    e: &'static str,
+    n: &'static str,
+}
+
+const IN_THE_BLOB: Words = Words {
+    name: "the key name's string in the blob",
+    public: "the public key's string in the blob",
+    curve: "the curve's string in the blob",
+    point: "the point's string in the blob",
+    e: "e's string in the blob",
+    n: "n's string in the blob",
+};
+
+const IN_THE_SECTION: Words = Words {
+    name: "the key name's string in the section",
+    public: "the public key's string in the section",
+    curve: "the curve's string in the section",
+    point: "the point's string in the section",
+    e: "e's string in the section",
+    n: "n's string in the section",
+};
 
 /// A part of the image, copied, and the place where it stood.
 #[derive(Clone, Debug, Default, PartialEq, Eq)]
@@ -112,15 +145,15 @@ fn put_places(numbers: &mut [u64], parts: &[&Part]) {
     }
 }
 
-fn refuse<T>(number: u64, at: usize) -> Result<T, Refusal> {
-    Err(Refusal { number, count: 0, at: at as u64 })
+fn refuse<T>(number: u64, at: usize, field: &'static str) -> Result<T, Refusal> {
+    Err(Refusal { number, count: 0, at: at as u64, field })
 }
 
-fn left_over<T>(count: usize, at: usize) -> Result<T, Refusal> {
-    Err(Refusal { number: 6, count: count as u64, at: at as u64 })
+fn left_over<T>(count: usize, at: usize, field: &'static str) -> Result<T, Refusal> {
+    Err(Refusal { number: 6, count: count as u64, at: at as u64, field })
 }
 
-/// What is still to be read of the image, or of one of its strings.
+/// What is still to be read of the image, or of one of its strings. Each step is given the words for its field.
 struct Reader<'a> {
     image: &'a [u8],
     at: usize,
@@ -140,9 +173,9 @@ impl<'a> Reader<'a> {
         Part { start: self.at as u64, bytes: self.bytes().to_vec(), present: true }
     }
 
-    fn uint32(&mut self) -> Result<u32, Refusal> {
+    fn uint32(&mut self, words: &'static str) -> Result<u32, Refusal> {
         if self.left() < 4 {
-            return refuse(1, self.at);
+            return refuse(1, self.at, words);
         }
         let mut number = 0;
         for byte in &self.image[self.at..self.at + 4] {
@@ -153,57 +186,58 @@ impl<'a> Reader<'a> {
     }
 
     /// The next `length` bytes, for a field that began at `field`.
-    fn take(&mut self, length: usize, field: usize) -> Result<Reader<'a>, Refusal> {
+    fn take(&mut self, length: usize, field: usize, words: &'static str) -> Result<Reader<'a>, Refusal> {
         if self.left() < length {
-            return refuse(1, field);
+            return refuse(1, field, words);
         }
         let taken = Reader { image: self.image, at: self.at, end: self.at + length };
         self.at += length;
         Ok(taken)
     }
 
-    fn string(&mut self) -> Result<Reader<'a>, Refusal> {
+    fn string(&mut self, words: &'static str) -> Result<Reader<'a>, Refusal> {
         let field = self.at;
-        let length = self.uint32()?;
-        self.take(length as usize, field)
+        let length = self.uint32(words)?;
+        self.take(length as usize, field, words)
     }
 
     /// A string that must have `length` bytes.
-    fn fixed(&mut self, length: usize) -> Result<Reader<'a>, Refusal> {
+    fn fixed(&mut self, length: usize, words: &'static str) -> Result<Reader<'a>, Refusal> {
         let field = self.at;
-        let string = self.string()?;
+        let string = self.string(words)?;
         if string.left() < length {
-            return refuse(1, field);
+            return refuse(1, field, words);
         }
         if string.left() > length {
-            return left_over(string.left() - length, field + 4 + length);
+            return left_over(string.left() - length, field + 4 + length, words);
         }
         Ok(string)
     }
 
     /// A string that must be a positive mpint in its fewest bytes.
-    fn mpint(&mut self) -> Result<Part, Refusal> {
+    fn mpint(&mut self, words: &'static str) -> Result<Part, Refusal> {
         let field = self.at;
-        let number = self.string()?.part();
+        let number = self.string(words)?.part();
         if !is_mpint(&number.bytes) {
-            return refuse(2, field);
+            return refuse(2, field, words);
         }
         Ok(number)
     }
 
     /// A string that must be one of `names`; answers which.
-    fn name<'n>(&mut self, names: impl IntoIterator<Item = &'n str>) -> Result<usize, Refusal> {
+    fn name<'n>(&mut self, names: impl IntoIterator<Item = &'n str>, words: &'static str) -> Result<usize, Refusal> {
         let field = self.at;
-        let string = self.string()?;
+        let string = self.string(words)?;
         match names.into_iter().position(|name| name.as_bytes() == string.bytes()) {
             Some(which) => Ok(which),
-            None => refuse(4, field),
+            None => refuse(4, field, words),
         }
     }
 
-    fn finish(&self) -> Result<(), Refusal> {
+    /// Nothing may be left of what these are the words for.
+    fn finish(&self, words: &'static str) -> Result<(), Refusal> {
         if self.left() > 0 {
-            return left_over(self.left(), self.at);
+            return left_over(self.left(), self.at, words);
         }
         Ok(())
     }
@@ -238,11 +272,11 @@ fn wrong_size(numbers: &[&[u8]], modulus: usize) -> Option<usize> {
     })
 }
 
-/// Holds numbers, in the order in which they were read, to their sizes.
-fn check_sizes(numbers: &[&Part], modulus: usize) -> Result<(), Refusal> {
+/// Holds numbers, in the order in which they were read, to their sizes; `words` are each number's.
+fn check_sizes(numbers: &[&Part], words: &[&'static str], modulus: usize) -> Result<(), Refusal> {
     let contents: Vec<&[u8]> = numbers.iter().map(|number| &number.bytes[..]).collect();
     match wrong_size(&contents, modulus) {
-        Some(place) => refuse(1, numbers[place].start as usize - 4),
+        Some(place) => refuse(1, numbers[place].start as usize - 4, words[place]),
         None => Ok(()),
     }
 }
@@ -272,58 +306,59 @@ struct Elliptic {
     curve: Option<(usize, u8)>,
     size: usize,
     point: Part,
+    words: Words,
 }
 
 impl Elliptic {
-    fn read(algorithm: u8, reader: &mut Reader) -> Result<Elliptic, Refusal> {
+    fn read(algorithm: u8, reader: &mut Reader, words: Words) -> Result<Elliptic, Refusal> {
         if algorithm == ED25519 {
-            let point = reader.fixed(32)?.part();
-            return Ok(Elliptic { algorithm, curve: None, size: 32, point });
+            let point = reader.fixed(32, words.public)?.part();
+            return Ok(Elliptic { algorithm, curve: None, size: 32, point, words });
         }
         let curve = reader.at;
-        let which = reader.name(CURVES.iter().map(|row| row.0))?;
+        let which = reader.name(CURVES.iter().map(|row| row.0), words.curve)?;
         let size = CURVES[which].1;
         let field = reader.at;
-        let point = reader.fixed(1 + 2 * size)?.part();
+        let point = reader.fixed(1 + 2 * size, words.point)?.part();
         if point.bytes[0] != 4 {
-            return refuse(2, field);
+            return refuse(2, field, words.point);
         }
-        Ok(Elliptic { algorithm, curve: Some((curve, which as u8 + 1)), size, point })
+        Ok(Elliptic { algorithm, curve: Some((curve, which as u8 + 1)), size, point, words })
     }
 
     /// The public half, once the curve is the algorithm's.
     fn public(self) -> Result<Public, Refusal> {
         match self.curve {
-            Some((place, algorithm)) if algorithm != self.algorithm => refuse(4, place),
+            Some((place, algorithm)) if algorithm != self.algorithm => refuse(4, place, self.words.curve),
             _ => Ok(Public { algorithm: self.algorithm, point: self.point, ..Public::default() }),
         }
     }
 }
 
 fn read_blob(blob: &mut Reader) -> Result<Public, Refusal> {
-    let algorithm = blob.name(ALGORITHMS)? as u8;
+    let algorithm = blob.name(ALGORITHMS, IN_THE_BLOB.name)? as u8;
     let public = match algorithm {
         RSA => read_rsa_blob(blob)?,
-        _ => Elliptic::read(algorithm, blob)?.public()?,
+        _ => Elliptic::read(algorithm, blob, IN_THE_BLOB)?.public()?,
     };
-    blob.finish()?;
+    blob.finish("the blob's string")?;
     Ok(public)
 }
 
 fn read_rsa_blob(blob: &mut Reader) -> Result<Public, Refusal> {
-    let exponent = blob.mpint()?;
-    let modulus = blob.mpint()?;
-    check_sizes(&[&exponent, &modulus], 1)?;
+    let exponent = blob.mpint(IN_THE_BLOB.e)?;
+    let modulus = blob.mpint(IN_THE_BLOB.n)?;
+    check_sizes(&[&exponent, &modulus], &[IN_THE_BLOB.e, IN_THE_BLOB.n], 1)?;
     Ok(Public { algorithm: RSA, modulus, exponent, ..Public::default() })
 }
 
 /// The section's keypair: its private parts are put into the record, its public half is answered.
 fn read_pair(section: &mut Reader, record: &mut Record) -> Result<Public, Refusal> {
-    let algorithm = section.name(ALGORITHMS)? as u8;
+    let algorithm = section.name(ALGORITHMS, IN_THE_SECTION.name)? as u8;
     if algorithm == RSA {
         return read_rsa_pair(section, record);
     }
-    let key = Elliptic::read(algorithm, section)?;
+    let key = Elliptic::read(algorithm, section, IN_THE_SECTION)?;
     record.scalar = match key.curve {
         None => read_seed(section, &key.point.bytes)?,
         Some(_) => read_scalar(section, key.size)?,
@@ -332,91 +367,94 @@ fn read_pair(section: &mut Reader, record: &mut Record) -> Result<Public, Refusa
 }
 
 fn read_rsa_pair(section: &mut Reader, record: &mut Record) -> Result<Public, Refusal> {
-    let modulus = section.mpint()?;
-    let exponent = section.mpint()?;
-    record.d = section.mpint()?;
-    record.iqmp = section.mpint()?;
-    record.p = section.mpint()?;
-    record.q = section.mpint()?;
-    check_sizes(&[&modulus, &exponent, &record.d, &record.iqmp, &record.p, &record.q], 0)?;
+    let modulus = section.mpint(IN_THE_SECTION.n)?;
+    let exponent = section.mpint(IN_THE_SECTION.e)?;
+    record.d = section.mpint("d's string")?;
+    record.iqmp = section.mpint("iqmp's string")?;
+    record.p = section.mpint("p's string")?;
+    record.q = section.mpint("q's string")?;
+    let numbers = [&modulus, &exponent, &record.d, &record.iqmp, &record.p, &record.q];
+    let words = [IN_THE_SECTION.n, IN_THE_SECTION.e, "d's string", "iqmp's string", "p's string", "q's string"];
+    check_sizes(&numbers, &words, 0)?;
     Ok(Public { algorithm: RSA, modulus, exponent, ..Public::default() })
 }
 
 /// The seed that follows an Ed25519 public string.
 fn read_seed(reader: &mut Reader, public: &[u8]) -> Result<Part, Refusal> {
     let field = reader.at;
-    let mut both = reader.fixed(64)?.part();
+    let mut both = reader.fixed(64, "the seed's string")?.part();
     if both.bytes[32..] != *public {
-        return refuse(3, field);
+        return refuse(3, field, "the seed's string");
     }
     both.bytes.truncate(32);
     Ok(both)
 }
 
 fn read_scalar(reader: &mut Reader, size: usize) -> Result<Part, Refusal> {
+    let words = "the scalar's string";
     let field = reader.at;
-    let mut string = reader.string()?;
+    let mut string = reader.string(words)?;
     if string.left() == size + 1 {
         if string.bytes()[0] != 0 {
-            return refuse(2, field);
+            return refuse(2, field, words);
         }
         string.at += 1;
         return Ok(string.part());
     }
     reader.at = field;
-    Ok(reader.fixed(size)?.part())
+    Ok(reader.fixed(size, words)?.part())
 }
 
 fn read_plain_section(section: &mut Reader, record: &mut Record) -> Result<(), Refusal> {
     if section.left() % 8 != 0 {
-        return refuse(1, section.at);
+        return refuse(1, section.at, "the section");
     }
-    record.checkint = section.uint32()?;
+    record.checkint = section.uint32("the first checkint")?;
     let second = section.at;
-    if section.uint32()? != record.checkint {
-        return refuse(3, second);
+    if section.uint32("the second checkint")? != record.checkint {
+        return refuse(3, second, "the second checkint");
     }
     let name = section.at;
     let public = read_pair(section, record)?;
     if !public.is_of(record) {
-        return refuse(5, name);
+        return refuse(5, name, IN_THE_SECTION.name);
     }
     let comment = section.at;
-    record.comment = section.string()?.part();
+    record.comment = section.string("the comment's string")?.part();
     if std::str::from_utf8(&record.comment.bytes).is_err() {
-        return refuse(7, comment);
+        return refuse(7, comment, "the comment's string");
     }
     record.padding = section.left() as u64;
     if section.left() >= 8 {
-        return refuse(1, section.at);
+        return refuse(1, section.at, "the padding");
     }
     if section.bytes().iter().zip(1..).any(|(byte, right)| *byte != right) {
-        return refuse(2, section.at);
+        return refuse(2, section.at, "the padding");
     }
     Ok(())
 }
 
 fn read_kdf(reader: &mut Reader, record: &mut Record) -> Result<(), Refusal> {
-    record.kdf = reader.name(KDFS)? as u8;
+    record.kdf = reader.name(KDFS, "the KDF name's string")? as u8;
     let field = reader.at;
-    let mut options = reader.string()?;
+    let mut options = reader.string("the KDF options' string")?;
     if record.kdf == 0 {
-        return if options.left() == 0 { Ok(()) } else { refuse(3, field) };
+        return if options.left() == 0 { Ok(()) } else { refuse(3, field, "the KDF options' string") };
     }
-    record.salt = options.string()?.part();
-    record.rounds = options.uint32()?;
-    options.finish()
+    record.salt = options.string("the salt's string")?.part();
+    record.rounds = options.uint32("the rounds")?;
+    options.finish("the KDF options' string")
 }
 
 fn read_ciphertext(reader: &mut Reader, record: &mut Record) -> Result<(), Refusal> {
     let (_, block, tag) = CIPHERS[usize::from(record.cipher)];
     let field = reader.at;
-    record.ciphertext = reader.string()?.part();
+    record.ciphertext = reader.string("the ciphertext's string")?.part();
     if record.ciphertext.bytes.len() % block != 0 {
-        return refuse(3, field);
+        return refuse(3, field, "the ciphertext's string");
     }
     if tag > 0 {
-        record.tag = reader.take(tag, reader.at)?.part();
+        record.tag = reader.take(tag, reader.at, "the tag")?.part();
     }
     Ok(())
 }
@@ -424,23 +462,23 @@ fn read_ciphertext(reader: &mut Reader, record: &mut Record) -> Result<(), Refus
 /// Reads an image up to its blob's end: what the header says, or the first refusal in the order of reading.
 pub fn read_header(image: &[u8]) -> Result<Record, Refusal> {
     if image.len() > LIMIT {
-        return refuse(11, 0);
+        return refuse(11, 0, IMAGE);
     }
     if image.len() < MAGIC.len() {
-        return refuse(1, 0);
+        return refuse(1, 0, IMAGE);
     }
     if !image.starts_with(MAGIC) {
-        return refuse(2, 0);
+        return refuse(2, 0, IMAGE);
     }
     let mut record = Record { kind: HEADER, ..Record::default() };
     let mut reader = Reader { image, at: MAGIC.len(), end: image.len() };
-    record.cipher = reader.name(CIPHERS.iter().map(|row| row.0))? as u8;
+    record.cipher = reader.name(CIPHERS.iter().map(|row| row.0), "the cipher name's string")? as u8;
     read_kdf(&mut reader, &mut record)?;
     let count = reader.at;
-    if reader.uint32()? != 1 {
-        return refuse(1, count);
+    if reader.uint32("the key count")? != 1 {
+        return refuse(1, count, "the key count");
     }
-    let mut blob = reader.string()?;
+    let mut blob = reader.string("the blob's string")?;
     record.blob = blob.part();
     let public = read_blob(&mut blob)?;
     record.bits = bits(&public.modulus.bytes) as u64;
@@ -457,12 +495,12 @@ fn go_on(image: &[u8], mut record: Record) -> Result<Record, Refusal> {
         record.kind = ENCRYPTED;
         read_ciphertext(&mut reader, &mut record)?;
     } else if record.kdf != 0 {
-        return refuse(3, MAGIC.len() + 4 + "none".len());
+        return refuse(3, MAGIC.len() + 4 + "none".len(), "the KDF name's string");
     } else {
         record.kind = PLAIN;
-        read_plain_section(&mut reader.string()?, &mut record)?;
+        read_plain_section(&mut reader.string("the section's string")?, &mut record)?;
     }
-    reader.finish()?;
+    reader.finish(IMAGE)?;
     record.form = written(&record) == image;
     Ok(record)
 }
@@ -471,7 +509,7 @@ fn go_on(image: &[u8], mut record: Record) -> Result<Record, Refusal> {
 pub fn read_section(image: &[u8], header: &Numbers) -> Result<Record, Refusal> {
     let read = read_header(image);
     if read.is_err() || numbers(&read) != *header {
-        return refuse(1, 0);
+        return refuse(1, 0, IMAGE);
     }
     go_on(image, read?)
 }
@@ -600,12 +638,13 @@ fn commented(record: &Record, comment: &[u8]) -> Vec<u8> {
     plain_image(record.algorithm, &record.point.bytes, &record.scalar.bytes, record.checkint, comment)
 }
 
-fn store(image: &[u8], out: &mut [u8]) -> Result<usize, Refusal> {
+/// Stores an image that was made of what these are the words for.
+fn store(image: &[u8], out: &mut [u8], words: &'static str) -> Result<usize, Refusal> {
     if image.len() > LIMIT {
-        return refuse(11, 0);
+        return refuse(11, 0, words);
     }
     if image.len() > out.len() {
-        return refuse(9, 0);
+        return refuse(9, 0, words);
     }
     out[..image.len()].copy_from_slice(image);
     Ok(image.len())
@@ -636,19 +675,19 @@ pub fn write_plain(
     out: &mut [u8],
 ) -> Result<usize, Refusal> {
     if algorithm > 3 {
-        return refuse(4, 0);
+        return refuse(4, 0, HANDED_IN);
     }
     if (public.len(), private.len()) != lengths(algorithm) {
-        return refuse(1, 0);
+        return refuse(1, 0, HANDED_IN);
     }
     if algorithm != ED25519 && public[0] != 4 {
-        return refuse(2, 0);
+        return refuse(2, 0, HANDED_IN);
     }
     if std::str::from_utf8(comment).is_err() {
-        return refuse(7, 0);
+        return refuse(7, 0, HANDED_IN);
     }
     let checkint = if derive == 0 { checkint } else { derived_checkint(private) };
-    store(&plain_image(algorithm, public, private, checkint, comment), out)
+    store(&plain_image(algorithm, public, private, checkint, comment), out, HANDED_IN)
 }
 
 /// Writes a plain image of an RSA key: n, e, d, iqmp, p, q; `derive` other than 0 derives the checkint.
@@ -660,17 +699,17 @@ pub fn write_rsa(
     out: &mut [u8],
 ) -> Result<usize, Refusal> {
     if !numbers.iter().all(|number| is_mpint(number)) {
-        return refuse(2, 0);
+        return refuse(2, 0, HANDED_IN);
     }
     if wrong_size(&numbers, 0).is_some() {
-        return refuse(1, 0);
+        return refuse(1, 0, HANDED_IN);
     }
     if std::str::from_utf8(comment).is_err() {
-        return refuse(7, 0);
+        return refuse(7, 0, HANDED_IN);
     }
     let [_, _, d, ..] = numbers;
     let checkint = if derive == 0 { checkint } else { derived_checkint(d) };
-    store(&rsa_image(numbers, checkint, comment), out)
+    store(&rsa_image(numbers, checkint, comment), out, HANDED_IN)
 }
 
 /// Writes an encrypted image.
@@ -686,49 +725,49 @@ pub fn write_encrypted(
     out: &mut [u8],
 ) -> Result<usize, Refusal> {
     if cipher > 9 || kdf > 1 {
-        return refuse(4, 0);
+        return refuse(4, 0, HANDED_IN);
     }
     if cipher == 0 || kdf == 0 && (!salt.is_empty() || rounds != 0) {
-        return refuse(3, 0);
+        return refuse(3, 0, HANDED_IN);
     }
     let mut reader = Reader { image: blob, at: 0, end: blob.len() };
     if let Err(refusal) = read_blob(&mut reader) {
-        return Err(Refusal { at: 0, ..refusal });
+        return Err(Refusal { at: 0, field: HANDED_IN, ..refusal });
     }
     let (_, block, tag_length) = CIPHERS[usize::from(cipher)];
     if ciphertext.len() % block != 0 {
-        return refuse(3, 0);
+        return refuse(3, 0, HANDED_IN);
     }
     if tag.len() != tag_length {
-        return refuse(1, 0);
+        return refuse(1, 0, HANDED_IN);
     }
-    store(&encrypted_image((cipher, kdf), (salt, rounds), blob, ciphertext, tag), out)
+    store(&encrypted_image((cipher, kdf), (salt, rounds), blob, ciphertext, tag), out, HANDED_IN)
 }
 
 /// Writes an image's record again.
 pub fn rewrite(image: &[u8], out: &mut [u8]) -> Result<usize, Refusal> {
-    store(&written(&read(image)?), out)
+    store(&written(&read(image)?), out, IMAGE)
 }
 
 /// Changes the comment of the image that the first `n` bytes of the buffer are; old bytes past the new end become zero.
 pub fn change_comment(buffer: &mut [u8], n: usize, comment: &[u8]) -> Result<usize, Refusal> {
     if n > LIMIT {
-        return refuse(11, 0);
+        return refuse(11, 0, IMAGE);
     }
     if n > buffer.len() {
-        return refuse(1, 0);
+        return refuse(1, 0, IMAGE);
     }
     let record = read(&buffer[..n])?;
     if record.kind == ENCRYPTED {
-        return refuse(8, 0);
+        return refuse(8, 0, IMAGE);
     }
     if !record.form {
-        return refuse(10, 0);
+        return refuse(10, 0, IMAGE);
     }
     if std::str::from_utf8(comment).is_err() {
-        return refuse(7, record.comment.start as usize - 4);
+        return refuse(7, record.comment.start as usize - 4, "the comment's string");
     }
-    let length = store(&commented(&record, comment), buffer)?;
+    let length = store(&commented(&record, comment), buffer, IMAGE)?;
     if length < n {
         buffer[length..n].fill(0);
     }

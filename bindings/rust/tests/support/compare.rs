@@ -1,6 +1,10 @@
-//! The comparison of library and model: every number of the C interface, every part, every byte of the lent buffers.
+//! The comparison of library and model: every number of the C interface, every part, every byte of the lent buffers, and the
+//! words of every refusal's field.
+
+use std::collections::BTreeSet;
 
 use super::model::{self, Numbers, Part, Record, Refusal};
+use super::pairs::pairs;
 use super::{hex, seed};
 use saltorchard::raw;
 use saltorchard::{Algorithm, Checkint, Cipher, EcdsaCurve, EncryptedKey, Error, Header, Image, KdfAlg};
@@ -102,12 +106,13 @@ fn lent_again(contents: &[u8]) -> Vec<u8> {
 fn reply_of(written: Written) -> raw::Reply {
     match written {
         Ok(length) => raw::Reply { number: 0, count: 0, at: 0, length: length as u64 },
-        Err(Refusal { number, count, at }) => raw::Reply { number, count, at, length: 0 },
+        Err(Refusal { number, count, at, .. }) => raw::Reply { number, count, at, length: 0 },
     }
 }
 
-fn refusal_of(error: Error) -> Refusal {
-    Refusal { number: error.number(), count: error.count() as u64, at: error.place() as u64 }
+fn is_refusal(error: Error, right: &Refusal) -> bool {
+    let numbers = (error.number(), error.count() as u64, error.place() as u64);
+    numbers == (right.number, right.count, right.at) && error.field().to_string() == right.field
 }
 
 pub fn numbers_of(image: &raw::Image) -> Numbers {
@@ -238,17 +243,24 @@ pub struct Tally {
     numbers: [u64; 12],
     headers: [u64; 12],
     sections: [u64; 12],
+    /// The refusals of the crate, by field and number.
+    pairs: BTreeSet<(&'static str, u64)>,
 }
 
 impl Tally {
     pub fn new(entry: &'static str) -> Self {
-        Self { entry, made: 0, numbers: [0; 12], headers: [0; 12], sections: [0; 12] }
+        Self { entry, made: 0, numbers: [0; 12], headers: [0; 12], sections: [0; 12], pairs: BTreeSet::new() }
     }
 
-    /// Says how many comparisons there were; fails where there were fewer than `least`.
+    /// Says how many comparisons there were; fails where there were fewer than `least`, and where a refusal has a field and a
+    /// number that no sentence is tested for.
     pub fn end(self, least: u64) {
         println!("{}: {} comparisons, seed {}{}", self.entry, self.made, seed(), self.replies());
         assert!(self.made >= least, "{}: only {} comparisons of {}", self.entry, self.made, least);
+        let listed = pairs();
+        for pair in &self.pairs {
+            assert!(listed.contains(pair), "{}: {:?} isn't in the list", self.entry, pair);
+        }
     }
 
     fn replies(&self) -> String {
@@ -316,7 +328,7 @@ impl Tally {
         let (library, right) = (raw::read_header(bytes), model::read_header(bytes));
         self.same_numbers("read_header", &library, &right, &|| hex(bytes));
         let unlike = match (Header::read(bytes), &right) {
-            (Err(error), Err(refusal)) if refusal_of(error) == *refusal => None,
+            (Err(error), Err(refusal)) => self.refusal_unlike(error, refusal),
             (Ok(header), Ok(record)) => header_unlike(&header, record, bytes),
             _ => Some("answer"),
         };
@@ -351,13 +363,18 @@ impl Tally {
         }
     }
 
-    fn same_image(&self, what: &str, answer: Result<Image, Error>, right: &Result<Record, Refusal>, bytes: &[u8]) {
+    fn same_image(&mut self, what: &str, answer: Result<Image, Error>, right: &Result<Record, Refusal>, bytes: &[u8]) {
         let unlike = match (answer, right) {
-            (Err(error), Err(refusal)) if refusal_of(error) == *refusal => None,
+            (Err(error), Err(refusal)) => self.refusal_unlike(error, refusal),
             (Ok(image), Ok(record)) => image_unlike(&image, record, bytes),
             _ => Some("answer"),
         };
         self.hold_alike(what, unlike, right, bytes);
+    }
+
+    fn refusal_unlike(&mut self, error: Error, right: &Refusal) -> Option<&'static str> {
+        self.pairs.insert((right.field, right.number));
+        first_unlike(&[("refusal", is_refusal(error, right))])
     }
 
     fn hold_alike(&self, what: &str, unlike: Option<&str>, right: &Result<Record, Refusal>, bytes: &[u8]) {
@@ -377,6 +394,25 @@ impl Tally {
         }
     }
 
+    /// The same of the crate's own answer, whose refusal has a field too.
+    fn same_written(
+        &mut self,
+        what: &str,
+        library: (Result<usize, Error>, &[u8]),
+        model: (Written, &[u8]),
+        input: &dyn Fn() -> String,
+    ) {
+        let unlike = match (library.0, &model.0) {
+            (Err(error), Err(refusal)) => self.refusal_unlike(error, refusal),
+            (Ok(length), Ok(right)) => first_unlike(&[("length", length == *right)]),
+            _ => Some("answer"),
+        };
+        if let Some(name) = unlike {
+            self.fail(&format!("{}: {} of {:?} unlike the model's {:?}", what, name, library.0, model.0), &input());
+        }
+        self.same(what, (reply_of(model.0), library.1), model, input);
+    }
+
     /// Writes a plain image with both into buffers of `room` bytes.
     pub fn write_plain(&mut self, call: Plain, room: usize) -> Answer {
         let Plain { algorithm, public, private, derive, checkint, comment } = call;
@@ -393,8 +429,8 @@ impl Tally {
         if let Some(algorithm) = ALGORITHMS.get(usize::from(algorithm)).copied() {
             let key = PlainKey { algorithm, public, private, checkint: checkint_of(derive, checkint) };
             let mut buffer = before.clone();
-            let answer = saltorchard::write_plain(&key, comment, lent(&mut buffer)).map_err(refusal_of);
-            self.same("write_plain of the crate", (reply_of(answer), &buffer), (model, &right), &input);
+            let answer = saltorchard::write_plain(&key, comment, lent(&mut buffer));
+            self.same_written("write_plain of the crate", (answer, &buffer), (model, &right), &input);
         }
         self.count(reply.number);
         Answer { written: model.ok(), buffer: lent(&mut right).to_vec() }
@@ -413,8 +449,8 @@ impl Tally {
         let [n, e, d, iqmp, p, q] = numbers;
         let key = RsaKey { n, e, d, iqmp, p, q, checkint: checkint_of(derive, checkint) };
         let mut buffer = before.clone();
-        let answer = saltorchard::write_rsa(&key, comment, lent(&mut buffer)).map_err(refusal_of);
-        self.same("write_rsa of the crate", (reply_of(answer), &buffer), (model, &right), &input);
+        let answer = saltorchard::write_rsa(&key, comment, lent(&mut buffer));
+        self.same_written("write_rsa of the crate", (answer, &buffer), (model, &right), &input);
         self.count(reply.number);
         Answer { written: model.ok(), buffer: lent(&mut right).to_vec() }
     }
@@ -436,8 +472,8 @@ impl Tally {
             let (cipher, kdf) = (CIPHERS[usize::from(cipher)], KDFS[usize::from(kdf)]);
             let key = EncryptedKey { cipher, kdf, salt, rounds, blob, ciphertext, tag };
             let mut buffer = before.clone();
-            let answer = saltorchard::write_encrypted(&key, lent(&mut buffer)).map_err(refusal_of);
-            self.same("write_encrypted of the crate", (reply_of(answer), &buffer), (model, &right), &input);
+            let answer = saltorchard::write_encrypted(&key, lent(&mut buffer));
+            self.same_written("write_encrypted of the crate", (answer, &buffer), (model, &right), &input);
         }
         self.count(reply.number);
         Answer { written: model.ok(), buffer: lent(&mut right).to_vec() }
@@ -454,8 +490,8 @@ impl Tally {
         self.same("rewrite", (reply, &buffer), (model, &right), &input);
         if let Ok(image) = Image::read(image) {
             let mut buffer = before.clone();
-            let answer = image.rewrite(lent(&mut buffer)).map_err(refusal_of);
-            self.same("rewrite of the crate", (reply_of(answer), &buffer), (model, &right), &input);
+            let answer = image.rewrite(lent(&mut buffer));
+            self.same_written("rewrite of the crate", (answer, &buffer), (model, &right), &input);
         }
         self.count(reply.number);
         Answer { written: model.ok(), buffer: lent(&mut right).to_vec() }
@@ -471,8 +507,8 @@ impl Tally {
         let reply = raw::change_comment(lent(&mut buffer), n, comment);
         self.same("change_comment", (reply, &buffer), (model, &right), &input);
         let mut buffer = before.clone();
-        let answer = saltorchard::set_comment(lent(&mut buffer), n, comment).map_err(refusal_of);
-        self.same("set_comment of the crate", (reply_of(answer), &buffer), (model, &right), &input);
+        let answer = saltorchard::set_comment(lent(&mut buffer), n, comment);
+        self.same_written("set_comment of the crate", (answer, &buffer), (model, &right), &input);
         self.count(reply.number);
         Answer { written: model.ok(), buffer: lent(&mut right).to_vec() }
     }

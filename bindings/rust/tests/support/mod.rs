@@ -1,4 +1,4 @@
-//! What the tests share: a seeded generator, images in parts, and the comparison of library and model.
+//! What the tests share: a seeded generator, images in parts, the comparison of library and model, and the list of refusals.
 #![allow(dead_code)] // each test takes what it needs
 
 pub mod compare;
@@ -6,6 +6,7 @@ pub mod damage;
 pub mod images;
 #[path = "../model/mod.rs"]
 pub mod model;
+pub mod pairs;
 
 const DEFAULT_SEED: u64 = 0x5a17_0c4a_7d00_0001;
 

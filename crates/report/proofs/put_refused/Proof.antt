@@ -1,4 +1,4 @@
--- `report::put_refused` meets its contract: five puts, one after the other, are one put of the line.
+-- `report::put_refused` meets its contract: seven puts, one after the other, are one put of the line.
 -- Rests on the laws of runs, and on `lines-short`.
 use native.Mathlib.Omega.{arith}
 use Rattle.buffer.specs.Runs.{start, step, finish}
@@ -41,6 +41,15 @@ slice-aggregate-put-3 c = search needs
 put-requires-3 : tie.Need-put-requires-3
 put-requires-3 c κs = search needs
 
+put-decimal-requires-3 : tie.Need-put-decimal-requires-3
+put-decimal-requires-3 c κs = search needs
+
+slice-aggregate-put-4 : tie.Need-slice-aggregate-put-4
+slice-aggregate-put-4 c = search needs
+
+put-requires-4 : tie.Need-put-requires-4
+put-requires-4 c κs = search needs
+
 same-length : tie.Need-same-length
 same-length c = search needs
 
@@ -48,18 +57,26 @@ returns : tie.Need-returns
 unfolding lines
 returns c =
     let feed = c .before .before in
-    let second = feed .before .before .before .before .before in
+    let third = feed .before .before .before .before .before in
+    let gap = third .before .before .before .before in
+    let second = gap .before .before .before .before .before in
     let space = second .before .before .before .before .before in
     let first = space .before .before .before .before .before in
     let word = first .before .before .before .before in
-    let number = word .before .before .before .number in
+    let asked = word .before .before .before in
+    let number = asked .number in
+    let fit = asked .before .before .fits in
     let count = second .before .count in
     rw (← number .ensures, ← count .ensures) (
-      lines-short (Refused (number .result) (count .result)) (omega arith, omega arith),
+      lines-short (Refused (number .result) (count .result) _) (omega arith, omega arith, omega (arith, fit)),
       λ room.
           finish
+          (step
+          (step
           (step (step (step (step (step (start room) (word .put .ensures)) (first .put-decimal .ensures)) (space .put2 .ensures)) (second .put-decimal2 .ensures))
-          (feed .put3 .ensures)),
+          (gap .put3 .ensures))
+          (third .put-decimal3 .ensures))
+          (feed .put4 .ensures)),
     )
 
 pub put-refused-spec : {M : Type 1} → statement M
@@ -77,5 +94,8 @@ put-refused-spec =
     put-decimal-requires-2
     slice-aggregate-put-3
     put-requires-3
+    put-decimal-requires-3
+    slice-aggregate-put-4
+    put-requires-4
     same-length
     returns)

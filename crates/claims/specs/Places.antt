@@ -1,0 +1,128 @@
+-- Document 02, request Three, of every image that is refused. The place is within the image or at its end. A refusal about the whole image gives
+-- its first byte, any other a byte after the magic. All that read hand the reader's refusal up as it is, the place unchanged.
+use Prim.Native.Nat.{ℕ, _≤_}
+use native.Mathlib.Omega.{arith}
+use mathlib.Core.Path.{_≡_, refl, sym, _∙_, ap}
+use mathlib.Core.Bool.{true, false}
+use mathlib.Core.List.{List}
+use borrow.Author.Tests.{le-leb}
+use lib.ListN.{length, take}
+use Rattle.fields.specs.Fields.{fault}
+use Rattle.fields.specs.Place.{by-bool}
+use Rattle.fields.specs.Refusals.{numberOf, countOf}
+use Rattle.fields.specs.declared.Fault.{Fault}
+use Rattle.fields.specs.declared.Refusal.the-variants.{Length}
+use Rattle.header.specs.declared.Header.{Header}
+use Rattle.header.specs.declared.HeaderRead.the-variants as header-read
+use Rattle.header.specs.Header.{onHeaderRead, headerAt, toldHeader}
+use Rattle.halves.specs.Halves.{isHeader, passes-header}
+use Rattle.container.specs.declared.ImageRead.the-variants as read
+use Rattle.container.specs.Container.{readAt, sectionReadAt, toldRead}
+use Rattle.container.specs.Form.{formReadAt}
+use Rattle.container.specs.Halves.{section-own}
+use Rattle.found.specs.Found.{foundAt, headerFoundAt}
+use Rattle.reply.specs.declared.Written.the-variants as written
+use Rattle.writer.specs.Rewrite.{rewriteReply}
+use Rattle.comment.specs.Change.{changeReply}
+use Rattle.report.specs.Report.{Refused, lines, reportOf}
+use Rattle.numbers.specs.Numbers.{imageOf, headerOf}
+use Rattle.numbers.specs.declared.Image.{Image}
+use Rattle.saltorchard.specs.Interface.{sectionC}
+use Rattle.places.specs.Header.{aboutWhole}
+use Rattle.places.specs.Read.{read-said}
+use Rattle.claims.specs.Halves.{refused-whole, two-halves-c}
+use Rattle.claims.specs.Printed.{report-refused}
+
+-- ---- where it is
+
+-- `aboutWhole` says that the image is above 65,535 bytes or doesn't begin with the magic, fewer than 15 bytes included
+pub whole-image : (s : List ℕ) (g : Fault) → readAt s ≡ read.Refused g → aboutWhole s ≡ true → g .at ≡ 0
+whole-image s g e whole = rw (e, whole) at (read-said s)
+
+pub a-field : (s : List ℕ) (g : Fault) → readAt s ≡ read.Refused g → aboutWhole s ≡ false → (15 ≤ g .at) × (g .at ≤ length s)
+a-field s g e field = rw (e, field) at (read-said s)
+
+pub place-within : (s : List ℕ) (g : Fault) → readAt s ≡ read.Refused g → g .at ≤ length s
+place-within s g e =
+    by-bool (aboutWhole s)
+    (λ w. omega (arith, whole-image s g e w))
+    (λ w. a-field s g e w .1)
+
+-- so of the header read, and of the section read, whatever half is handed in
+pub header-place-within : (s : List ℕ) (g : Fault) → headerAt s ≡ header-read.Refused g → g .at ≤ length s
+header-place-within s g e = place-within s g (refused-whole s g e)
+
+forged-at : (s : List ℕ) (half : Header) (g : Fault) → isHeader s half ≡ false → sectionReadAt s half ≡ read.Refused g → 0 ≡ g .at
+unfolding sectionReadAt
+forged-at s half g w e =
+    let h : read.Refused (fault Length 0) ≡ read.Refused g = rw w at e in
+    let o : fault Length 0 ≡ g = cc in
+    ap (λ (f : Fault). f .at) o
+
+pub section-place-within : (s : List ℕ) (half : Header) (g : Fault) → sectionReadAt s half ≡ read.Refused g → g .at ≤ length s
+section-place-within s half g e =
+    by-bool (isHeader s half)
+    (λ w. place-within s g (sym (section-own s half (passes-header s half w)) ∙ e))
+    (λ w. let z : 0 ≡ g .at = forged-at s half g w e in omega (arith, z))
+
+-- ---- all hand it up
+
+-- what each answers to an image whose read is refused with g
+pub record HandedUp (s : List ℕ) (g : Fault) : Type 0 where
+  pub told : toldRead (readAt s) .at ≡ g .at
+  pub by-record : foundAt s .at ≡ g .at
+  pub in-c : imageOf (formReadAt s) .at ≡ g .at
+  pub printed : reportOf s ≡ lines (Refused (numberOf (g .why)) (countOf (g .why)) (g .at))
+  pub by-rewrite : (room : ℕ) → rewriteReply s room ≡ written.Refused g
+  pub by-change : (old : List ℕ) (n : ℕ) (comment : List ℕ) → n ≤ 65535 → n ≤ length old → take n old ≡ s → changeReply old n comment ≡ written.Refused g
+  pub by-section : (half : Header) → headerAt s ≡ header-read.Header half → sectionReadAt s half ≡ read.Refused g
+  pub by-section-c : (half : Header) → headerAt s ≡ header-read.Header half → sectionC s (headerOf (headerAt s)) .at ≡ g .at
+
+found-place : (s : List ℕ) (g : Fault) → readAt s ≡ read.Refused g → (toldRead (readAt s) .at ≡ g .at) × (foundAt s .at ≡ g .at)
+unfolding toldRead foundAt
+found-place s g e = rw e (refl, refl)
+
+c-place : (s : List ℕ) (g : Fault) → readAt s ≡ read.Refused g → imageOf (formReadAt s) .at ≡ g .at
+unfolding imageOf formReadAt
+c-place s g e = rw e
+
+rewrite-place : (s : List ℕ) (g : Fault) → readAt s ≡ read.Refused g → (room : ℕ) → rewriteReply s room ≡ written.Refused g
+unfolding rewriteReply
+rewrite-place s g e room = rw e
+
+change-place :
+    (s : List ℕ) (g : Fault) → readAt s ≡ read.Refused g → (old : List ℕ) (n : ℕ) (comment : List ℕ) → n ≤ 65535 → n ≤ length old → take n old ≡ s
+    → changeReply old n comment ≡ written.Refused g
+unfolding changeReply
+change-place s g e old n comment small inside same = rw (le-leb n 65535 small, le-leb n (length old) inside, same, e)
+
+-- the section read that goes on from the header's own numbers
+section-c-is :
+    (s : List ℕ) (half : Header) → headerAt s ≡ header-read.Header half
+    → onHeaderRead (headerAt s) (λ f. headerOf (headerAt s)) (λ h. sectionC s (headerOf (headerAt s))) ≡ sectionC s (headerOf (headerAt s))
+section-c-is s half h = rw h
+
+section-c-place :
+    (s : List ℕ) (g : Fault) → readAt s ≡ read.Refused g → (half : Header) → headerAt s ≡ header-read.Header half
+    → sectionC s (headerOf (headerAt s)) .at ≡ g .at
+section-c-place s g e half h = ap (λ (x : Image). x .at) (sym (two-halves-c s ∙ section-c-is s half h)) ∙ c-place s g e
+
+pub handed-up : (s : List ℕ) (g : Fault) → readAt s ≡ read.Refused g → HandedUp s g
+handed-up s g e =
+    record {
+      told = found-place s g e .0;
+      by-record = found-place s g e .1;
+      in-c = c-place s g e;
+      printed = report-refused s g e;
+      by-rewrite = rewrite-place s g e;
+      by-change = change-place s g e;
+      by-section = λ half h. section-own s half h ∙ e;
+      by-section-c = section-c-place s g e;
+    }
+
+-- a header that is refused: the whole read is refused with it, and so is what holds it, in numbers too
+pub header-handed-up :
+    (s : List ℕ) (g : Fault) → headerAt s ≡ header-read.Refused g
+    → (readAt s ≡ read.Refused g) × (toldHeader (headerAt s) .at ≡ g .at) × (headerFoundAt s .at ≡ g .at) × (headerOf (headerAt s) .at ≡ g .at)
+unfolding toldHeader headerFoundAt headerOf
+header-handed-up s g e = (refused-whole s g e, rw e, rw e, rw e)
