@@ -3,7 +3,7 @@
 -- An answer that refuses nothing gives 0 too.
 use Prim.Native.Nat.{ℕ, _-_, _%_, _≤_}
 use native.Mathlib.Omega.{arith}
-use mathlib.Core.Path.{_≡_, refl, sym, _∙_, ap}
+use mathlib.Core.Path.{_≡_, refl, _∙_}
 use mathlib.Core.Bool.{Bool, true, false, cond, _&&_, not}
 use mathlib.Core.List.{List}
 use borrow.Author.Tests.{leb-true}
@@ -14,7 +14,6 @@ use Rattle.fields.specs.Bytes.{both-true}
 use Rattle.fields.specs.Fields.{fault, whole}
 use Rattle.fields.specs.Place.{by-bool}
 use Rattle.fields.specs.Refusals.{numberOf}
-use Rattle.fields.specs.declared.Fault.{Fault}
 use Rattle.fields.specs.declared.Refusal.{Refusal}
 use Rattle.fields.specs.declared.Refusal.the-variants.{Length, FormatEncoding, Crypto, CharacterEncoding, Encrypted, Room, Form, Size}
 use Rattle.names.specs.declared.Algorithm.{Algorithm}

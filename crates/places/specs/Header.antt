@@ -16,9 +16,7 @@ use Rattle.fields.specs.Rest.{Good, view-length}
 use Rattle.fields.specs.Room.{room-fits, room-is, view-in}
 use Rattle.fields.specs.declared.Cursor.{Cursor}
 use Rattle.fields.specs.declared.Fault.{Fault}
-use Rattle.fields.specs.declared.Part.{Part}
 use Rattle.fields.specs.declared.Refusal.the-variants.{AlgorithmUnknown, Size}
-use Rattle.fields.specs.declared.Uint32.the-variants as uint32
 use Rattle.fields.specs.declared.Field.{Field}
 use Rattle.fields.specs.declared.Field.the-variants as field
 use Rattle.names.specs.declared.Kdf.{Kdf}
@@ -37,7 +35,7 @@ use Rattle.header.specs.declared.HeaderRead.the-variants as header-read
 use Rattle.header.specs.Header.{onKdf, magicAt, cipherAt, noneAt, bcryptAt, kdfAt, countAt, blobFieldAt, headerAt}
 use Rattle.header.specs.Place.{by-cipher-name, by-kdf-name, by-blob}
 use Rattle.header.specs.Read.{by-cipher-field, by-kdf-field, by-blob-field}
-use Rattle.places.specs.Fields.{Lies, After, Uint32Lies, FieldLies, lies-after, after-after, good-after, uint32-lies, string-lies, string-in, lies-within, end-lies}
+use Rattle.places.specs.Fields.{Lies, After, Uint32Lies, lies-after, after-after, good-after, uint32-lies, string-lies, string-in, lies-within, end-lies}
 use Rattle.places.specs.Keys.{blob-lies}
 
 -- ---- from the KDF's name on

@@ -2,20 +2,17 @@
 -- number that it belongs to; both lie in the blob or the section that is read.
 use Prim.Native.Nat.{ℕ, _+_, _≤_}
 use native.Mathlib.Omega.{arith}
-use mathlib.Core.Path.{_≡_}
 use mathlib.Core.List.{List, [], _∷_}
 use Rattle.fields.specs.Fields.{stringAt, viewOf}
 use Rattle.fields.specs.Place.{by-field, by-bool, by-ending}
 use Rattle.fields.specs.Rest.{Good}
 use Rattle.fields.specs.declared.Cursor.{Cursor}
-use Rattle.fields.specs.declared.Fault.{Fault}
 use Rattle.fields.specs.declared.Part.{Part}
 use Rattle.fields.specs.declared.Field.{Field}
 use Rattle.fields.specs.declared.Field.the-variants as field
 use Rattle.mpint.specs.Mpint.{isMpint, mpintAt, atMost, modulusSize}
 use Rattle.rsa.specs.declared.Two.{Two}
 use Rattle.rsa.specs.declared.Two.the-variants as two
-use Rattle.rsa.specs.declared.Six.{Six}
 use Rattle.rsa.specs.declared.SixRead.{SixRead}
 use Rattle.rsa.specs.declared.SixRead.the-variants as six
 use Rattle.rsa.specs.declared.RsaPublic.{RsaPublic}

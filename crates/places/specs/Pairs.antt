@@ -9,7 +9,6 @@ use Rattle.fields.specs.Fields.{part, stringAt, fixedAt, viewOf}
 use Rattle.fields.specs.Place.{by-field, by-bool}
 use Rattle.fields.specs.Rest.{Good}
 use Rattle.fields.specs.declared.Cursor.{Cursor}
-use Rattle.fields.specs.declared.Fault.{Fault}
 use Rattle.names.specs.declared.Elliptic.the-variants.{Ed25519, Ecdsa}
 use Rattle.names.specs.declared.Algorithm.{Algorithm}
 use Rattle.names.specs.declared.Algorithm.the-variants.{Elliptic as OnCurve, Rsa}

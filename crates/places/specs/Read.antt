@@ -2,8 +2,8 @@
 -- end. The comment's field of an image that is read is no further either.
 use Prim.Native.Nat.{ℕ, _+_, _-_, _≤_}
 use native.Mathlib.Omega.{arith}
-use mathlib.Core.Path.{_≡_, refl, sym, ap}
-use mathlib.Core.Bool.{true, false}
+use mathlib.Core.Path.{_≡_, sym, ap}
+use mathlib.Core.Bool.{true}
 use mathlib.Core.List.{List}
 use lib.ListN.{length}
 use Rattle.fields.specs.Bytes.{uint32, string}
@@ -11,10 +11,8 @@ use Rattle.fields.specs.Fields.{fault}
 use Rattle.fields.specs.Place.{by-bool}
 use Rattle.fields.specs.Rest.{Good}
 use Rattle.fields.specs.declared.Cursor.{Cursor}
-use Rattle.fields.specs.declared.Fault.{Fault}
 use Rattle.fields.specs.declared.Refusal.the-variants.{Crypto}
 use Rattle.names.specs.declared.Cipher.{Cipher}
-use Rattle.names.specs.declared.Cipher.the-variants as cipher
 use Rattle.names.specs.declared.Kdf.{Kdf}
 use Rattle.names.specs.declared.Kdf.the-variants as kdf
 use Rattle.names.specs.Ciphers.{isNone, cipherName, none-only}

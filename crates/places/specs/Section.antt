@@ -1,6 +1,6 @@
 -- Document 02, request Three: where a section refuses, plain or encrypted. The place lies in what is read, or at its end. The comment of a
 -- section that is read has its field there too.
-use Prim.Native.Nat.{ℕ, _+_, _-_, _%_, _≤_}
+use Prim.Native.Nat.{ℕ, _-_, _%_, _≤_}
 use native.Mathlib.Omega.{arith}
 use mathlib.Core.List.{List}
 use lib.Dec.{eqb, ltb}
@@ -10,7 +10,6 @@ use Rattle.fields.specs.Fields.{part, within, uint32At, bytesAt, stringAt, endA
 use Rattle.fields.specs.Place.{by-uint32, by-field, by-ending, by-bool}
 use Rattle.fields.specs.Rest.{Good}
 use Rattle.fields.specs.declared.Cursor.{Cursor}
-use Rattle.fields.specs.declared.Fault.{Fault}
 use Rattle.fields.specs.declared.Part.{Part}
 use Rattle.names.specs.declared.Algorithm.{Algorithm}
 use Rattle.names.specs.declared.Cipher.{Cipher}

@@ -1,4 +1,5 @@
--- Read, then an accessor: the answer is that part of the caller's own image, in its bytes and by its pointer.
+-- Read, then an accessor: the answer is that part of the caller's own image, in its bytes and by its pointer. Two halves read one after the other are
+-- the full read. What is refused is told with the refusal's number, count and place.
 use Prim.Native.Nat.{ℕ, _+_, _≤_}
 use native.Mathlib.Nat.{add-zero}
 use native.Mathlib.Omega.{arith}
@@ -18,8 +19,9 @@ use Rattle.fields.specs.declared.Fault.{Fault}
 use Rattle.fields.specs.declared.Refusal.{Refusal}
 use Rattle.fields.specs.declared.Refusal.the-variants.{Length, FormatEncoding, Crypto, AlgorithmUnknown, PublicKey, TrailingData, CharacterEncoding, Encrypted, Room, Form, Size}
 use Rattle.container.specs.declared.Fields.{Fields}
+use Rattle.container.specs.declared.ImageRead.{ImageRead}
 use Rattle.container.specs.declared.ImageRead.the-variants as read
-use Rattle.container.specs.Container.{readAt, noFields, toldRead}
+use Rattle.container.specs.Container.{readAt, sectionReadAt, noFields, toldRead}
 use Rattle.container.specs.FormLaws.{by-read}
 use Rattle.header.specs.declared.Header.{Header}
 use Rattle.header.specs.declared.HeaderRead.the-variants as header-read
@@ -100,13 +102,6 @@ found-none : (s : List ℕ) (g : Fault) → readAt s ≡ read.Refused g → (fou
 unfolding foundAt toldRead
 found-none s g e = rw e (refl, never-zero (g .why))
 
--- a refused image's reply has the refusal's number, count and place
-pub refused-told :
-    (image over : RefT (List ℕ)) (number count at : ℕ) (fields : Fields) (g : Fault) → isReply number count at over fields image
-    → readAt (now image) ≡ read.Refused g → (number ≡ numberOf (g .why)) × (count ≡ countOf (g .why)) × (at ≡ g .at)
-unfolding foundAt toldRead
-refused-told image over number count at fields g r e = (r .0 ∙ rw e, r .1 ∙ rw e, r .2 ∙ rw e)
-
 found-zero : (s : List ℕ) (f : Fields) → readAt s ≡ read.Record f → foundAt s .number ≡ 0
 unfolding foundAt toldRead
 found-zero s f e = rw e
@@ -158,3 +153,34 @@ header-then-section image over v n c a m d b half fields h accepted r =
       r .3 ∙ ap (λ (f : Found). f .fields) found,
       held-view image over v (headerFoundAt (now image) .number) p zero (h .4) w,
     )
+
+-- ---- a refused read's reply has the refusal's number, count and place: of an image, of a section, of a header
+
+abbrev pub Told : Fault → ℕ → ℕ → ℕ → Type 0
+Told g number count at = (number ≡ numberOf (g .why)) × (count ≡ countOf (g .why)) × (at ≡ g .at)
+
+found-told : (r : ImageRead) (g : Fault) → r ≡ read.Refused g → Told g (foundOf r .number) (foundOf r .count) (foundOf r .at)
+unfolding toldRead
+found-told r g e = rw e (refl, refl, refl)
+
+pub refused-told :
+    (image over : RefT (List ℕ)) (number count at : ℕ) (fields : Fields) (g : Fault) → isReply number count at over fields image
+    → readAt (now image) ≡ read.Refused g → Told g number count at
+unfolding foundAt
+refused-told image over number count at fields g r e =
+    let k = found-told (readAt (now image)) g e in
+    (r .0 ∙ k .0, r .1 ∙ k .1, r .2 ∙ k .2)
+
+pub section-refused-told :
+    (image over : RefT (List ℕ)) (number count at : ℕ) (fields : Fields) (half : Header) (g : Fault)
+    → isSectionReply number count at over fields image half → sectionReadAt (now image) half ≡ read.Refused g → Told g number count at
+unfolding sectionFoundAt
+section-refused-told image over number count at fields half g r e =
+    let k = found-told (sectionReadAt (now image) half) g e in
+    (r .0 ∙ k .0, r .1 ∙ k .1, r .2 ∙ k .2)
+
+pub header-refused-told :
+    (image over : RefT (List ℕ)) (number count at : ℕ) (half : Header) (g : Fault) → isHeaderReply number count at over half image
+    → headerAt (now image) ≡ header-read.Refused g → Told g number count at
+unfolding headerFoundAt toldHeader
+header-refused-told image over number count at half g r e = (r .0 ∙ rw e, r .1 ∙ rw e, r .2 ∙ rw e)
