@@ -15,18 +15,20 @@ use Rattle.fields.specs.declared.Refusal.the-variants.{Length}
 use Rattle.header.specs.declared.Header.{Header}
 use Rattle.header.specs.declared.HeaderRead.the-variants as header-read
 use Rattle.header.specs.Header.{onHeaderRead, headerAt, toldHeader}
-use Rattle.halves.specs.Halves.{isHeader, passes-header}
+use Rattle.halves.specs.Halves.{isHeader, by-header, passes-header}
+use Rattle.container.specs.declared.ImageRead.{ImageRead}
 use Rattle.container.specs.declared.ImageRead.the-variants as read
 use Rattle.container.specs.Container.{readAt, sectionReadAt, toldRead}
-use Rattle.container.specs.Form.{formReadAt}
+use Rattle.container.specs.Form.{withForm, formReadAt, sectionFormAt}
 use Rattle.container.specs.Halves.{section-own}
 use Rattle.found.specs.Found.{foundAt, headerFoundAt}
 use Rattle.reply.specs.declared.Written.the-variants as written
 use Rattle.writer.specs.Rewrite.{rewriteReply}
 use Rattle.comment.specs.Change.{changeReply}
 use Rattle.report.specs.Report.{Refused, lines, reportOf}
-use Rattle.numbers.specs.Numbers.{imageOf, headerOf}
+use Rattle.numbers.specs.Numbers.{halfImage, imageOf, headerOf}
 use Rattle.numbers.specs.declared.Image.{Image}
+use Rattle.handed.specs.Handed.{sameImage}
 use Rattle.saltorchard.specs.Interface.{sectionC}
 use Rattle.places.specs.Header.{aboutWhole}
 use Rattle.places.specs.Read.{read-said}
@@ -64,6 +66,36 @@ section-place-within s half g e =
     by-bool (isHeader s half)
     (λ w. place-within s g (sym (section-own s half (passes-header s half w)) ∙ e))
     (λ w. let z : 0 ≡ g .at = forged-at s half g w e in omega (arith, z))
+
+-- ---- in C's numbers, for every image, and for every header that is handed to the section read; an accepted one's place is 0
+
+read-place-c : (s : List ℕ) (r : ImageRead) → ((g : Fault) → r ≡ read.Refused g → g .at ≤ length s) → imageOf (withForm s r) .at ≤ length s
+unfolding imageOf
+read-place-c s (read.Refused g) within = within g refl
+read-place-c s (read.Record f) within = omega arith
+
+header-place-c : (s : List ℕ) → headerOf (headerAt s) .at ≤ length s
+unfolding headerOf
+header-place-c s =
+    by-header (headerAt s)
+    (λ g e. rw e (header-place-within s g e))
+    (λ h e. rw e (omega arith))
+
+section-place-c : (s : List ℕ) (x : Image) → sectionC s x .at ≤ length s
+unfolding sectionC sectionFormAt
+section-place-c s x =
+    by-header (headerAt s)
+    (λ g e. rw e (omega arith))
+    (λ h e.
+    rw e
+    (by-bool (sameImage x (halfImage h))
+    (λ w. rw w (read-place-c s (sectionReadAt s h) (section-place-within s h)))
+    (λ w. rw w (omega arith))))
+
+pub place-within-c :
+    (s : List ℕ) (x : Image) → (imageOf (formReadAt s) .at ≤ length s) × (headerOf (headerAt s) .at ≤ length s) × (sectionC s x .at ≤ length s)
+unfolding formReadAt
+place-within-c s x = (read-place-c s (readAt s) (place-within s), header-place-c s, section-place-c s x)
 
 -- ---- all hand it up
 
