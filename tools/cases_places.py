@@ -1,4 +1,4 @@
-"""One image for each condition of the reader's rules, made by changing one thing in a good image, with the field to which the
+"""One image for each condition of the reader's rules, made from a good image but for the first, with the field to which the
 condition belongs and the place that this gives: the rows of docs/CONTRACTS.md's table 'Where each refusal is: the reader's
 conditions', in the order of reading. check_places.py holds the table to them.
 

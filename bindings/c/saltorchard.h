@@ -63,8 +63,9 @@ enum {
 /* A part of the image that was read: its bytes are image[start] to image[start + length - 1], without length bytes. */
 typedef struct { uint64_t start, length; } saltorchard_part;
 
-/* What a read answers. `at` is the byte at which the failing field began, its length bytes included, or the first byte left over; 0
- * where the refusal is about the whole image. It is never past the image's end. Of a refused image every field after `at` is 0. */
+/* What a read answers. `at` is the byte at which the failing field began, its length bytes included; of bytes left over the first; of a
+ * section whose length isn't a multiple of 8 its first content byte; 0 where the refusal is about the whole image. It is never past the
+ * image's end. Of a refused image every field after `at` is 0. */
 typedef struct {
     uint64_t number, count, at;            /* the refusal; 0 0 0 where accepted */
     uint64_t kind;                         /* 0 refused, 1 plain, 2 encrypted, 3 a header alone */

@@ -6,7 +6,7 @@ use crate::c;
 use crate::{Field, MAX_IMAGE_LEN};
 
 /// A refusal: its number, how many bytes are left over where that is the reason, the field that it is about, and the byte of the
-/// image at which that field began. Its `Display` is a sentence that says all this; no byte of the image stands in it.
+/// image at which that field began. Its `Display` is a sentence that says what of this applies; no byte of the image stands in it.
 ///
 /// | number | [`name`](Error::name) | meaning |
 /// |---|---|---|
@@ -95,9 +95,10 @@ impl Error {
         Self::new(number, 0, 0, Field::Image)
     }
 
-    /// The length that was written of what was handed in, or the refusal.
+    /// The length that was written of what was handed in, or the refusal. Size and room are the image's that it would be.
     pub(crate) fn written(reply: c::Reply) -> Result<usize, Self> {
-        Self::answered(reply, Field::HandedIn)
+        let of_the_image = matches!(reply.number, 9 | 11);
+        Self::answered(reply, if of_the_image { Field::Image } else { Field::HandedIn })
     }
 
     /// The length that was written of `image`, or the refusal.

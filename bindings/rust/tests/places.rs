@@ -2,8 +2,8 @@
 
 use saltorchard::Image;
 
-/// The lines of the list, at the least.
-const LEAST: usize = 60;
+/// The lines of the list: a condition each.
+const CONDITIONS: usize = 92;
 
 fn list() -> String {
     let path = concat!(env!("CARGO_MANIFEST_DIR"), "/tests/data/places");
@@ -41,5 +41,5 @@ fn each_condition() {
     }
     let lines = list.lines().count();
     println!("places: {} conditions", lines);
-    assert!(lines >= LEAST, "only {} lines of {}", lines, LEAST);
+    assert_eq!(lines, CONDITIONS);
 }

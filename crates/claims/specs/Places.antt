@@ -21,12 +21,12 @@ use Rattle.container.specs.declared.ImageRead.the-variants as read
 use Rattle.container.specs.Container.{readAt, sectionReadAt, toldRead}
 use Rattle.container.specs.Form.{withForm, formReadAt, sectionFormAt}
 use Rattle.container.specs.Halves.{section-own}
-use Rattle.found.specs.Found.{foundAt, headerFoundAt}
+use Rattle.found.specs.Found.{foundAt, headerFoundAt, Tells}
 use Rattle.reply.specs.declared.Written.the-variants as written
 use Rattle.writer.specs.Rewrite.{rewriteReply}
 use Rattle.comment.specs.Change.{changeReply}
 use Rattle.report.specs.Report.{Refused, lines, reportOf}
-use Rattle.numbers.specs.Numbers.{halfImage, imageOf, headerOf}
+use Rattle.numbers.specs.Numbers.{refusedImage, halfImage, imageOf, headerOf}
 use Rattle.numbers.specs.declared.Image.{Image}
 use Rattle.handed.specs.Handed.{sameImage}
 use Rattle.saltorchard.specs.Interface.{sectionC}
@@ -99,34 +99,38 @@ place-within-c s x = (read-place-c s (readAt s) (place-within s), header-place-c
 
 -- ---- all hand it up
 
--- what each answers to an image whose read is refused with g
+-- what each answers to an image whose read is refused with g: the reader and what a record's reply is made of tell its number, count and place; C's
+-- numbers have them, and no field; it is printed; and the others answer the refusal itself
 pub record HandedUp (s : List ℕ) (g : Fault) : Type 0 where
-  pub told : toldRead (readAt s) .at ≡ g .at
-  pub by-record : foundAt s .at ≡ g .at
-  pub in-c : imageOf (formReadAt s) .at ≡ g .at
+  pub told : Tells g (toldRead (readAt s) .number) (toldRead (readAt s) .count) (toldRead (readAt s) .at)
+  pub found : Tells g (foundAt s .number) (foundAt s .count) (foundAt s .at)
+  pub in-c : imageOf (formReadAt s) ≡ refusedImage g
   pub printed : reportOf s ≡ lines (Refused (numberOf (g .why)) (countOf (g .why)) (g .at))
   pub by-rewrite : (room : ℕ) → rewriteReply s room ≡ written.Refused g
   pub by-change : (old : List ℕ) (n : ℕ) (comment : List ℕ) → n ≤ 65535 → n ≤ length old → take n old ≡ s → changeReply old n comment ≡ written.Refused g
   pub by-section : (half : Header) → headerAt s ≡ header-read.Header half → sectionReadAt s half ≡ read.Refused g
-  pub by-section-c : (half : Header) → headerAt s ≡ header-read.Header half → sectionC s (headerOf (headerAt s)) .at ≡ g .at
+  pub by-section-c : (half : Header) → headerAt s ≡ header-read.Header half → sectionC s (headerOf (headerAt s)) ≡ refusedImage g
 
-found-place : (s : List ℕ) (g : Fault) → readAt s ≡ read.Refused g → (toldRead (readAt s) .at ≡ g .at) × (foundAt s .at ≡ g .at)
+found-told :
+    (s : List ℕ) (g : Fault) → readAt s ≡ read.Refused g
+    → Tells g (toldRead (readAt s) .number) (toldRead (readAt s) .count) (toldRead (readAt s) .at)
+    × Tells g (foundAt s .number) (foundAt s .count) (foundAt s .at)
 unfolding toldRead foundAt
-found-place s g e = rw e (refl, refl)
+found-told s g e = rw e ((refl, refl, refl), (refl, refl, refl))
 
-c-place : (s : List ℕ) (g : Fault) → readAt s ≡ read.Refused g → imageOf (formReadAt s) .at ≡ g .at
+read-c : (s : List ℕ) (g : Fault) → readAt s ≡ read.Refused g → imageOf (formReadAt s) ≡ refusedImage g
 unfolding imageOf formReadAt
-c-place s g e = rw e
+read-c s g e = rw e
 
-rewrite-place : (s : List ℕ) (g : Fault) → readAt s ≡ read.Refused g → (room : ℕ) → rewriteReply s room ≡ written.Refused g
+rewrite-refused : (s : List ℕ) (g : Fault) → readAt s ≡ read.Refused g → (room : ℕ) → rewriteReply s room ≡ written.Refused g
 unfolding rewriteReply
-rewrite-place s g e room = rw e
+rewrite-refused s g e room = rw e
 
-change-place :
+change-refused :
     (s : List ℕ) (g : Fault) → readAt s ≡ read.Refused g → (old : List ℕ) (n : ℕ) (comment : List ℕ) → n ≤ 65535 → n ≤ length old → take n old ≡ s
     → changeReply old n comment ≡ written.Refused g
 unfolding changeReply
-change-place s g e old n comment small inside same = rw (le-leb n 65535 small, le-leb n (length old) inside, same, e)
+change-refused s g e old n comment small inside same = rw (le-leb n 65535 small, le-leb n (length old) inside, same, e)
 
 -- the section read that goes on from the header's own numbers
 section-c-is :
@@ -134,27 +138,26 @@ section-c-is :
     → onHeaderRead (headerAt s) (λ f. headerOf (headerAt s)) (λ h. sectionC s (headerOf (headerAt s))) ≡ sectionC s (headerOf (headerAt s))
 section-c-is s half h = rw h
 
-section-c-place :
-    (s : List ℕ) (g : Fault) → readAt s ≡ read.Refused g → (half : Header) → headerAt s ≡ header-read.Header half
-    → sectionC s (headerOf (headerAt s)) .at ≡ g .at
-section-c-place s g e half h = ap (λ (x : Image). x .at) (sym (two-halves-c s ∙ section-c-is s half h)) ∙ c-place s g e
+section-c : (s : List ℕ) (g : Fault) → readAt s ≡ read.Refused g → (half : Header) → headerAt s ≡ header-read.Header half → sectionC s (headerOf (headerAt s)) ≡ refusedImage g
+section-c s g e half h = sym (two-halves-c s ∙ section-c-is s half h) ∙ read-c s g e
 
 pub handed-up : (s : List ℕ) (g : Fault) → readAt s ≡ read.Refused g → HandedUp s g
 handed-up s g e =
     record {
-      told = found-place s g e .0;
-      by-record = found-place s g e .1;
-      in-c = c-place s g e;
+      told = found-told s g e .0;
+      found = found-told s g e .1;
+      in-c = read-c s g e;
       printed = report-refused s g e;
-      by-rewrite = rewrite-place s g e;
-      by-change = change-place s g e;
+      by-rewrite = rewrite-refused s g e;
+      by-change = change-refused s g e;
       by-section = λ half h. section-own s half h ∙ e;
-      by-section-c = section-c-place s g e;
+      by-section-c = section-c s g e;
     }
 
--- a header that is refused: the whole read is refused with it, and so is what holds it, in numbers too
+-- a header that is refused: the whole read is refused with it, a header's reply tells it, and C's numbers have it and no field
 pub header-handed-up :
     (s : List ℕ) (g : Fault) → headerAt s ≡ header-read.Refused g
-    → (readAt s ≡ read.Refused g) × (toldHeader (headerAt s) .at ≡ g .at) × (headerFoundAt s .at ≡ g .at) × (headerOf (headerAt s) .at ≡ g .at)
+    → (readAt s ≡ read.Refused g) × Tells g (headerFoundAt s .number) (headerFoundAt s .count) (headerFoundAt s .at)
+    × (headerOf (headerAt s) ≡ refusedImage g)
 unfolding toldHeader headerFoundAt headerOf
-header-handed-up s g e = (refused-whole s g e, rw e, rw e, rw e)
+header-handed-up s g e = (refused-whole s g e, (rw e, rw e, rw e), rw e)

@@ -1,11 +1,14 @@
 -- Document 01, 'Reply numbers': each refusal returns its number, a count that is 0 except for number 6, and an empty record, over no
 -- bytes and with no field.
 use Prim.Native.Nat.{ℕ}
+use mathlib.Core.Path.{_≡_}
 use mathlib.Core.Bool.{cond}
 use mathlib.Core.List.{List}
 use lib.Dec.{eqb}
 use lib.ListN.{length}
 use Rattle.fields.specs.Fields.{part, absent}
+use Rattle.fields.specs.Refusals.{numberOf, countOf}
+use Rattle.fields.specs.declared.Fault.{Fault}
 use Rattle.fields.specs.declared.Part.{Part}
 use Rattle.header.specs.declared.Header.{Header}
 use Rattle.header.specs.Header.{headerAt, toldHeader}
@@ -32,6 +35,10 @@ headerFoundAt s =
       at = toldHeader (headerAt s) .at;
       half = toldHeader (headerAt s) .header;
     }
+
+-- number, count and place are those of a refusal
+abbrev pub Tells : Fault → ℕ → ℕ → ℕ → Type 0
+Tells g number count at = (number ≡ numberOf (g .why)) × (count ≡ countOf (g .why)) × (at ≡ g .at)
 
 -- the bytes that the record or the half holds: the image itself, or none
 unfoldable pub heldPart : List ℕ → ℕ → Part

@@ -1,5 +1,5 @@
--- Document 02, request Three: where a section refuses, plain or encrypted. The place lies in what is read, or at its end. The comment of a
--- section that is read has its field there too.
+-- Document 02, request Three: where a section refuses, plain or encrypted. The place lies in what is read, or at its end. The comment's
+-- field of a section that is read begins no later than that end.
 use Prim.Native.Nat.{ℕ, _-_, _%_, _≤_}
 use native.Mathlib.Omega.{arith}
 use mathlib.Core.List.{List}
@@ -27,7 +27,7 @@ use Rattle.section.specs.Read.{by-keypair, by-entry, by-section}
 use Rattle.places.specs.Fields.{Lies, After, Uint32Lies, EndingLies, lies-after, after-after, good-after, uint32-lies, bytes-lies, string-lies, string-in, lies-within, end-lies}
 use Rattle.places.specs.Pairs.{keypair-lies}
 
--- a comment's field, its length bytes included, ends no later than what is read at c
+-- a comment's field, its length bytes included, begins no later than the end of what is read at c
 abbrev Commented : Cursor → Part → Type 0
 Commented c m = m .start - 4 ≤ c .end
 

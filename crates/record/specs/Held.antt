@@ -13,7 +13,7 @@ use lib.Seq.{take-all}
 use denote.Ref.{RefT, now}
 use Rattle.fields.specs.Fields.{part, absent, viewOf, viewStart, isView}
 use Rattle.fields.specs.Room.{view-in, start-in}
-use Rattle.fields.specs.Refusals.{numberOf, countOf}
+use Rattle.fields.specs.Refusals.{numberOf}
 use Rattle.fields.specs.declared.Part.{Part}
 use Rattle.fields.specs.declared.Fault.{Fault}
 use Rattle.fields.specs.declared.Refusal.{Refusal}
@@ -29,7 +29,7 @@ use Rattle.header.specs.Header.{headerAt, toldHeader}
 use Rattle.halves.specs.Halves.{by-header}
 use Rattle.container.specs.Halves.{section-own}
 use Rattle.found.specs.declared.Found.{Found}
-use Rattle.found.specs.Found.{foundOf, foundAt, sectionFoundAt, headerFoundAt, heldPart}
+use Rattle.found.specs.Found.{foundOf, foundAt, sectionFoundAt, headerFoundAt, Tells, heldPart}
 use Rattle.fields.specs.Place.{clash}
 use Rattle.record.specs.Reply.{isReply, isSectionReply, isHeaderReply}
 
@@ -156,16 +156,13 @@ header-then-section image over v n c a m d b half fields h accepted r =
 
 -- ---- a refused read's reply has the refusal's number, count and place: of an image, of a section, of a header
 
-abbrev pub Told : Fault → ℕ → ℕ → ℕ → Type 0
-Told g number count at = (number ≡ numberOf (g .why)) × (count ≡ countOf (g .why)) × (at ≡ g .at)
-
-found-told : (r : ImageRead) (g : Fault) → r ≡ read.Refused g → Told g (foundOf r .number) (foundOf r .count) (foundOf r .at)
+found-told : (r : ImageRead) (g : Fault) → r ≡ read.Refused g → Tells g (foundOf r .number) (foundOf r .count) (foundOf r .at)
 unfolding toldRead
 found-told r g e = rw e (refl, refl, refl)
 
 pub refused-told :
     (image over : RefT (List ℕ)) (number count at : ℕ) (fields : Fields) (g : Fault) → isReply number count at over fields image
-    → readAt (now image) ≡ read.Refused g → Told g number count at
+    → readAt (now image) ≡ read.Refused g → Tells g number count at
 unfolding foundAt
 refused-told image over number count at fields g r e =
     let k = found-told (readAt (now image)) g e in
@@ -173,7 +170,7 @@ refused-told image over number count at fields g r e =
 
 pub section-refused-told :
     (image over : RefT (List ℕ)) (number count at : ℕ) (fields : Fields) (half : Header) (g : Fault)
-    → isSectionReply number count at over fields image half → sectionReadAt (now image) half ≡ read.Refused g → Told g number count at
+    → isSectionReply number count at over fields image half → sectionReadAt (now image) half ≡ read.Refused g → Tells g number count at
 unfolding sectionFoundAt
 section-refused-told image over number count at fields half g r e =
     let k = found-told (sectionReadAt (now image) half) g e in
@@ -181,6 +178,6 @@ section-refused-told image over number count at fields half g r e =
 
 pub header-refused-told :
     (image over : RefT (List ℕ)) (number count at : ℕ) (half : Header) (g : Fault) → isHeaderReply number count at over half image
-    → headerAt (now image) ≡ header-read.Refused g → Told g number count at
+    → headerAt (now image) ≡ header-read.Refused g → Tells g number count at
 unfolding headerFoundAt toldHeader
 header-refused-told image over number count at half g r e = (r .0 ∙ rw e, r .1 ∙ rw e, r .2 ∙ rw e)

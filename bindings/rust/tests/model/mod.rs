@@ -369,13 +369,13 @@ fn read_pair(section: &mut Reader, record: &mut Record) -> Result<Public, Refusa
 fn read_rsa_pair(section: &mut Reader, record: &mut Record) -> Result<Public, Refusal> {
     let modulus = section.mpint(IN_THE_SECTION.n)?;
     let exponent = section.mpint(IN_THE_SECTION.e)?;
-    record.d = section.mpint("d's string")?;
-    record.iqmp = section.mpint("iqmp's string")?;
-    record.p = section.mpint("p's string")?;
-    record.q = section.mpint("q's string")?;
+    let [d, iqmp, p, q] = ["d's string", "iqmp's string", "p's string", "q's string"];
+    record.d = section.mpint(d)?;
+    record.iqmp = section.mpint(iqmp)?;
+    record.p = section.mpint(p)?;
+    record.q = section.mpint(q)?;
     let numbers = [&modulus, &exponent, &record.d, &record.iqmp, &record.p, &record.q];
-    let words = [IN_THE_SECTION.n, IN_THE_SECTION.e, "d's string", "iqmp's string", "p's string", "q's string"];
-    check_sizes(&numbers, &words, 0)?;
+    check_sizes(&numbers, &[IN_THE_SECTION.n, IN_THE_SECTION.e, d, iqmp, p, q], 0)?;
     Ok(Public { algorithm: RSA, modulus, exponent, ..Public::default() })
 }
 
@@ -639,12 +639,12 @@ fn commented(record: &Record, comment: &[u8]) -> Vec<u8> {
 }
 
 /// Stores an image that was made of what these are the words for.
-fn store(image: &[u8], out: &mut [u8], words: &'static str) -> Result<usize, Refusal> {
+fn store(image: &[u8], out: &mut [u8]) -> Result<usize, Refusal> {
     if image.len() > LIMIT {
-        return refuse(11, 0, words);
+        return refuse(11, 0, IMAGE);
     }
     if image.len() > out.len() {
-        return refuse(9, 0, words);
+        return refuse(9, 0, IMAGE);
     }
     out[..image.len()].copy_from_slice(image);
     Ok(image.len())
@@ -687,7 +687,7 @@ pub fn write_plain(
         return refuse(7, 0, HANDED_IN);
     }
     let checkint = if derive == 0 { checkint } else { derived_checkint(private) };
-    store(&plain_image(algorithm, public, private, checkint, comment), out, HANDED_IN)
+    store(&plain_image(algorithm, public, private, checkint, comment), out)
 }
 
 /// Writes a plain image of an RSA key: n, e, d, iqmp, p, q; `derive` other than 0 derives the checkint.
@@ -709,7 +709,7 @@ pub fn write_rsa(
     }
     let [_, _, d, ..] = numbers;
     let checkint = if derive == 0 { checkint } else { derived_checkint(d) };
-    store(&rsa_image(numbers, checkint, comment), out, HANDED_IN)
+    store(&rsa_image(numbers, checkint, comment), out)
 }
 
 /// Writes an encrypted image.
@@ -741,12 +741,12 @@ pub fn write_encrypted(
     if tag.len() != tag_length {
         return refuse(1, 0, HANDED_IN);
     }
-    store(&encrypted_image((cipher, kdf), (salt, rounds), blob, ciphertext, tag), out, HANDED_IN)
+    store(&encrypted_image((cipher, kdf), (salt, rounds), blob, ciphertext, tag), out)
 }
 
 /// Writes an image's record again.
 pub fn rewrite(image: &[u8], out: &mut [u8]) -> Result<usize, Refusal> {
-    store(&written(&read(image)?), out, IMAGE)
+    store(&written(&read(image)?), out)
 }
 
 /// Changes the comment of the image that the first `n` bytes of the buffer are; old bytes past the new end become zero.
@@ -767,7 +767,7 @@ pub fn change_comment(buffer: &mut [u8], n: usize, comment: &[u8]) -> Result<usi
     if std::str::from_utf8(comment).is_err() {
         return refuse(7, record.comment.start as usize - 4, "the comment's string");
     }
-    let length = store(&commented(&record, comment), buffer, IMAGE)?;
+    let length = store(&commented(&record, comment), buffer)?;
     if length < n {
         buffer[length..n].fill(0);
     }
