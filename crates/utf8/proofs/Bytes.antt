@@ -1,6 +1,5 @@
 -- What one byte of a text does. Within a character it lies in its range and leaves the ranges after it (`passes`), or the text is not
--- UTF-8 (`stops`). The first byte of a character leaves the rest of its row, and an ASCII byte leaves nothing.
--- Rests on the definitions of `utf8From` and `liesAt`, and on `ascii-next`.
+-- UTF-8 (`stops`). The first byte of a character leaves the rest of its row. Rests on the definitions of `utf8From` and `liesAt`.
 use Prim.Native.Nat.{ℕ, zero, suc, _+_, _<_}
 use native.Mathlib.Numerals.{add-one}
 use native.Mathlib.Omega.{arith}
@@ -10,7 +9,6 @@ use mathlib.Core.Bool.{true, false, _&&_, false≢true}
 use lib.ListN.{length, getD, drop}
 use lib.Seq.{drop-cons, drop-drop}
 use Rattle.utf8.specs.Utf8.{Range, Row, UTF8-char, rest, utf8From, utf8}
-use Rattle.utf8.specs.Laws.{ascii-next}
 use Rattle.utf8.specs.Steps.{begins, liesAt}
 
 one-more : (range : Range) (more : Row) (t : List ℕ) → utf8From (range ∷ more) t ≡ begins range t && utf8From more (drop 1 t)
@@ -38,6 +36,3 @@ module _ (t : List ℕ) (at : ℕ) (h : at < length t) where
   pub first-byte : (left : Row) → left ≡ rest (getD t at 0) UTF8-char → utf8From left (drop (at + 1) t) ≡ utf8 (drop at t)
   unfolding utf8 utf8From
   first-byte left e = rw (e, add-one at, drop-cons t at 0 h)
-
-  pub ascii-byte : getD t at 0 < 0x80 → utf8 (drop (at + 1) t) ≡ utf8 (drop at t)
-  ascii-byte k = rw (add-one at, drop-cons t at 0 h, ascii-next (getD t at 0) (drop (suc at) t) k)

@@ -1,13 +1,25 @@
--- What the functions of the check answer on the way: a byte at a place, what is left of a character, and where it ends.
-use Prim.Native.Nat.{ℕ, _≤_}
+-- What the functions of the check answer on the way: how far ASCII goes, a byte at a place, what is left of a character, and where it ends.
+use Prim.Native.Nat.{ℕ, zero, suc, _+_, _*_, _≤_}
 use mathlib.Core.Path.{_≡_}
 use mathlib.Core.List.{List, [], _∷_}
-use mathlib.Core.Bool.{Bool, false}
+use mathlib.Core.Bool.{Bool, false, cond}
+use lib.Dec.{ltb}
 use lib.ListN.{length, drop, replicate}
 use Rattle.utf8.specs.declared.Rest.{Rest}
 use Rattle.utf8.specs.declared.Found.{Found}
 use Rattle.utf8.specs.declared.Found.the-variants.{End, Nothing}
 use Rattle.utf8.specs.Utf8.{Range, _to_, Row, UTF8-tail, lies, utf8From, utf8}
+
+-- how many bytes at the beginning of the text are ASCII, up to the first that is not
+unfoldable pub asciiRun : List ℕ → ℕ
+asciiRun [] = 0
+asciiRun (b ∷ t) = cond (ltb b 0x80) (suc (asciiRun t)) 0
+
+-- the top bits of the first n bytes of the text, in a number whose lowest byte is the first of them
+unfoldable pub topBits : ℕ → List ℕ → ℕ
+topBits zero t = 0
+topBits (suc n) [] = 0
+topBits (suc n) (b ∷ t) = topBits n t * 256 + cond (ltb b 0x80) 0 0x80
 
 -- the text begins with a byte of the range
 abbrev pub begins : Range → List ℕ → Bool

@@ -1,8 +1,9 @@
 // Is a text UTF-8 (RFC 3629)?
 ghost use mathlib.Core.Path.{_≡_};
-ghost use Prim.Native.Nat.{_≤_};
+ghost use Prim.Native.Nat.{_+_, _≤_, _<_, min};
+ghost use lib.ListN.{length, drop};
 ghost use Rattle.utf8.specs.Utf8.{_to_, UTF8-char, rest, utf8};
-ghost use Rattle.utf8.specs.Steps.{liesAt, ranges, Ends};
+ghost use Rattle.utf8.specs.Steps.{asciiRun, topBits, liesAt, ranges, Ends};
 
 // What is left of a character after its first byte: a byte from .0 to .1, and then .2 bytes from 0x80 to 0xBF.
 struct Rest(u8, u8, u8);
@@ -14,16 +15,25 @@ enum Found {
 }
 
 // What is left of the character that a byte other than ASCII begins. Where it begins none, no byte lies from 1 to 0.
+// By the character's length first: most characters of a text that isn't ASCII have the same, so the processor guesses the way.
 fn rest_of(lead: u8) -> Rest
     requires { ⌜ 0x80 ≤ lead ⌝ }
     ensures { λ r. ⌜ ranges r ≡ rest lead UTF8-char ⌝ }
 {
+    if lead < 0xE0 {
+        if lead < 0xC2 {
+            return Rest(1, 0, 0);
+        }
+        return Rest(0x80, 0xBF, 0);
+    }
+    if lead < 0xF0 {
+        return match lead {
+            0xE0 => Rest(0xA0, 0xBF, 1),
+            0xED => Rest(0x80, 0x9F, 1),
+            _ => Rest(0x80, 0xBF, 1),
+        };
+    }
     match lead {
-        0xC2..=0xDF => Rest(0x80, 0xBF, 0),
-        0xE0 => Rest(0xA0, 0xBF, 1),
-        0xE1..=0xEC => Rest(0x80, 0xBF, 1),
-        0xED => Rest(0x80, 0x9F, 1),
-        0xEE..=0xEF => Rest(0x80, 0xBF, 1),
         0xF0 => Rest(0x90, 0xBF, 2),
         0xF1..=0xF3 => Rest(0x80, 0xBF, 2),
         0xF4 => Rest(0x80, 0x8F, 2),
@@ -68,7 +78,89 @@ fn end_of(text: &[u8], from: usize, left: Rest) -> Found
     Found::Nothing
 }
 
-// Is the text UTF-8? ASCII passes a byte at a time, anything else a character at a time.
+// A byte as a number of 64 bits.
+fn wide(x: u8) -> u64
+    ensures { λ r. ⌜ (r ≡ x) × (r < 256) ⌝ }
+{
+    x as u64
+}
+
+// The top bits of the eight bytes at the place, in a number whose lowest byte is the first of them. Compiled, the loop is one load.
+fn top_bits(text: &[u8], at: usize) -> u64
+    requires { ⌜ at + 8 ≤ length (now text) ⌝ }
+    ensures { λ r. ⌜ r ≡ topBits 8 (drop at (now (text .entry))) ⌝ }
+{
+    let mut number: u64 = 0;
+    let mut k: usize = 8;
+    while 0 < k {
+        k -= 1;
+        number = number * 256 + wide(text[at + k]);
+    }
+    number & 0x8080808080808080
+}
+
+// How many of the eight bytes at the place are ASCII, up to the first that is not. Below the lowest top bit that is set stand eight zeros
+// for each of them, and seven more.
+fn ascii_of_eight(text: &[u8], at: usize) -> usize
+    requires { ⌜ at + 8 ≤ length (now text) ⌝ }
+    ensures { λ r. ⌜ r ≡ min 8 (asciiRun (drop at (now (text .entry)))) ⌝ }
+{
+    let tops = top_bits(text, at);
+    if tops == 0 {
+        return 8;
+    }
+    (u64::trailing_zeros(tops) as usize) / 8
+}
+
+// The same of sixteen, in two steps.
+fn ascii_of_sixteen(text: &[u8], at: usize) -> usize
+    requires { ⌜ at + 16 ≤ length (now text) ⌝ }
+    ensures { λ r. ⌜ r ≡ min 16 (asciiRun (drop at (now (text .entry)))) ⌝ }
+{
+    let first = ascii_of_eight(text, at);
+    if first < 8 {
+        return first;
+    }
+    8 + ascii_of_eight(text, at + 8)
+}
+
+// Where the ASCII ends that begins at the place, a byte at a time.
+fn past_bytes(text: &[u8], from: usize) -> usize
+    ensures { λ r. ⌜ r ≡ from + asciiRun (drop from (now (text .entry))) ⌝ }
+{
+    let mut at = from;
+    while lies_at(text, at, 0x00, 0x7F) {
+        at += 1;
+    }
+    at
+}
+
+// The same, eight bytes at a step, and the last seven or fewer one at a time. Two steps to a round of the loop: with one the processor
+// would spend as much on the round as on the step.
+fn past_ascii(text: &[u8], from: usize) -> usize
+    requires { ⌜ from ≤ length (now text) ⌝ }
+    ensures { λ r. ⌜ r ≡ from + asciiRun (drop from (now (text .entry))) ⌝ }
+{
+    let n = text.len();
+    let mut at = from;
+    while 16 <= n - at {
+        let k = ascii_of_sixteen(text, at);
+        if k < 16 {
+            return at + k;
+        }
+        at += 16;
+    }
+    if n - at < 8 {
+        return past_bytes(text, at);
+    }
+    let k = ascii_of_eight(text, at);
+    if k < 8 {
+        return at + k;
+    }
+    past_bytes(text, at + 8)
+}
+
+// Is the text UTF-8? ASCII passes as far as it goes, anything else a character at a time.
 pub fn is_utf8(text: &[u8]) -> bool
     ensures { λ r. ⌜ r ≡ utf8 (now (text .entry)) ⌝ }
 {
@@ -76,7 +168,7 @@ pub fn is_utf8(text: &[u8]) -> bool
     while i < text.len() {
         let b = text[i];
         if b < 0x80 {
-            i += 1;
+            i = past_ascii(text, i);
         } else {
             match end_of(text, i + 1, rest_of(b)) {
                 Found::Nothing => return false,

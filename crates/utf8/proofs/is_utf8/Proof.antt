@@ -1,12 +1,13 @@
 -- `utf8::is_utf8` meets its contract. The loop's invariant: a character may begin at `i`, and the text from there on answers for the whole.
--- The measure is what is left of the length. Rests on `ascii-byte` and `first-byte`, what a character's first byte does.
+-- The measure is what is left of the length. Rests on `past`, what ASCII does, and on `first-byte`, what the first byte of another character does.
 use Prim.Native.Nat.{_-_, _≤_}
 use native.Mathlib.Omega.{arith}
 use mathlib.Core.Path.{_≡_, refl, sym, _∙_}
 use borrow.Author.Needs.{needs}
 use lib.ListN.{length, drop, drop-of-length-le}
 use Rattle.utf8.specs.Utf8.{utf8From, utf8}
-use Rattle.utf8.proofs.Bytes.{first-byte, ascii-byte}
+use Rattle.utf8.proofs.Bytes.{first-byte}
+use Rattle.utf8.proofs.Ascii.{past}
 use Rattle.utf8.proofs.is_utf8.Statement.{statement}
 use Rattle.utf8.proofs.is_utf8.Tie as tie
 
@@ -22,14 +23,19 @@ loop-holds c = (omega arith, refl)
 shared-slice-read-b : tie.Need-shared-slice-read-b Inv-loop μ-loop
 shared-slice-read-b c = omega arith
 
-add-i : tie.Need-add-i Inv-loop μ-loop
-add-i c = omega arith
+past-ascii-requires : tie.Need-past-ascii-requires Inv-loop μ-loop
+past-ascii-requires c κs = omega arith
 
 loop-less : tie.Need-loop-less Inv-loop μ-loop
-loop-less c = omega arith
+loop-less c =
+    let p = past _ _ (c .before .before .before .loop-test .taken) (omega arith) (c .past-ascii .ensures) in
+    omega (arith, p .0, p .1)
 
 loop-again : tie.Need-loop-again Inv-loop μ-loop
-loop-again c = (omega arith, ascii-byte _ _ (c .before .before .loop-test .taken) (omega arith) ∙ c .before .before .before .loop .inv .1)
+loop-again c =
+    let l = c .before .before .before in
+    let p = past _ _ (l .loop-test .taken) (omega arith) (c .past-ascii .ensures) in
+    (p .1, p .2 ∙ l .before .loop .inv .1)
 
 add-end-of : tie.Need-add-end-of Inv-loop μ-loop
 add-end-of c = omega arith
@@ -75,7 +81,7 @@ is-utf8-spec =
     μ-loop
     loop-holds
     shared-slice-read-b
-    add-i
+    past-ascii-requires
     loop-less
     loop-again
     add-end-of
