@@ -3,6 +3,10 @@
 #   run.sh [COMMIT]   times of the check as it stands, of the one at COMMIT if one is given, and of str::from_utf8, in one run
 #   run.sh --check    only the answers, of the check as it stands and of str::from_utf8
 set -euo pipefail
+if [ $# -gt 1 ]; then
+    echo "usage: run.sh [COMMIT | --check]" >&2
+    exit 1
+fi
 cd "$(dirname "$0")"
 # shellcheck source=../../tools/x86_64.sh
 . ../../tools/x86_64.sh
@@ -33,6 +37,7 @@ place() { # NAME: puts NAME_0, NAME_16, NAME_32 and NAME_48 into made/lib/libNAM
             "$SALTORCHARD_CC" -c -x assembler -o "$made/$1/pad.o" -
         "${binutils}ld" -r -o "$made/$1/$1_$k.o" "$made/$1/pad.o" "$made/$1/$1.o"
         "${binutils}objcopy" --redefine-sym "$1=$1_$k" "$made/$1/$1_$k.o"
+        "${binutils}nm" "$made/$1/$1_$k.o" | grep -q "^0*$(printf '%x' "$k") T $1_$k\$" || { echo "$1_$k isn't at its place" >&2; exit 1; }
         "${binutils}ar" rcs "$made/lib/lib$1.a" "$made/$1/$1_$k.o"
     done
 }

@@ -8,7 +8,7 @@ pub struct Case {
     pub texts: Vec<Vec<u8>>,
 }
 
-/// A pass has about this many bytes, or this many texts where that is more.
+/// A pass has about so many bytes, or so many texts where that is more.
 const BYTES: usize = 1 << 18;
 const TEXTS: usize = 64;
 
@@ -21,7 +21,7 @@ pub fn cases() -> Vec<Case> {
         ("3-byte characters", |random| from(random, '一', '龥')),
         ("4-byte characters", |random| from(random, '🌀', '🗿')),
         ("six ASCII bytes and a 2-byte character", |random| several(random, 6) + &from(random, 'А', 'я')),
-        ("words of ASCII, every fourth with a 2-byte character", words),
+        ("words of ASCII, one in four with a 2-byte character", words),
     ];
     for (sort, piece) in others {
         cases.extend([32, 4_096].iter().map(|&n| case(sort, n, piece)));
@@ -29,7 +29,7 @@ pub fn cases() -> Vec<Case> {
     cases
 }
 
-/// Texts of pieces, as many as keep within the length.
+/// Texts of pieces, in each as many as go into the length.
 fn case(sort: &str, length: usize, piece: Piece) -> Case {
     let mut random = Random::new(length as u64);
     let texts = (0..TEXTS.max(BYTES / length)).map(|_| text(&mut random, length, piece)).collect();

@@ -1,5 +1,5 @@
 -- How far ASCII goes (`asciiRun`): a run stays within the text; past a part of it the rest of the run is left, and the text from there on
--- answers for the whole (`part-of-run`); what one byte tells of a run. Rests on the definition of `asciiRun` and on `ascii-next`.
+-- answers for the whole (`part-of-run`); what one byte tells of a run. Rests on the definitions of `asciiRun` and `liesAt`, and on `ascii-next`.
 use Prim.Native.Nat.{ℕ, zero, suc, _+_, _≤_, _<_}
 use native.Mathlib.Omega.{arith}
 use mathlib.Core.Path.{_≡_, refl, sym, _∙_}

@@ -1,4 +1,5 @@
--- What belongs to no one function: what one byte of a text does, how far ASCII goes, its bytes' top bits, and that a contract leaves one answer.
+-- What belongs to no one function: what one byte of a text does, how far ASCII goes, the top bits of bytes, and that a contract leaves one
+-- answer.
 pub mod Bytes
 pub mod Ascii
 pub mod Tops

@@ -1,6 +1,6 @@
--- The top bits of bytes as one number (`topBits`): it is 0 where all of them are ASCII (`no-tops`); else the zeros below its lowest set bit
--- are eight for each ASCII byte before the first other one, and seven more (`tops-zeros`). And how it is made, a byte more at a time (`Made`).
--- Rests on the definitions of `topBits` and `asciiRun`, and on the logic's laws of `bitAnd` and of trailing zeros.
+-- The top bits of bytes as one number (`topBits`): where it is 0 all of them are ASCII (`no-tops`); else the zeros below its lowest set bit
+-- are eight for each ASCII byte before the first other one, and fewer than eight more (`tops-zeros`). And how it is made, a byte at a time
+-- (`byte-joins`). Rests on the definitions of `topBits` and `asciiRun`, and on the logic's laws of `bitAnd` and of trailing zeros.
 use Prim.Native.Nat.{ℕ, zero, suc, _+_, _*_, _/_, _%_, _^_, _≤_, _<_, min}
 use native.Mathlib.Nat.{zero-add, suc-add, mul-one, pow-suc}
 use native.Mathlib.Omega.{arith}
@@ -95,10 +95,10 @@ pub nothing-made : (t : List ℕ) (i : ℕ) → Made t i 0 0
 unfolding topBits
 nothing-made t i = record { small = omega arith; tops = refl }
 
-pub one-more : (t : List ℕ) (i n number : ℕ) → i < length t → getD t i 0 < 256 → Made t (suc i) n number →
+pub byte-joins : (t : List ℕ) (i n number : ℕ) → i < length t → getD t i 0 < 256 → Made t (suc i) n number →
     Made t i (suc n) (number * 256 + getD t i 0)
 unfolding topBits
-one-more t i n number h k m =
+byte-joins t i n number h k m =
     let b = getD t i 0 in
     record {
       small = rw (pow-suc 256 n) (omega (arith, k, m .small));

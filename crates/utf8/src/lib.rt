@@ -15,7 +15,7 @@ enum Found {
 }
 
 // What is left of the character that a byte other than ASCII begins. Where it begins none, no byte lies from 1 to 0.
-// By the character's length first: most characters of a text that isn't ASCII have the same, so the processor guesses the way.
+// The length first: the characters of a text mostly have one length, so the processor guesses the branch right.
 fn rest_of(lead: u8) -> Rest
     requires { ⌜ 0x80 ≤ lead ⌝ }
     ensures { λ r. ⌜ ranges r ≡ rest lead UTF8-char ⌝ }

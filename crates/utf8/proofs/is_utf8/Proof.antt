@@ -1,5 +1,5 @@
 -- `utf8::is_utf8` meets its contract. The loop's invariant: a character may begin at `i`, and the text from there on answers for the whole.
--- The measure is what is left of the length. Rests on `past`, what ASCII does, and on `first-byte`, what the first byte of another character does.
+-- The measure is what is left of the length. Rests on `past`, where ASCII ends, and on `first-byte`, what another character's first byte does.
 use Prim.Native.Nat.{_-_, _≤_}
 use native.Mathlib.Omega.{arith}
 use mathlib.Core.Path.{_≡_, refl, sym, _∙_}

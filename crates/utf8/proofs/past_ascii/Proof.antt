@@ -1,5 +1,5 @@
--- `utf8::past_ascii` meets its contract. The loop's invariant: whole rounds are left, and what is left of the run at `at` ends where the run
--- at `from` ends. The measure is what is left of it. Rests on `passed`, what bytes of a run leave.
+-- `utf8::past_ascii` meets its contract. The loop's invariant: the place is within the text, and what is left of the run there ends where the
+-- run at `from` ends. The measure is what is left of it. Rests on `passed`, what bytes of a run leave.
 use Prim.Native.Nat.{_≤_}
 use native.Mathlib.Omega.{arith}
 use mathlib.Core.Path.{refl, _∙_}
@@ -65,7 +65,9 @@ past-bytes-requires-2 : tie.Need-past-bytes-requires-2 Inv-loop μ-loop
 past-bytes-requires-2 c κs = search needs
 
 returns-4 : tie.Need-returns-4 Inv-loop μ-loop
-returns-4 c = c .past-bytes2 .ensures ∙ passed _ _ _ 8 (omega arith) (c .before .before .before .before .before .loop .inv .1) (omega arith) .1
+returns-4 c =
+    let l = c .before .before .before .before .before .loop in
+    c .past-bytes2 .ensures ∙ passed _ _ _ 8 (omega arith) (l .inv .1) (omega arith) .1
 
 pub past-ascii-spec : {M : Type 1} → statement M
 past-ascii-spec =

@@ -1,5 +1,5 @@
--- `utf8::past_bytes` meets its contract. The loop's invariant: what is left of the run at `at` ends where the run at `from` ends. The
--- measure is what is left of it. Rests on `goes-on` and `is-over`, what a byte tells, and on `passed`.
+-- `utf8::past_bytes` meets its contract. The loop's invariant: what is left of the run at the place ends where the run at `from` ends. The
+-- measure is what is left of it. Rests on `there`, `goes-on` and `is-over`, what a byte tells, and on `passed`, what it leaves.
 use native.Mathlib.Omega.{arith}
 use mathlib.Core.Path.{refl, sym, _∙_}
 use borrow.Author.Needs.{needs}

@@ -1,4 +1,4 @@
--- `utf8::rest_of` meets its contract. Each way's bytes are all of a range of bytes that leave the same ranges, or of two.
+-- `utf8::rest_of` meets its contract. Each branch's bytes are all of a range of bytes that leave the same ranges, or of two such ranges.
 -- Rests on `rest-between`, which has that computed at each byte of the range.
 use Prim.Native.Nat.{ℕ, _≤_, _<_}
 use native.Mathlib.Omega.{arith}
@@ -33,7 +33,7 @@ returns-4 : tie.Need-returns-4
 returns-4 c = rest-between 0xED 0xED (unfold UTF8-char in refl) (omega arith) (omega arith)
 
 returns-5 : tie.Need-returns-5
-returns-5 c = three (c .before .before .before .args .lead) (omega arith) (omega arith) (λ q. absurd (omega (arith, q)))
+returns-5 c = three (c .before .before .before .args .lead) (omega arith) (omega arith) (λ q. omega (arith, q))
 
 returns-6 : tie.Need-returns-6
 returns-6 c = rest-between 0xF0 0xF0 (unfold UTF8-char in refl) (omega arith) (omega arith)
@@ -44,6 +44,7 @@ returns-7 c = rest-between 0xF4 0xF4 (unfold UTF8-char in refl) (omega arith) (o
 returns-8 : tie.Need-returns-8
 returns-8 c = rest-between 0xF1 0xF3 (unfold UTF8-char in refl) (omega arith) (omega arith)
 
+-- no byte is above 0xF0 and below 0xF1
 returns-9 : tie.Need-returns-9
 returns-9 c = absurd (omega arith)
 

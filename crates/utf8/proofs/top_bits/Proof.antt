@@ -1,5 +1,5 @@
 -- `utf8::top_bits` meets its contract. The loop's invariant: the number is made of the bytes from `k` on. The measure is k.
--- Rests on `one-more`, a byte more of the number.
+-- Rests on `byte-joins`, a byte more of the number.
 use Prim.Native.Nat.{ℕ, suc, _+_, _-_, _*_, _^_, _≤_, _<_}
 use native.Mathlib.Nat.{pow-le-pow-right}
 use native.Mathlib.Omega.{arith}
@@ -9,7 +9,7 @@ use borrow.Author.Needs.{needs}
 use lib.Bits.{bitAnd}
 use lib.ListN.{length, getD, drop}
 use Rattle.utf8.specs.Steps.{topBits}
-use Rattle.utf8.proofs.Tops.{Made, nothing-made, one-more}
+use Rattle.utf8.proofs.Tops.{Made, nothing-made, byte-joins}
 use Rattle.utf8.proofs.top_bits.Statement.{statement}
 use Rattle.utf8.proofs.top_bits.Tie as tie
 
@@ -29,7 +29,7 @@ joins : (t : List ℕ) (i k number b : ℕ) → 0 < k → k ≤ 8 → i + (k - 1
 joins t i k number b h l w e s m =
     let p : i + k ≡ suc (i + (k - 1)) = omega (arith, h) in
     let q : 8 - (k - 1) ≡ suc (8 - k) = omega (arith, h, l) in
-    rw (q, e) (one-more t (i + (k - 1)) (8 - k) number w (rw e at s) (rw p at m))
+    rw (q, e) (byte-joins t (i + (k - 1)) (8 - k) number w (rw e at s) (rw p at m))
 
 -- all eight are there
 whole : (t : List ℕ) (i k number : ℕ) → k ≤ 0 → Made t (i + k) (8 - k) number → bitAnd number 0x8080_8080_8080_8080 ≡ topBits 8 (drop i t)
@@ -45,7 +45,9 @@ sub-k : tie.Need-sub-k Inv-loop μ-loop
 sub-k c = omega arith
 
 mul-number : tie.Need-mul-number Inv-loop μ-loop
-mul-number c = omega (arith, room (c .before .loop .k) (c .before .loop .number) (c .loop-test .taken) (c .before .loop .inv .1 .small))
+mul-number c =
+    let l = c .before .loop in
+    omega (arith, room (l .k) (l .number) (c .loop-test .taken) (l .inv .1 .small))
 
 add-wide : tie.Need-add-wide Inv-loop μ-loop
 add-wide c = omega arith
