@@ -7,28 +7,28 @@ import model
 from calls import LARGE, Row, change, filled, lent, plain, refuses, rewrite, writes
 from cases_marked import marked_examples
 from cases_plain import CURVES, KINDS, comment_field, largest_comment, long_comments, section_field, size_of
-from cases_plain import zero_before
+from cases_plain import more_than_size
 from cases_rewrite import damaged, meant
 from comments import comments
 from damage import Dice
 from fields import CIPHERS, ED25519, LIMIT, content
-from images import corpus, encrypted, join, point_of, scalar_of
+from images import corpus, encrypted, join, minimal, point_of, scalar_of
 from images import plain as plain_fields
 
 WORDS = [b"o", b"v", b"e", b"n", "ü".encode(), "炉".encode(), "🥖".encode()]
 
 
-def image_of(algorithm, comment, first=0x5A):
+def image_of(algorithm, comment, private=None):
     """An image in the writer's form, put together of its fields."""
-    scalar = b"\0" * zero_before(algorithm, first) + scalar_of(algorithm, first)
+    scalar = None if private is None else minimal(algorithm, private)
     return join(plain_fields(algorithm, comment, scalar=scalar))
 
 
-def after_change(algorithm, before, old, new, first=0x5A):
+def after_change(algorithm, before, old, new, private):
     """The buffer that is meant: the new image, zeros up to the old end, and all past both as it was."""
-    image = image_of(algorithm, new, first)
-    zero = zero_before(algorithm, first)
-    old_size, size = size_of(algorithm, zero, len(old)), size_of(algorithm, zero, len(new))
+    image = image_of(algorithm, new, private)
+    more = more_than_size(algorithm, private)
+    old_size, size = size_of(algorithm, more, len(old)), size_of(algorithm, more, len(new))
     assert len(image) == size
     if size < old_size:
         return image + bytes(old_size - size) + before[old_size:]
@@ -38,15 +38,16 @@ def after_change(algorithm, before, old, new, first=0x5A):
 # ---- one comment after another
 
 
-def sequence(title, algorithm, texts, room, first=0x5A):
+def sequence(title, algorithm, texts, room, private=None):
     """Accepted changes from each comment to the next, each with the buffer that it must leave."""
-    zero = zero_before(algorithm, first)
-    image = image_of(algorithm, texts[0], first)
+    private = scalar_of(algorithm) if private is None else private
+    more = more_than_size(algorithm, private)
+    image = image_of(algorithm, texts[0], private)
     buffer = start = lent(image, room - len(image))
     calls = []
     for old, new in zip(texts, texts[1:]):
-        buffer = after_change(algorithm, buffer, old, new, first)
-        calls.append(change(new, writes(size_of(algorithm, zero, len(new))), after=buffer))
+        buffer = after_change(algorithm, buffer, old, new, private)
+        calls.append(change(new, writes(size_of(algorithm, more, len(new))), after=buffer))
     return Row(title, start, calls, len(image))
 
 
@@ -70,9 +71,9 @@ def end_rows(algorithm):
 def high_rows():
     """A zero stands before the scalar, and stays."""
     for algorithm in KINDS:
-        texts = [b"oven-12", b"", b"oven", b"a longer comment", b"oven-13", b""]
-        row = sequence("scalar begins 80", algorithm, texts, 505, first=0x80)
-        field = comment_field(algorithm, zero_before(algorithm, 0x80))
+        texts, private = [b"oven-12", b"", b"oven", b"a longer comment", b"oven-13", b""], scalar_of(algorithm, 0x80)
+        row = sequence("scalar begins 80", algorithm, texts, 505, private)
+        field = comment_field(algorithm, more_than_size(algorithm, private))
         yield row._replace(calls=[*row.calls, change(b"\xff", refuses(7, 0, field))])
 
 
@@ -166,16 +167,16 @@ def encrypted_rows():
 
 def form_rows(algorithm):
     """The two slips: refused as not in the form, whatever the comment; written again, they can be changed."""
-    for scalar, zero in ((b"\0" + scalar_of(algorithm, 0x7F), 0), (scalar_of(algorithm, 0x80), 1)):
+    for scalar, more in ((b"\0" + scalar_of(algorithm, 0x7F), 0), (scalar_of(algorithm, 0x80), 1)):
         image = join(plain_fields(algorithm, scalar=scalar))
         calls = [change(comment, refuses(10)) for comment in (b"", b"oven-12", b"\xff", b"c" * LIMIT, b"c" * 99)]
-        size = size_of(algorithm, zero, 7)
-        calls += [rewrite(image, writes(size)), change(b"", writes(size_of(algorithm, zero, 0)))]
+        size = size_of(algorithm, more, 7)
+        calls += [rewrite(image, writes(size)), change(b"", writes(size_of(algorithm, more, 0)))]
         yield Row("not in the form", lent(image, size + 9 - len(image)), calls, len(image))
 
 
 def marked_rows():
-    kinds = dict.fromkeys(["M5", "M6", "M7", "M15"], (ED25519, 0)) | {"M8": (1, 0), "M9": (1, 1)}
+    kinds = dict.fromkeys(["M5", "M6", "M7", "M15"], (ED25519, 0)) | {"M8": (1, 0), "M9": (1, 1), "M14": (1, -1)}
     for case in marked_examples():
         first = second = meant(case)
         if case.form is False:
@@ -240,20 +241,21 @@ def room_rows(algorithm):
 
 def limit_rows(algorithm, first=0x5A):
     """Up to the limit and back. The buffer has room above it, so that the size is refused and not the room."""
-    zero = zero_before(algorithm, first)
-    c = largest_comment(algorithm, zero)
-    size = size_of(algorithm, zero, c)
-    image = image_of(algorithm, b"oven-12", first)
+    private = scalar_of(algorithm, first)
+    more = more_than_size(algorithm, private)
+    c = largest_comment(algorithm, more)
+    size = size_of(algorithm, more, c)
+    image = image_of(algorithm, b"oven-12", private)
     start = lent(image, LARGE - len(image))
-    cleared = image_of(algorithm, b"", first)
+    cleared = image_of(algorithm, b"", private)
     cleared += bytes(size - len(cleared)) + start[size:]
     calls = [
         change(b"c" * c, writes(size)),
         change(b"c" * (c + 1), refuses(11)),
-        change(b"d" * (c - 1), writes(size_of(algorithm, zero, c - 1))),
+        change(b"d" * (c - 1), writes(size_of(algorithm, more, c - 1))),
         change(b"c" * (c + 8), refuses(11)),
         change(b"c" * c, writes(size)),
-        change(b"", writes(size_of(algorithm, zero, 0)), after=cleared),
+        change(b"", writes(size_of(algorithm, more, 0)), after=cleared),
         change(b"c" * (c + 1), refuses(11)),
         change(b"oven-12", writes(len(image))),
     ]

@@ -141,6 +141,9 @@ def plain_cases(base):
     yield refused("a long point", padded(longer(fields, "section.point", b"\0")), 6, "section.scalar", -1, 1)
     yield refused("a comment that isn't UTF-8", changed(fields, {"section.comment": b"\xff"}), 7, "section.comment")
     yield refused("wrong padding", put(fields, "section.padding", zeros), 2, "section.padding")
+    yield refused("an empty scalar", changed(fields, {"section.scalar": b""}), 1, "section.scalar")
+    if algorithm != ED25519:
+        yield refused("zeros for a scalar", changed(fields, {"section.scalar": bytes(8)}), 2, "section.scalar")
 
 
 def damaged_cases(base):
@@ -174,6 +177,9 @@ def other_sections(base):
             yield accepted("another checkint", put_all(base.fields, both))
         algorithm = base.half.algorithm
         yield accepted("another scalar", plain(algorithm, scalar=scalar_of(algorithm, 0x21)))
+        if algorithm != ED25519:
+            yield accepted("a short scalar", plain(algorithm, scalar=scalar_of(algorithm)[:-1]))
+            yield accepted("zeros before a scalar", plain(algorithm, scalar=b"\0\0" + scalar_of(algorithm)[:-2]), form=False)
 
 
 # ---- `bcrypt` without a cipher

@@ -1,4 +1,5 @@
-"""The marked examples of document 01 that are images, M1 to M15, and images about as large as the limit."""
+"""The marked examples of document 01 that are images, M1 to M15, where M14 is as document 02's request Five has it, and images
+about as large as the limit."""
 import model
 from fields import ED25519, LIMIT, MAGIC
 from images import Case, accepted, encrypted, join, plain, point_of, put, refused, scalar_of, stream
@@ -25,7 +26,8 @@ def marked_examples():
     yield accepted("M11", plain(1, b"", scalar=scalar_of(1, 0x80)), form=False)
     yield refused("M12", plain(1, b"", scalar=b"\1" + scalar_of(1)), 2, "section.scalar")
     yield refused("M13", plain(1, b"", scalar=stream("M13", 34)), 6, "section.scalar", 4 + 32, 2)
-    yield refused("M14", plain(1, b"", scalar=stream("M14", 31)), 1, "section.scalar")
+    yield accepted("M14", plain(1, b"", scalar=scalar_of(1)[:31]))
+    yield refused("M14, zeros", plain(1, b"", scalar=bytes(31)), 2, "section.scalar")
     yield sized("M15", plain(ED25519, b"c" * 65301), 65530, 0)
 
 

@@ -56,13 +56,13 @@ def name_rows(what, field, fields, path, unknown):
     yield row(f"{what} is unknown", field, with_content(fields, path, unknown), 4, path)
 
 
-def fixed_rows(what, field, fields, path, least, most=None):
+def fixed_rows(what, field, fields, path, length):
     """A string of a fixed length, in words: cut, shorter, and longer by two bytes."""
     content = inner(spot(fields, path).field)
     short, long = (with_content(fields, path, other) for other in (content[:-1], content + b"\0\0"))
     yield cut(what, field, fields, path)
-    yield row(f"{what} has fewer than {least} bytes", field, short, 1, path)
-    yield row(f"{what} has more than {most or least} bytes", field, long, 6, path, 4 + len(content), 2)
+    yield row(f"{what} has fewer than {length} bytes", field, short, 1, path)
+    yield row(f"{what} has more than {length} bytes", field, long, 6, path, 4 + len(content), 2)
 
 
 # ---- the header, steps 1 to 5
@@ -165,11 +165,22 @@ def pair_rows():
     yield from fixed_rows("Ed25519's string of 64", "the seed's string", plain(ED25519), "section.scalar", "64")
     halves = put(plain(ED25519), "section.scalar", scalar_of(ED25519) + point_of(ED25519, "other"))
     yield row("the half after the seed is unlike the public key", "the seed's string", halves, 3, "section.scalar")
-    yield from fixed_rows("the scalar", "the scalar's string", plain(P256), "section.scalar", "SIZE", "SIZE + 1")
-    leading = with_content(plain(P256), "section.scalar", b"\1" + scalar_of(P256))
-    yield row("the scalar has SIZE + 1 bytes and no zero first", "the scalar's string", leading, 2, "section.scalar")
+    yield from scalar_rows()
     yield unlike_curve("section", changed(plain(P256, keypair=keypair_fields(P384)), {"section.name": ALGORITHMS[P256]}))
     yield from number_rows("section", NUMBERS, in_section)
+
+
+def scalar_rows():
+    field, fields, path = "the scalar's string", plain(P256), "section.scalar"
+    size = len(scalar_of(P256))
+    empty, long, leading, zeros = (
+        with_content(fields, path, scalar) for scalar in (b"", bytes(size + 2), b"\1" + bytes(size), bytes(size + 1))
+    )
+    yield cut("the scalar", field, fields, path)
+    yield row("the scalar is empty", field, empty, 1, path)
+    yield row("the scalar has more than SIZE + 1 bytes", field, long, 6, path, 4 + size, 2)
+    yield row("the scalar has SIZE + 1 bytes and no zero first", field, leading, 2, path)
+    yield row("the scalar is zeros alone", field, zeros, 2, path)
 
 
 def unlike_rows():

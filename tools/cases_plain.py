@@ -1,10 +1,11 @@
-"""Calls of the plain writer for each sentence of document 01 on it, with the reply meant for each."""
+"""Calls of the plain writer for each sentence of document 01 on it, and of document 02's request Five, with the reply meant for
+each."""
 import itertools
 
 from calls import LARGE, Row, filled, plain, refuses, writes
 from comments import comments
 from fields import ED25519, LIMIT, SIZES
-from images import join, other_kinds, point_of, put_all, scalar_of, stream
+from images import join, minimal, other_kinds, point_of, put_all, scalar_of, stream
 from images import plain as plain_fields
 
 KINDS = range(4)
@@ -26,34 +27,33 @@ def section_field(algorithm):
     return 15 + (4 + 4) + (4 + 4) + 4 + 4 + (4 + public_size(algorithm))
 
 
-def comment_field(algorithm, zero):
-    """Where the comment's length bytes stand; zero is 1 if one stands before the scalar."""
-    private = 4 + 64 if algorithm == ED25519 else 4 + zero + SIZES[algorithm]
+def comment_field(algorithm, more):
+    """Where the comment's length bytes stand; the scalar's string has so many bytes more than SIZE, or fewer, below 0."""
+    private = 4 + 64 if algorithm == ED25519 else 4 + more + SIZES[algorithm]
     return section_field(algorithm) + 4 + 8 + public_size(algorithm) + private
 
 
-def size_of(algorithm, zero, c):
+def size_of(algorithm, more, c):
     """A plain image's size with a comment of c bytes: the section is a multiple of 8."""
     start = section_field(algorithm) + 4
-    section = comment_field(algorithm, zero) + 4 + c - start
+    section = comment_field(algorithm, more) + 4 + c - start
     return start + (section + 7) // 8 * 8
 
 
-def zero_before(algorithm, first):
-    """1 where the writer puts a zero before a scalar that begins so."""
-    return 1 if algorithm != ED25519 and first >= 0x80 else 0
+def more_than_size(algorithm, private):
+    """How many bytes more than these private ones the writer stores: 1 with a zero in front, below 0 with zeros dropped."""
+    return len(minimal(algorithm, private)) - len(private)
 
 
-def largest_comment(algorithm, zero):
+def largest_comment(algorithm, more):
     """The longest comment that a plain image may have."""
-    return max(c for c in range(LIMIT - 600, LIMIT) if size_of(algorithm, zero, c) <= LIMIT)
+    return max(c for c in range(LIMIT - 600, LIMIT) if size_of(algorithm, more, c) <= LIMIT)
 
 
 def image_of(algorithm, private, checkint, comment):
     """The image that is meant, put together of its fields."""
-    scalar = b"\0" * zero_before(algorithm, private[0]) + private
-    checkints = dict.fromkeys(["section.checkint1", "section.checkint2"], checkint.to_bytes(4, "big"))
-    return join(put_all(plain_fields(algorithm, comment, scalar=scalar), checkints))
+    fields = plain_fields(algorithm, comment, scalar=minimal(algorithm, private))
+    return join(put_all(fields, dict.fromkeys(["section.checkint1", "section.checkint2"], checkint.to_bytes(4, "big"))))
 
 
 def alone(title, room, call):
@@ -62,7 +62,7 @@ def alone(title, room, call):
 
 def whole(title, room, algorithm, private, comment=b"oven-12", checkint=0x01020304, derived=False):
     """A call that must write this image, and leave what is past it."""
-    size = size_of(algorithm, zero_before(algorithm, private[0]), len(comment))
+    size = size_of(algorithm, more_than_size(algorithm, private), len(comment))
     after = image_of(algorithm, private, checkint, comment) + filled(room)[size:]
     given = None if derived else checkint
     return alone(title, room, plain(algorithm, None, private, given, comment, writes(size), after))
@@ -98,10 +98,10 @@ def length_calls(algorithm):
     public, private = LENGTHS[algorithm]
     for k in PUBLIC_LENGTHS:
         call = plain(algorithm, public=(b"\4" + stream("public", 600))[:k])
-        yield alone(f"{k} public bytes", 500, right_only(call, k == public, algorithm))
+        yield alone(f"{k} public bytes", 500, right_only(call, k == public))
     for k in PRIVATE_LENGTHS:
         call = plain(algorithm, private=(b"\0" + stream("private", 600))[:k])
-        yield alone(f"{k} private bytes", 500, right_only(call, k == private, algorithm))
+        yield alone(f"{k} private bytes", 500, right_only(call, k == private))
     for other in other_kinds(algorithm):
         call = plain(algorithm, public=point_of(other), private=scalar_of(other), reply=refuses(1))
         yield alone("another kind's key", 60, call)
@@ -109,8 +109,10 @@ def length_calls(algorithm):
     yield alone("both lengths wrong", 60, both)
 
 
-def right_only(call, right, algorithm):
-    return call._replace(reply=writes(size_of(algorithm, 0, 7)) if right else refuses(1))
+def right_only(call, right):
+    algorithm, _, private, _, comment = call.arguments
+    size = size_of(algorithm, more_than_size(algorithm, private), len(comment)) if right else 0
+    return call._replace(reply=writes(size) if right else refuses(1))
 
 
 def tag_calls(algorithm):
@@ -126,11 +128,30 @@ def tag_calls(algorithm):
 
 
 def scalar_calls(algorithm):
-    """A zero stands before a scalar's byte of 0x80 or more, and only there."""
+    """Leading zeros are dropped, and one stands before a byte of 0x80 or more; zeros alone are no scalar. A seed may be any."""
     for first in (0, 1, 0x7F, 0x80, 0x81, 0xFF):
         for c in (0, 7):
             yield whole(f"scalar begins {first}", 500, algorithm, scalar_of(algorithm, first), b"c" * c)
-    yield whole("scalar 0", 500, algorithm, bytes(LENGTHS[algorithm][1]))
+    zeros = bytes(LENGTHS[algorithm][1])
+    if algorithm == ED25519:
+        yield whole("seed of zeros", 500, algorithm, zeros)
+    else:
+        yield from (alone("scalar 0", 500, plain(algorithm, None, zeros, given, reply=refuses(2))) for given in (7, None))
+        yield from zero_calls(algorithm)
+
+
+def zero_calls(algorithm):
+    """Scalars of SIZE bytes with zeros in front, up to all but one, before a byte on each side of 0x80."""
+    size = SIZES[algorithm]
+    for zeros in (1, 2, 3, size // 2, size - 2, size - 1):
+        for first in (1, 0x7F, 0x80, 0xFF):
+            private = bytes(zeros) + scalar_of(algorithm, first)[: size - zeros]
+            yield whole(f"{zeros} zeros before {first}", 500, algorithm, private, b"c" * (zeros % 8))
+    for private in (bytes(size - 1) + b"\x80", bytes(size - 2) + b"\x7f\0"):
+        written = size_of(algorithm, more_than_size(algorithm, private), 7)
+        for room in (written - 1, written):
+            reply = writes(written) if room == written else refuses(9)
+            yield alone(f"short, room {room}", room, plain(algorithm, None, private, reply=reply))
 
 
 def checkint_calls(algorithm):
@@ -177,10 +198,10 @@ def long_comments(c):
 
 
 def limit_calls(algorithm, first):
-    zero = zero_before(algorithm, first)
-    c = largest_comment(algorithm, zero)
-    size = size_of(algorithm, zero, c)
     private = scalar_of(algorithm, first)
+    more = more_than_size(algorithm, private)
+    c = largest_comment(algorithm, more)
+    size = size_of(algorithm, more, c)
     most = plain(algorithm, private=private, comment=b"c" * c, reply=writes(size))
     over = plain(algorithm, private=private, comment=b"c" * (c + 1), reply=refuses(11))
     yield alone("the largest", LARGE, most)
@@ -209,22 +230,27 @@ def long_calls():
 
 def ordered_calls(algorithm):
     """Every set of conditions at once: the first of them in the order is the reply."""
-    conditions = [1, 2, 7, 11, 9] if algorithm != ED25519 else [1, 7, 11, 9]
+    conditions = {"length": 1, "tag": 2, "zeros": 2, "comment": 7, "size": 11, "room": 9}
+    if algorithm == ED25519:
+        del conditions["tag"], conditions["zeros"]
     for count in range(len(conditions) + 1):
         for chosen in itertools.combinations(conditions, count):
-            yield ordered_call(algorithm, chosen)
+            reply = refuses(conditions[chosen[0]]) if chosen else None
+            yield ordered_call(algorithm, chosen, reply)
 
 
-def ordered_call(algorithm, chosen):
+def ordered_call(algorithm, chosen, reply):
     public, private = point_of(algorithm), scalar_of(algorithm)
-    if 2 in chosen:
+    if "tag" in chosen:
         public = b"\3" + public[1:]
-    if 1 in chosen:
+    if "zeros" in chosen:
+        private = bytes(len(private))
+    if "length" in chosen:
         private = private[:-1]
-    comment = (b"\xff" if 7 in chosen else b"c") + b"c" * (largest_comment(algorithm, 0) if 11 in chosen else 6)
+    comment = (b"\xff" if "comment" in chosen else b"c") + b"c" * (largest_comment(algorithm, 0) if "size" in chosen else 6)
     size = size_of(algorithm, 0, len(comment))
-    reply = refuses(chosen[0]) if chosen else writes(size)
-    room = min(size - 1, 120) if 9 in chosen else size
+    reply = writes(size) if reply is None else reply
+    room = min(size - 1, 120) if "room" in chosen else size
     return alone(f"conditions {chosen}", room, plain(algorithm, public, private, comment=comment, reply=reply))
 
 

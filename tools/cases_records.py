@@ -5,10 +5,11 @@ import itertools
 import model
 from calls import LARGE, refuses, writes
 from cases_marked import encrypted_of_size, marked_examples
-from cases_plain import size_of
+from cases_plain import more_than_size, size_of
 from cases_rewrite import damaged
-from fields import ED25519, LIMIT, content
-from images import bcrypt_options, corpus, encrypted, join, plain, scalar_of, stream
+from cases_scalar_writing import short_privates, slips
+from fields import ED25519, LIMIT, SIZES, content
+from images import bcrypt_options, corpus, encrypted, join, minimal, plain, scalar_of, stream
 from records import CODES, NAMES, OTHERS, PARTS, WIDTHS, Handed, half_of, index_of, numbers_of, record_of
 
 READ, UNLIKE = (0, 0, 0), (1, 0, 0)  # the section read's replies to a right half of an accepted image and to another
@@ -42,6 +43,7 @@ def plain_bases():
     yield Base("a zero before the scalar", plain(1, b"oven", scalar=b"\0" + scalar_of(1, 0x80)))
     yield Base("a needless zero", plain(2, scalar=b"\0" + scalar_of(2, 0x7F)), size_of(2, 0, 7))
     yield Base("a missing zero", plain(3, scalar=scalar_of(3, 0x80)), size_of(3, 1, 7))
+    yield Base("a short scalar", plain(3, scalar=scalar_of(3)[:-1]))
 
 
 def encrypted_bases():
@@ -150,8 +152,12 @@ def place_cases(base, parts=PARTS):
         for start, length in wrong_places(*own, len(base.image)):
             place = (start % 2**64, length % 2**64)
             if place != own:
-                i = index_of(part)
-                yield base.handed(put(put(base.record, i, place[0]), i + 1, place[1]), f"{part} is {place}")
+                yield base.handed(with_part(base.record, part, place), f"{part} is {place}")
+
+
+def with_part(record, part, place):
+    i = index_of(part)
+    return put(put(record, i, place[0]), i + 1, place[1])
 
 
 def swapped_cases(base, pairs):
@@ -163,6 +169,27 @@ def swapped_cases(base, pairs):
             i, j = map(index_of, (one, other))
             numbers[i : i + 2], numbers[j : j + 2] = places[1], places[0]
             yield base.handed(record_of(numbers), f"{one} for {other}")
+
+
+# ---- short scalars, and zeros before them
+
+
+def scalar_bases(algorithm):
+    """Short scalars in the form and not, each with its size once written again."""
+    minimal_ones = [(private, minimal(algorithm, private)) for private in short_privates(algorithm)]
+    for private, scalar in [*minimal_ones, *slips(algorithm)][algorithm::4]:
+        size = size_of(algorithm, more_than_size(algorithm, private), 7)
+        yield Base(f"scalar {scalar[:2].hex()}, {len(scalar)} bytes", plain(algorithm, scalar=scalar), size)
+
+
+def scalar_cases():
+    """The scalar's place is that without the zeros, and no other."""
+    for base in itertools.chain.from_iterable(map(scalar_bases, SIZES)):
+        yield from list(right_cases(base))[::2]
+        start, length = base.record.scalar
+        zeros = [(start - more, length + more) for more in (1, 2)] + [(start + 1, length - 1), (start, length - 1)]
+        for place in zeros:
+            yield base.handed(with_part(base.record, "scalar", place), f"scalar is {place}")
 
 
 # ---- the record of another image, or of none
@@ -233,6 +260,7 @@ def record_cases():
         if base.title in CLOSELY:
             yield from place_cases(base)
             yield from swapped_cases(base, itertools.combinations(PARTS, 2))
+    yield from scalar_cases()
     yield from same_record_cases()
     yield from refused_cases()
     yield from large_cases()

@@ -62,9 +62,9 @@ def marked_rows():
 
 
 def corpus_rows():
-    """Real files: what ssh-keygen writes is in the form, unless it shortened the scalar."""
+    """Real files: what ssh-keygen writes is in the form."""
     for case in corpus():
-        if case.title.startswith("keygen-") and "-short-" not in case.title:
+        if case.title.startswith("keygen-"):
             yield from in_form(case.title, case.image)
         else:
             for room in (len(case.image) + 2, 60):
@@ -77,8 +77,8 @@ def scalar_rows(algorithm):
         comment = b"c" * c
         needless = join(plain(algorithm, comment, scalar=b"\0" + scalar_of(algorithm, 0x7F)))
         missing = join(plain(algorithm, comment, scalar=scalar_of(algorithm, 0x80)))
-        for image, zero in ((needless, 0), (missing, 1)):
-            size = size_of(algorithm, zero, c)
+        for image, more in ((needless, 0), (missing, 1)):
+            size = size_of(algorithm, more, c)
             yield Row("a slip", filled(size + 3), [rewrite(image, writes(size))])
             yield Row("a slip, exact", filled(size), [rewrite(image, writes(size))])
             yield Row("a slip, too little room", filled(size - 1), [rewrite(image, refuses(9))])

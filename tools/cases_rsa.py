@@ -2,8 +2,8 @@
 import itertools
 
 from cases_halves import READ, answered_alike
-from images import accepted, longer, put, put_length, refused
-from images_rsa import E, high, in_blob, in_both, in_section, low, mpint, number, numbers, rsa_encrypted, rsa_plain
+from images import accepted, longer, mpint, put, put_length, refused
+from images_rsa import E, high, in_blob, in_both, in_section, low, number, numbers, rsa_encrypted, rsa_plain
 from images_rsa import small_numbers
 from rsa import BLOB_NUMBERS, NUMBERS
 

@@ -92,8 +92,8 @@ def other_kind_cases():
     for kind in ELLIPTIC:
         fields = put(plain(kind), "blob", blob_fields(numbers()))
         yield refused("RSA in the blob alone", fields, 5, "section.name")
-        short = changed(fields, {"section.scalar": bytes(8)})
-        yield refused("RSA in the blob alone, short scalar", short, 1, "section.scalar")
+        empty = changed(fields, {"section.scalar": b""})
+        yield refused("RSA in the blob alone, empty scalar", empty, 1, "section.scalar")
         fields = plain(kind, keypair=keypair_fields(numbers()))
         yield refused("RSA in the section alone", fields, 5, "section.name")
         yield refused("RSA in the section alone, bad comment", changed(fields, {"section.comment": b"\xff"}), 5, "section.name")

@@ -8,8 +8,8 @@ from cases_rsa import OTHERS, blob_cases, form_and_size, right_forms, wrong_form
 from comments import comments
 from damage import length_edits
 from fields import CIPHERS, ED25519, LIMIT
-from images import join, put_all, stream
-from images_rsa import blob_fields, high, low, mpint, number, numbers, rsa_encrypted, rsa_plain, small_numbers
+from images import join, mpint, put_all, stream
+from images_rsa import blob_fields, high, low, number, numbers, rsa_encrypted, rsa_plain, small_numbers
 from rsa import NUMBERS
 
 SIZES = [1024, 2048, 3072, 4096, 8192]

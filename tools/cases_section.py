@@ -1,4 +1,5 @@
-"""One image or more for each sentence of document 01 on the plain section and on keys, with the reply meant for it."""
+"""One image or more for each sentence of document 01 on the plain section and on keys, with the reply meant for it; of scalars, as
+document 02's request Five has them, cases_scalar.py has more."""
 import itertools
 
 from cases_header import FOREIGN_CURVES, FOREIGN_NAMES, near_misses, wrong_lengths
@@ -54,14 +55,16 @@ def other_kind_cases(algorithm, other):
     fields = plain(algorithm, keypair=keypair_fields(other))
     yield refused("another kind", fields, 5, "section.name")
     yield refused("another kind, bad comment", changed(fields, {"section.comment": b"\xff"}), 5, "section.name")
-    short = changed(fields, {"section.scalar": b"\0" * 8})
-    yield refused("another kind, short scalar", short, 1, "section.scalar")
+    empty = changed(fields, {"section.scalar": b""})
+    yield refused("another kind, empty scalar", empty, 1, "section.scalar")
     if other == ED25519:
         halves = changed(fields, {"section.scalar": stream("halves", 64)})
         yield refused("another kind, halves differ", halves, 3, "section.scalar")
     else:
         leading = changed(fields, {"section.scalar": b"\1" + scalar_of(other)})
         yield refused("another kind, leading byte", leading, 2, "section.scalar")
+        zeros = changed(fields, {"section.scalar": bytes(8)})
+        yield refused("another kind, zeros for a scalar", zeros, 2, "section.scalar")
 
 
 def other_key_cases(algorithm):
@@ -71,7 +74,7 @@ def other_key_cases(algorithm):
     yield refused("another key", fields, 5, "section.name")
     yield refused("another key, bad comment", changed(fields, {"section.comment": b"\xff"}), 5, "section.name")
     yield refused("another key, bad padding", longer(fields, "section", bytes(8)), 5, "section.name")
-    yield refused("another key, short scalar", changed(fields, {"section.scalar": bytes(8)}), 1, "section.scalar")
+    yield refused("another key, empty scalar", changed(fields, {"section.scalar": b""}), 1, "section.scalar")
     for at in (1, len(other) - 1):
         near = bytearray(point_of(algorithm))
         near[at] ^= 1
@@ -96,7 +99,7 @@ def ed25519_cases():
 
 
 def scalar_cases(algorithm):
-    """SIZE bytes, or SIZE + 1 with a zero first."""
+    """1 to SIZE bytes, or SIZE + 1 with a zero first, and not zeros alone."""
     size = SIZES[algorithm]
     fields = plain(algorithm)
     for scalar, form in scalars(algorithm):
@@ -105,9 +108,10 @@ def scalar_cases(algorithm):
     for first in (1, 0x7F, 0x80, 0xFF):
         leading = changed(fields, {"section.scalar": bytes([first]) + scalar_of(algorithm)})
         yield refused(f"leading byte {first}", leading, 2, "section.scalar")
-    for length in (0, 1, size // 2, size - 1):
-        short = changed(fields, {"section.scalar": scalar_of(algorithm)[:length]})
-        yield refused(f"scalar of {length}", short, 1, "section.scalar")
+    yield refused("empty scalar", changed(fields, {"section.scalar": b""}), 1, "section.scalar")
+    for length in (1, size // 2, size - 1, size, size + 1):
+        zeros = changed(fields, {"section.scalar": bytes(length)})
+        yield refused(f"scalar of {length} zeros", zeros, 2, "section.scalar")
     for extra in (2, 3, 9, size):
         for zeros in (0, extra):
             long = changed(fields, {"section.scalar": bytes(zeros) + stream("long", size + extra - zeros)})
@@ -117,14 +121,17 @@ def scalar_cases(algorithm):
 def scalars(algorithm):
     """Scalar strings that are read, and whether they are as the writer makes them."""
     size = SIZES[algorithm]
-    for first in (0, 1, 0x7F):
+    for first in (1, 0x7F):
         yield scalar_of(algorithm, first), True
         yield b"\0" + scalar_of(algorithm, first), False
     for first in (0x80, 0xFF):
         yield scalar_of(algorithm, first), False
         yield b"\0" + scalar_of(algorithm, first), True
-    yield bytes(size), True
-    yield bytes(size + 1), False
+    for length in (1, size // 2, size - 1):
+        yield scalar_of(algorithm)[:length], True
+    yield b"\0" + scalar_of(algorithm, 0x7F)[:-1], False
+    yield b"\0" + scalar_of(algorithm, 0x80)[:-1], True  # SIZE bytes, and the zero is needed
+    yield b"\0\0" + scalar_of(algorithm, 0x80)[:-1], False
     yield b"\xff" * size, False
 
 
@@ -159,8 +166,10 @@ def unlike_curve_cases(algorithm, other):
     title = f"name {algorithm}, curve {other}"
     yield refused(title, fields, 4, "section.curve")
     yield refused(title + ", bad comment", changed(fields, {"section.comment": b"\xff"}), 4, "section.curve")
-    short = changed(fields, {"section.scalar": scalar_of(other)[:-1]})
-    yield refused(title + ", short scalar", short, 1, "section.scalar")
+    for scalar in (scalar_of(other)[:-1], b"\0\0\1"):
+        yield refused(title + ", short scalar", changed(fields, {"section.scalar": scalar}), 4, "section.curve")
+    for scalar, number in ((b"", 1), (bytes(size), 2)):
+        yield refused(title + ", no number", changed(fields, {"section.scalar": scalar}), number, "section.scalar")
     leading = changed(fields, {"section.scalar": b"\1" + scalar_of(other)})
     yield refused(title + ", leading byte", leading, 2, "section.scalar")
     long = changed(fields, {"section.scalar": b"\0\0" + scalar_of(other)})
@@ -173,7 +182,7 @@ def unlike_curve_cases(algorithm, other):
     yield refused(title + ", point of the name's length", own, *reply)
     mixed = changed(fields, {"section.scalar": scalar_of(algorithm)})
     length = SIZES[algorithm]
-    reply = (1, "section.scalar") if length < size else (6, "section.scalar", 4 + size, length - size)
+    reply = (4, "section.curve") if length < size else (6, "section.scalar", 4 + size, length - size)
     yield refused(title + ", scalar of the name's length", mixed, *reply)
 
 

@@ -17,10 +17,11 @@ import sys
 from typing import NamedTuple
 
 import model
+import model_writing
 from against_ssh_keygen import armour, blob_by_ssh_keygen
 from differences_rsa import rsa_differences
 from fetch_corpus import CORPUS, PASSPHRASE
-from fields import ED25519, SIZES
+from fields import ED25519, LIMIT, SIZES
 from images import Field, bcrypt_options, changed, encrypted, join, keypair_fields, padded, plain, put
 from images import put_all, put_length, scalar_of, spot, stream
 
@@ -154,15 +155,40 @@ def crate_differences():
 def scalar_differences():
     low = scalar_of(P256, 0x7F)
     small, small_521 = b"\0\x5a" + stream("small", 30), b"\0\x5a" + stream("small", 64)
-    yield "shortened, P-256, 31 bytes", ecdsa(small, small[1:]), "1 at 263", "reads"
-    yield "shortened, P-521, 65 bytes", ecdsa(small_521, small_521[1:], P521), "1 at 399", "reads"
-    yield "the same P-256 scalar in full width", ecdsa(small), "read", "reads"
-    yield "the same P-521 scalar in full width", ecdsa(small_521, algorithm=P521), "read", "reads"
+    yield "short, P-256, 31 bytes", ecdsa(small, small[1:]), "read", "reads"
+    yield "short, P-521, 65 bytes", ecdsa(small_521, small_521[1:], P521), "read", "reads"
+    yield "the same P-256 scalar in full width", ecdsa(small), "read, form no", "reads"
+    yield "the same P-521 scalar in full width", ecdsa(small_521, algorithm=P521), "read, form no", "reads"
     yield "two needless zeros, 34 bytes", ecdsa(low, b"\0\0" + low), "6, count 2, at 299", "reads"
-    yield "scalar 0", ecdsa(low, bytes(32)), "read", "refuses"
+    yield "32 zeros", ecdsa(low, bytes(32)), "2 at 263", "refuses"
     yield "scalar of the group's order", ecdsa(low, b"\0" + P256_ORDER.to_bytes(32, "big")), "read", "refuses"
     yield "another point's scalar", ecdsa(low, scalar_of(P256)), "read", "reads"
     yield "point off the curve", plain(P256), "read", "refuses"
+
+
+def short_scalar_differences():
+    low = scalar_of(P256, 0x7F)
+    small, high = b"\0\x5a" + stream("small", 30), b"\0\xa5" + stream("small", 30)
+    yield "short, 31 bytes, a5 first: a missing zero", ecdsa(high, high[1:]), "read, form no", "refuses"
+    yield "the same in 32 bytes, its zero needed", ecdsa(high), "read", "reads"
+    yield "two needless zeros, 33 bytes", ecdsa(small, b"\0" + small), "read, form no", "reads"
+    yield "short, 24 bytes", ecdsa(small[1:25]), "read", "reads"
+    yield "129 bits", ecdsa(b"\1" + stream("half", 16)), "read", "reads"
+    yield "128 bits", ecdsa(b"\0\x80" + stream("half", 15)), "read", "refuses"
+    yield "a single byte", ecdsa(b"\5"), "read", "refuses"
+    yield "the same in 32 bytes", ecdsa(b"\5", b"\5".rjust(32, b"\0")), "read, form no", "refuses"
+    yield "no bytes", ecdsa(low, b""), "1 at 263", "refuses"
+    yield "a single zero", ecdsa(low, b"\0"), "2 at 263", "refuses"
+    yield "31 zeros", ecdsa(low, bytes(31)), "2 at 263", "refuses"
+    yield "33 zeros", ecdsa(low, bytes(33)), "2 at 263", "refuses"
+    yield "34 zeros", ecdsa(low, bytes(34)), "6, count 2, at 299", "refuses"
+    yield "33 bytes, 01 first", ecdsa(low, b"\1" + low), "2 at 263", "refuses"
+    small_521 = b"\0\0\x5a" + stream("small", 63)
+    yield "P-521, two needless zeros, 66 bytes", ecdsa(small_521, algorithm=P521), "read, form no", "reads"
+
+
+# What the writer makes of the scalars that aren't in the form: the image of another row.
+WRITTEN = {"D16": "D14", "D17": "D15", "D59": "D60", "D61": "D14", "D66": "D65"}
 
 
 def section_differences():
@@ -192,6 +218,7 @@ def encryption_differences():
 
 def differences():
     groups = [crate_differences(), scalar_differences(), section_differences(), encryption_differences(), rsa_differences()]
+    groups.append(short_scalar_differences())
     rows = [row for group in groups for row in group]
     for number, (title, fields, *rest) in enumerate(rows, 1):
         image = fields if isinstance(fields, bytes) else join(fields)
@@ -223,9 +250,10 @@ def said_by_openssh(image, passphrase):
 
 
 def said_by_document():
-    """What the document's rows say of each id: this reader and OpenSSH, the third and fourth columns."""
+    """What the document's rows say of each id, by their numbers: this reader and OpenSSH, the third and fourth columns."""
     rows = [line.split("|") for line in DOCUMENT.read_text(encoding="utf-8").splitlines() if line.startswith("| D")]
-    return [(row[1].strip(), row[3].strip(), row[4].strip()) for row in rows]
+    said = [(row[1].strip(), row[3].strip(), row[4].strip()) for row in rows]
+    return sorted(said, key=lambda row: int(row[0][1:]))
 
 
 def compare(cases, with_openssh):
@@ -238,6 +266,18 @@ def compare(cases, with_openssh):
         differing += not same
         verdict = "" if same else f"  DIFFERS: {case.here}; OpenSSH {case.openssh}"
         print(f"{case.id:4}{case.title}: {here}" + (f"; OpenSSH {openssh}" if with_openssh else "") + verdict)
+    return differing
+
+
+def compare_written(cases):
+    """Answers how many of the images that WRITTEN names aren't written again as it says."""
+    images = {case.id: case.image for case in cases}
+    differing = 0
+    for read, meant in WRITTEN.items():
+        reply, after = model_writing.rewrite(images[read], buffer=bytes(LIMIT))
+        if after[: reply.length] != images[meant]:
+            print(f"DIFFERS: {read} written again isn't {meant}")
+            differing += 1
     return differing
 
 
@@ -258,7 +298,7 @@ def main():
     if words:
         write(cases, pathlib.Path(words[1]))
     with_openssh = has_openssh()
-    differing = compare(cases, with_openssh)
+    differing = compare(cases, with_openssh) + compare_written(cases)
     if not with_openssh:
         print(f"no ssh-keygen of {OPENSSH} here: OpenSSH's half was left out")
     if said_by_document() != [(case.id, case.here, case.openssh) for case in cases]:

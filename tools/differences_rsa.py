@@ -4,8 +4,8 @@ Where a single number is changed, the key is the corpus's of 1,024 bits; where t
 modulus is odd, since OpenSSH refuses an even one.
 """
 import model
-from images import CORPUS, changed, put
-from images_rsa import in_both, in_section, mpint, number, numbers, rsa_plain
+from images import CORPUS, changed, mpint, put
+from images_rsa import in_both, in_section, number, numbers, rsa_plain
 from rsa import NUMBERS
 
 

@@ -61,7 +61,10 @@ class Reader:
         """A string that must be of length k."""
         field = self.place
         start, length = self.string()
-        hold_to_length(k, length, field)
+        if length < k:
+            raise Refused(1, field)
+        if length > k:
+            raise Refused(6, field + 4 + k, length - k)
         return (start, length)
 
     def inside(self, part):
@@ -71,13 +74,6 @@ class Reader:
     def finish(self):
         if self.left() > 0:
             raise Refused(6, self.place, self.left())
-
-
-def hold_to_length(k, length, field):
-    if length < k:
-        raise Refused(1, field)
-    if length > k:
-        raise Refused(6, field + 4 + k, length - k)
 
 
 def content(image, part):

@@ -166,6 +166,21 @@ def scalar_of(algorithm, first=0x5A):
     return bytes([first]) + stream(f"scalar {algorithm}", size - 1)
 
 
+def mpint(value):
+    """A number above 0 in as few bytes as can be, with room for a sign."""
+    return value.to_bytes(value.bit_length() // 8 + 1, "big")
+
+
+def minimal(algorithm, private):
+    """What the writer stores of a key's private bytes: of a scalar the mpint. Ed25519's seed stays as it is."""
+    return private if algorithm == ED25519 else mpint(int.from_bytes(private, "big"))
+
+
+def by_old_writer(private):
+    """A scalar's string as the writer made it before request Five: all SIZE bytes, and a zero before a byte of 0x80 or more."""
+    return b"\0" * (private[0] >= 0x80) + private
+
+
 def public_fields(algorithm, point):
     curve = [] if algorithm == ED25519 else [Field("curve", curve_name(algorithm))]
     return [Field("name", ALGORITHMS[algorithm]), *curve, Field("point", point)]

@@ -4,18 +4,13 @@ The numbers look random and have the sizes that are asked for. They are no keys:
 in the corpus.
 """
 from fields import ALGORITHMS, ED25519, RSA
-from images import Field, encrypted, padded, plain, put, put_all, stream
+from images import Field, encrypted, mpint, padded, plain, put, put_all, stream
 from rsa import BLOB_NUMBERS, NUMBERS
 
 E = b"\1\0\1"  # 65,537, as ssh-keygen has it
 
 
 # ---- numbers
-
-
-def mpint(value):
-    """A number above 0 in as few bytes as can be, with room for a sign."""
-    return value.to_bytes(value.bit_length() // 8 + 1, "big")
 
 
 def number(bits, label="number"):

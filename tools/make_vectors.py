@@ -44,6 +44,8 @@ from cases_rsa_change import rsa_change_rows
 from cases_rsa_images import rsa_image_cases
 from cases_rsa_records import rsa_record_cases
 from cases_rsa_writing import rsa_rows
+from cases_scalar import scalar_image_cases
+from cases_scalar_writing import scalar_rows
 from cases_section import section_cases
 from damage import damages
 from fields import content
@@ -76,6 +78,7 @@ def all_cases():
     yield from corpus()
     yield from header_cases()
     yield from section_cases()
+    yield from scalar_image_cases()
     yield from damages()
     yield from half_cases()
     yield from rsa_cases()
@@ -144,6 +147,7 @@ def all_rows():
     yield from encrypted_rows()
     yield from rewrite_rows()
     yield from change_rows()
+    yield from scalar_rows()
     yield from rsa_rows()
     yield from rsa_change_rows()
 

@@ -1,4 +1,4 @@
-"""The reading rules of document 01, and of document 02's requests One to Three, once more, in plain Python: a second opinion.
+"""The reading rules of document 01, and of document 02's requests One to Five, once more, in plain Python: a second opinion.
 
 This file was written from these and from the readings recorded in docs/DECISIONS.md, and from no other code of
 this project. Nothing is proved here. It says what the reader, the form and the inspection program should answer, so
@@ -19,8 +19,8 @@ from dataclasses import dataclass
 
 from fields import ABSENT, ALGORITHMS, CIPHER_NAMES, CIPHERS, KDFS, LIMIT, MAGIC, NONE, RSA
 from fields import Reader, Refused, content, string, uint32
-from model_keys import RSA_PARTS, compared, private_field, public_fields, read_blob, read_keypair, read_name, rsa_blob
-from model_keys import rsa_keypair
+from model_keys import RSA_PARTS, compared, filled_scalar, private_field, public_fields, read_blob, read_keypair, read_name
+from model_keys import rsa_blob, rsa_keypair
 
 PLAIN, ENCRYPTED = 1, 2
 
@@ -223,7 +223,8 @@ def read_padding(reader):
 
 
 def write_plain(algorithm, point, scalar, checkint, comment):
-    """The plain image of these fields, of whatever size. Point and scalar have the lengths of the algorithm, which isn't RSA."""
+    """The plain image of these fields, of whatever size. Point and scalar have the lengths of the algorithm, which isn't RSA,
+    and an ECDSA scalar isn't zeros alone."""
     public = public_fields(algorithm, point)
     return plain_image(public, public + private_field(algorithm, point, scalar), checkint, comment)
 
@@ -249,8 +250,8 @@ def write_key(image, record, checkint, comment):
     """The plain image of a plain record's key with this checkint and comment."""
     if record.algorithm == RSA:
         return write_rsa(numbers_of(image, record), checkint, comment)
-    point, scalar = content(image, record.point), content(image, record.scalar)
-    return write_plain(record.algorithm, point, scalar, checkint, comment)
+    point = content(image, record.point)
+    return write_plain(record.algorithm, point, filled_scalar(image, record), checkint, comment)
 
 
 def form(image):

@@ -1,6 +1,6 @@
-"""The rules on keys, of document 01's 'Keys' and of document 02's request Two: how a blob's key and a section's keypair are read,
-and how they are written. Like model.py, whose part this is, it was written from the documents alone."""
-from fields import ALGORITHMS, CURVES, ED25519, RSA, SIZES, Refused, content, hold_to_length, string
+"""The rules on keys, of document 01's 'Keys' and of document 02's requests Two and Five: how a blob's key and a section's keypair
+are read, and how they are written. Like model.py, whose part this is, it was written from the documents alone."""
+from fields import ALGORITHMS, CURVES, ED25519, RSA, SIZES, Refused, content, string
 from rsa import BLOB_NUMBERS, NUMBERS, bits_of, read_numbers
 
 # What a record calls the numbers of an RSA key; modulus and exponent are the blob's, the others the section's.
@@ -109,15 +109,28 @@ def hold_to_name(curve, algorithm, curve_field):
 
 
 def read_scalar(reader, size):
-    """SIZE bytes, or SIZE + 1 with a zero first, which is left off."""
+    """1 to SIZE bytes, or SIZE + 1 with a zero first, and not zeros alone. The part is without the leading zeros."""
     field = reader.place
     start, length = reader.string()
-    if length == size + 1:
-        if reader.image[start] != 0:
-            raise Refused(2, field)
-        return (start + 1, size)
-    hold_to_length(size, length, field)
-    return (start, length)
+    if length == 0:
+        raise Refused(1, field)
+    if length > size + 1:
+        raise Refused(6, field + 4 + size, length - size)
+    if length == size + 1 and reader.image[start] != 0:
+        raise Refused(2, field)
+    number = without_zeros(content(reader.image, (start, length)))
+    if number == b"":
+        raise Refused(2, field)
+    return (start + length - len(number), len(number))
+
+
+def without_zeros(scalar):
+    return scalar.lstrip(b"\0")
+
+
+def filled_scalar(image, record):
+    """A record's seed, or its scalar with zeros filled in front to SIZE bytes: what a writer is handed."""
+    return content(image, record.scalar).rjust(SIZES.get(record.algorithm, 32), b"\0")
 
 
 # ---- what is written: the key fields of the blob, and those of the section
@@ -132,11 +145,12 @@ def public_fields(algorithm, point):
 
 
 def private_field(algorithm, point, scalar):
+    """Ed25519's two halves, or the scalar as RFC 4251's mpint in as few bytes as can be."""
     if algorithm == ED25519:
         return string(scalar, point)
-    if scalar[0] >= 0x80:
-        return string(b"\0", scalar)
-    return string(scalar)
+    number = without_zeros(scalar)
+    sign = b"\0" if number[0] >= 0x80 else b""
+    return string(sign, number)
 
 
 def rsa_blob(n, e):

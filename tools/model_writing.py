@@ -1,5 +1,5 @@
-"""Document 01's writing rules, and those of document 02's request Two, once more, in plain Python: a second opinion on the
-writers, on records that are handed in, and on the comment change.
+"""Document 01's writing rules, and those of document 02's requests Two and Five, once more, in plain Python: a second opinion on
+the writers, on records that are handed in, and on the comment change.
 
 Like model.py, this was written from the documents and the readings recorded in docs/DECISIONS.md, and from no other code of
 this project. Each entry is handed the lent buffer's bytes and answers its reply and the buffer as it must be afterwards.
@@ -81,7 +81,7 @@ def lengths_of(algorithm):
 def plain(algorithm, public, private, checkint, comment, buffer):
     if (len(public), len(private)) != lengths_of(algorithm):
         raise Refused(1, 0)
-    if algorithm != ED25519 and public[0] != 4:
+    if algorithm != ED25519 and (public[0] != 4 or not any(private)):
         raise Refused(2, 0)
     hold_to_utf8(comment, 0)
     own = derived_checkint(private) if checkint is None else checkint

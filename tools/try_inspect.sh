@@ -16,7 +16,7 @@ model() { python3 -c 'import sys; sys.path.insert(0, "tools"); import model; sys
 same "an empty input" "$(./inspect </dev/null)" "refused 1 0 0"
 folder=$(mktemp -d)
 trap 'rm -rf "$folder"' EXIT
-for name in keygen-ed25519-ascii keygen-p521-aes128-gcm openssh-sshkey-dsa_n openssh-sshkey-rsa_n keygen-rsa8192-ascii \
+for name in keygen-ed25519-ascii keygen-p521-short-1 keygen-p521-aes128-gcm openssh-sshkey-dsa_n openssh-sshkey-rsa_n keygen-rsa8192-ascii \
     keygen-rsa3072-aes128-gcm; do
     image=tools/corpus/$name.bin
     same "$image" "$(./inspect "$image")" "$(model "$image")"

@@ -164,13 +164,19 @@ fn private_string(image: &[u8], record: &Image) -> Vec<u8> {
     image[field + 4..record.comment.start as usize - 4].to_vec()
 }
 
-/// A zero put before the string, or its first byte dropped, or its first byte changed.
+/// A zero put before the string, its first byte dropped or changed, the string cut or emptied, or its first bytes made zeros, all of
+/// them or some.
 fn other_scalar(random: &mut Random, private: &[u8]) -> Vec<u8> {
     let mut other = private.to_vec();
-    match random.within(0, 3) {
+    let place = random.within(0, private.len());
+    match random.within(0, 7) {
         0 => other.insert(0, 0),
         1 => drop(other.remove(0)),
-        _ => other[0] ^= 0x80,
+        2 => other[0] ^= 0x80,
+        3 => other.truncate(place),
+        4 => other.clear(),
+        5 => other.fill(0),
+        _ => other[..place].fill(0),
     }
     other
 }

@@ -100,9 +100,17 @@ fn public(random: &mut Random, algorithm: usize) -> Vec<u8> {
     point
 }
 
+/// Made-up private bytes. A scalar of P-521 has 521 bits at most, so its first byte is 0 or 1.
+fn private(random: &mut Random, algorithm: usize) -> Vec<u8> {
+    let mut private = random.bytes(SIZES[algorithm]);
+    if algorithm == 3 {
+        private[0] &= 1;
+    }
+    private
+}
+
 fn plain(random: &mut Random, algorithm: usize, long: bool) -> Vec<u8> {
-    let public = public(random, algorithm);
-    let private = random.bytes(SIZES[algorithm]);
+    let (public, private) = (public(random, algorithm), private(random, algorithm));
     let length = if long { random.within(4_000, 60_000) } else { random.within(0, 90) };
     let comment = random.comment(length);
     let mut out = vec![0; LIMIT];

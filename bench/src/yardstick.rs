@@ -272,19 +272,23 @@ fn seed(part: &[u8], key: &Elliptic) -> Step<Private> {
     Ok(Private { scalar: Span { start: both.start, end: middle }, end: both.end, form: true })
 }
 
+/// A scalar's leading zeros are left off; in the writer's form there is one exactly before a byte of 0x80 or more.
 #[inline(always)]
 fn scalar(part: &[u8], key: &Elliptic) -> Step<Private> {
     let at = key.point.end;
     let span = string(part, at)?;
-    if span.length() == key.size + 1 {
-        if part[span.start] != 0 {
-            return refuse(2, at);
-        }
-        let scalar = Span { start: span.start + 1, end: span.end };
-        return Ok(Private { scalar, end: span.end, form: part[scalar.start] >= 0x80 });
+    if span.length() == 0 {
+        return refuse(1, at);
     }
-    let scalar = hold_to_length(span, at, key.size)?;
-    Ok(Private { scalar, end: span.end, form: part[scalar.start] < 0x80 })
+    if span.length() > key.size + 1 {
+        return left_over(span.length() - key.size, span.start + key.size);
+    }
+    let zeros = match span.of(part).iter().position(|byte| *byte != 0) {
+        Some(zeros) if zeros > 0 || span.length() <= key.size => zeros,
+        _ => return refuse(2, at),
+    };
+    let scalar = Span { start: span.start + zeros, end: span.end };
+    Ok(Private { scalar, end: span.end, form: zeros == usize::from(part[scalar.start] >= 0x80) })
 }
 
 /// The section's keypair: its public key, where it ends, and whether it is in the writer's form.
@@ -603,7 +607,7 @@ pub fn rewrite(image: &[u8], out: &mut [u8]) -> Reply {
     written(image.len())
 }
 
-/// Writes a plain ECDSA image with its scalar in the other form.
+/// Writes a plain ECDSA image with its scalar in the fewest bytes.
 fn mended(image: &[u8], record: &Image, out: &mut [u8]) -> Reply {
     let (scalar, comment) = (&image[range(record.scalar)], &image[range(record.comment)]);
     let section = range(record.blob).end + 4;

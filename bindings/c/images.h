@@ -101,12 +101,34 @@ static void put_public(bytes *to, const key *k)
     put_string(to, k->pub, k->pub_len);
 }
 
+/* How many zeros a scalar begins with; those of a seed don't count. */
+static size_t leading_zeros(const key *k)
+{
+    size_t zeros = 0;
+    while (k->algorithm != SALTORCHARD_ED25519 && zeros < k->priv_len && k->priv[zeros] == 0)
+        zeros++;
+    return zeros;
+}
+
+/* How many zeros the writer puts before a scalar that it has taken all its zeros from. */
+static size_t needed_zeros(const key *k)
+{
+    return k->algorithm != SALTORCHARD_ED25519 && k->priv[leading_zeros(k)] >= 0x80;
+}
+
+/* A scalar's private string: that many zeros, then the scalar without its own. */
+static void put_scalar(bytes *to, const key *k, size_t zeros)
+{
+    size_t own = leading_zeros(k);
+    memset(to->at + to->length, 0, zeros);
+    to->length += zeros;
+    put(to, k->priv + own, k->priv_len - own);
+}
+
 /* The private string's contents by the writer's rule. */
 static void put_private(bytes *to, const key *k)
 {
-    if (k->algorithm != SALTORCHARD_ED25519 && k->priv[0] >= 0x80)
-        put(to, "", 1);
-    put(to, k->priv, k->priv_len);
+    put_scalar(to, k, needed_zeros(k));
     if (k->algorithm == SALTORCHARD_ED25519)
         put(to, k->pub, k->pub_len);
 }
@@ -281,14 +303,14 @@ static saltorchard_image refusal(uint64_t number, uint64_t count, uint64_t at)
     return r;
 }
 
-/* Of a plain image; `zero` is 1 if a zero stands before the scalar. */
-static saltorchard_image plain_record(const key *k, size_t zero, uint32_t checkint, size_t comment, int form)
+/* Of a plain image in which that many zeros stand before the scalar. */
+static saltorchard_image plain_record(const key *k, size_t zeros, uint32_t checkint, size_t comment, int form)
 {
     int ed25519 = k->algorithm == SALTORCHARD_ED25519;
     size_t before_point = ed25519 ? 4 + 11 + 4 : 4 + 19 + 4 + 8 + 4;
     size_t blob = before_point + k->pub_len, section = 43 + blob + 4;
-    size_t scalar = section + 8 + blob + 4 + zero;
-    size_t comment_at = scalar + k->priv_len + (ed25519 ? 32 : 0) + 4;
+    size_t scalar = section + 8 + blob + 4 + zeros, length = k->priv_len - leading_zeros(k);
+    size_t comment_at = scalar + length + (ed25519 ? 32 : 0) + 4;
     saltorchard_image r = {0};
     r.kind = SALTORCHARD_PLAIN;
     r.algorithm = (uint64_t)k->algorithm;
@@ -297,7 +319,7 @@ static saltorchard_image plain_record(const key *k, size_t zero, uint32_t checki
     r.form = (uint64_t)form;
     r.blob = part(43, blob);
     r.point = part(43 + before_point, k->pub_len);
-    r.scalar = part(scalar, k->priv_len);
+    r.scalar = part(scalar, length);
     r.comment = part(comment_at, comment);
     r.section = section - 4;
     return r;

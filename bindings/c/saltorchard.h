@@ -24,10 +24,10 @@ extern "C" {
 /* The number of a reply. The first condition that holds, in the order of reading or writing, gives it. */
 enum {
     SALTORCHARD_ACCEPTED = 0,
-    SALTORCHARD_LENGTH = 1,          /* a field runs past its end, or has a wrong length or key count; an RSA number with too few or
-                                        too many bits; a header that isn't this image's */
-    SALTORCHARD_FORMAT = 2,          /* wrong magic, padding byte, point tag or leading scalar byte; an RSA number that isn't a
-                                        positive mpint in its fewest bytes */
+    SALTORCHARD_LENGTH = 1,          /* a field runs past its end, or has a wrong length or key count; an empty scalar; an RSA number
+                                        with too few or too many bits; a header that isn't this image's */
+    SALTORCHARD_FORMAT = 2,          /* wrong magic, padding byte, point tag or leading scalar byte; a scalar of zeros only; an RSA
+                                        number that isn't a positive mpint in its fewest bytes */
     SALTORCHARD_CRYPTO = 3,          /* checkints, KDF use, ciphertext length, Ed25519 halves */
     SALTORCHARD_UNKNOWN = 4,         /* unknown name or code, or curve unlike its algorithm */
     SALTORCHARD_PUBLIC_KEY = 5,      /* the section's public key isn't the header's */
@@ -82,8 +82,10 @@ typedef struct {
  * was read and refused, as in a read; for a new comment that isn't UTF-8, the old comment's field. */
 typedef struct { uint64_t number, count, at, length; } saltorchard_reply;
 
-/* Reads an image. For Ed25519 `point` is the public string and `scalar` the seed. An ECDSA scalar has no extra zero. RSA has no point
- * and no scalar: its `modulus` and `exponent` are the blob's, its `d`, `iqmp`, `p` and `q` the section's, absent where encrypted. */
+/* Reads an image. For Ed25519 `point` is the public string and `scalar` the seed. An ECDSA `scalar` is what is stored without its
+ * leading zeros, so it may be shorter than its curve's size (32, 48, 66); where it is stored with needless zeros, or without a needed
+ * one, the image isn't in the form. RSA has no point and no scalar: its `modulus` and `exponent` are the blob's, its `d`, `iqmp`, `p`
+ * and `q` the section's, absent where encrypted. */
 saltorchard_image saltorchard_read(const uint8_t *image, size_t image_len);
 
 /* Reads an image up to its blob's end. What comes after isn't looked at: it may be damaged, short or missing. An accepted header
@@ -96,7 +98,12 @@ saltorchard_image saltorchard_read_header(const uint8_t *image, size_t image_len
 saltorchard_image saltorchard_read_section(const uint8_t *image, size_t image_len, saltorchard_image header);
 
 /* Writes a plain image of an Ed25519 or ECDSA key. `pub` is an Ed25519 public key of 32 bytes or an uncompressed point (65, 97, 133),
- * `priv` the seed of 32 bytes or the scalar (32, 48, 66). `derive` 0: the given checkint; else one is derived from `priv`. */
+ * `priv` the seed of 32 bytes or the scalar (32, 48, 66), a short one with zeros in front:
+ *     memset(priv, 0, size);
+ *     memcpy(priv + size - read.scalar.length, image + read.scalar.start, read.scalar.length);
+ * The scalar is stored as an mpint in the fewest bytes: without leading zeros, but with one before a first byte of 0x80 or more. Refused,
+ * in this order: a length that is wrong for the algorithm (1), a point that doesn't begin with 4 or a scalar of zeros only (2), the
+ * comment (7), the size (11), the room (9). `derive` 0: the given checkint; else one is derived from `priv`, leading zeros included. */
 saltorchard_reply saltorchard_write_plain(uint8_t algorithm, const uint8_t *pub, size_t pub_len, const uint8_t *priv, size_t priv_len,
     uint8_t derive, uint32_t checkint, const uint8_t *comment, size_t comment_len, uint8_t *out, size_t out_len);
 

@@ -214,10 +214,10 @@ static void marked_openings(void)
 }
 
 /* Writes the key, holds the bytes and the read to the length and padding given. */
-static void marked_image(size_t marked, const key *k, size_t zero, const char *comment, size_t length, size_t padding)
+static void marked_image(size_t marked, const key *k, size_t zeros, const char *comment, size_t length, size_t padding)
 {
     size_t c = strlen(comment);
-    saltorchard_image record = plain_record(k, zero, 0x01020304, c, 1);
+    saltorchard_image record = plain_record(k, zeros, 0x01020304, c, 1);
     now("M", marked);
     plain_image(&image, k, 0x01020304, comment, c);
     CHECK(image.length == length);
@@ -241,24 +241,63 @@ static void marked_images(void)
     marked_image(9, &high, 1, "", 311, 7);
 }
 
-/* A P-256 image whose scalar field has these bytes: n of them, beginning with first and second. */
-static key scalar_image(size_t n, uint8_t first, uint8_t second)
+/* An image whose scalar's string has n bytes: zeros, then `first`, then others. Answers the key with its last SIZE bytes. */
+static key scalar_image(int algorithm, size_t n, size_t zeros, uint8_t first)
 {
-    key k = make_key(SALTORCHARD_P256, first);
+    key k = make_key(algorithm, 1);
+    size_t kept = n < k.priv_len ? n : k.priv_len;
     field.length = n;
     memset(field.at, 0x33, n);
-    field.at[0] = first;
-    field.at[1] = second;
-    memcpy(k.priv, field.at + n - 32, 32);
+    memset(field.at, 0, zeros);
+    if (zeros < n)
+        field.at[zeros] = first;
+    memset(k.priv, 0, k.priv_len);
+    memcpy(k.priv + k.priv_len - kept, field.at + n - kept, kept);
     plain_image_of(&image, &k, &field, 9, "oven7", 5);
     return k;
 }
 
-/* Accepted and not in the writer's form: rewriting makes another image, and the comment isn't changed. */
-static void not_the_form(const key *k, size_t zero)
+static void rewritten(void)
 {
-    READS(&image, plain_record(k, zero, 9, 5, 0));
+    lend_junk();
+    REPLY(rewrite(&image, image.length), 0, 0, 0, image.length);
+    HOLDS(&image);
+    lend_junk();
+    REPLY(rewrite(&image, image.length - 1), 9, 0, 0, 0);
+    KEPT();
+}
+
+/* The scalar of the image's read, with zeros filled in front, is what the writer takes, and it writes the form. */
+static void written_again(const key *k)
+{
+    saltorchard_image read = saltorchard_read(image.at, image.length);
+    key again = *k;
+    memset(again.priv, 0, again.priv_len);
+    memcpy(again.priv + again.priv_len - read.scalar.length, image.at + read.scalar.start, read.scalar.length);
+    CHECK(memcmp(again.priv, k->priv, k->priv_len) == 0);
     plain_image(&other, k, 9, "oven7", 5);
+    lend_junk();
+    REPLY(write_key(&again, 0, 9, "oven7", 5, LARGEST), 0, 0, 0, other.length);
+    HOLDS(&other);
+}
+
+/* Accepted and in the writer's form: rewriting makes the same image, and the comment is changed. */
+static void in_the_form(const key *k)
+{
+    READS(&image, plain_record(k, needed_zeros(k), 9, 5, 1));
+    written_again(k);
+    rewritten();
+    plain_image(&other, k, 9, "oven 7, line 2", 14);
+    lend_image(&image);
+    REPLY(change(image.length, "oven 7, line 2", 14, LARGEST), 0, 0, 0, other.length);
+    HOLDS(&other);
+}
+
+/* Accepted and not in the writer's form: rewriting makes another image, and the comment isn't changed. */
+static void not_the_form(const key *k, size_t zeros)
+{
+    READS(&image, plain_record(k, zeros, 9, 5, 0));
+    written_again(k);
     lend_junk();
     REPLY(rewrite(&image, LARGEST), 0, 0, 0, other.length);
     HOLDS(&other);
@@ -271,23 +310,24 @@ static void marked_scalars(void)
 {
     key k;
     now("M", 10);
-    k = scalar_image(33, 0x00, 0x7f);
+    k = scalar_image(SALTORCHARD_P256, 33, 1, 0x7f);
     not_the_form(&k, 1);
     now("M", 11);
-    k = scalar_image(32, 0x80, 0x00);
+    k = scalar_image(SALTORCHARD_P256, 32, 0, 0x80);
     not_the_form(&k, 0);
     now("M", 12);
-    scalar_image(33, 0x01, 0x7f);
+    scalar_image(SALTORCHARD_P256, 33, 0, 0x01);
     REFUSED(&image, 2, 0, 263);
     now("M", 13);
-    scalar_image(34, 0x00, 0x00);
+    scalar_image(SALTORCHARD_P256, 34, 2, 0x33);
     REFUSED(&image, 6, 2, 263 + 4 + 32);
-    now("M", 14);
-    field.length = 31;
-    memset(field.at, 0x33, 31);
-    k = make_key(SALTORCHARD_P256, 0);
-    plain_image_of(&image, &k, &field, 9, "oven7", 5);
-    REFUSED(&image, 1, 0, 263);
+    now("M", 14); /* as request Five has it */
+    k = scalar_image(SALTORCHARD_P256, 31, 0, 0x33);
+    in_the_form(&k);
+    CHECK(saltorchard_read(image.at, image.length).scalar.start == 267);
+    CHECK(saltorchard_read(image.at, image.length).scalar.length == 31);
+    scalar_image(SALTORCHARD_P256, 31, 31, 0);
+    REFUSED(&image, 2, 0, 263);
 }
 
 static void marked_limit(void)
@@ -317,7 +357,7 @@ static void derived(const key *k, uint32_t checkint)
         lend_junk();
         REPLY(write_key(k, derive, 0x55555555, "oven7", 5, LARGEST), 0, 0, 0, image.length);
         HOLDS(&image);
-        READS(&image, plain_record(k, k->algorithm != SALTORCHARD_ED25519 && k->priv[0] >= 0x80, checkint, 5, 1));
+        READS(&image, plain_record(k, needed_zeros(k), checkint, 5, 1));
     }
 }
 
@@ -333,6 +373,9 @@ static void marked_checkint(void)
     p521.priv[63] = 0x56;
     p521.priv[0] = 0x81;
     derived(&p521, 0x81000056);
+    p521.priv[0] = 0;
+    p521.priv[1] = 0x81;
+    derived(&p521, 0x00810056);
     memset(ed25519.priv, 0, 32);
     ed25519.priv[0] = 0xf0;
     ed25519.priv[5] = 0x0f;
@@ -341,24 +384,22 @@ static void marked_checkint(void)
     derived(&ed25519, 0xf00faa01);
 }
 
-/* ---- every kind, written, read, rewritten, its comment changed */
-
-static void rewritten(void)
+static void marked(void)
 {
-    lend_junk();
-    REPLY(rewrite(&image, image.length), 0, 0, 0, image.length);
-    HOLDS(&image);
-    lend_junk();
-    REPLY(rewrite(&image, image.length - 1), 9, 0, 0, 0);
-    KEPT();
+    marked_openings();
+    marked_images();
+    marked_scalars();
+    marked_limit();
+    marked_checkint();
 }
+
+/* ---- every kind, written, read, rewritten, its comment changed */
 
 static void plain_kind(const key *k)
 {
-    size_t zero = k->algorithm != SALTORCHARD_ED25519 && k->priv[0] >= 0x80;
     for (size_t c = 0; c < 10; c++) {
         plain_image(&image, k, 0xfedcba98, long_comment, c);
-        READS(&image, plain_record(k, zero, 0xfedcba98, c, 1));
+        READS(&image, plain_record(k, needed_zeros(k), 0xfedcba98, c, 1));
         lend_junk();
         REPLY(write_key(k, 0, 0xfedcba98, long_comment, c, image.length), 0, 0, 0, image.length);
         HOLDS(&image);
@@ -413,6 +454,65 @@ static void encrypted_kinds(void)
     }
 }
 
+/* ---- scalars of every length */
+
+/* What the rules say of an image whose scalar's string has n bytes, `zeros` of them leading zeros. */
+static void scalar_of_length(const key *k, size_t n, size_t zeros)
+{
+    size_t size = k->priv_len, at = plain_record(k, 0, 9, 5, 1).scalar.start - 4;
+    if (n == 0)
+        REFUSED(&image, 1, 0, at);
+    else if (n > size + 1)
+        REFUSED(&image, 6, n - size, at + 4 + size);
+    else if (zeros == n || (n == size + 1 && zeros == 0))
+        REFUSED(&image, 2, 0, at);
+    else if (zeros == needed_zeros(k))
+        in_the_form(k);
+    else
+        not_the_form(k, zeros);
+}
+
+static void scalars_of_length(int algorithm, size_t n)
+{
+    size_t zeros[5] = {0, 1, 2, n / 2, n};
+    for (size_t i = 0; i < 5; i++) {
+        for (int first = 0x7f; first <= 0x80 && zeros[i] <= n; first++) {
+            key k = scalar_image(algorithm, n, zeros[i], (uint8_t)first);
+            now("scalar of length", n);
+            scalar_of_length(&k, n, zeros[i]);
+        }
+    }
+}
+
+static void scalars(void)
+{
+    for (int algorithm = SALTORCHARD_P256; algorithm <= SALTORCHARD_P521; algorithm++) {
+        for (size_t n = 0; n <= SIZES[algorithm] + 3; n++)
+            scalars_of_length(algorithm, n);
+    }
+}
+
+/* A scalar of zeros only is refused whatever comes later; a seed of zeros is one like another. */
+static void zeros_only(void)
+{
+    for (int algorithm = 0; algorithm < 4; algorithm++) {
+        key k = make_key(algorithm, 0);
+        now("zeros only", (size_t)algorithm);
+        memset(k.priv, 0, k.priv_len);
+        if (algorithm == SALTORCHARD_ED25519) {
+            plain_kind(&k);
+            continue;
+        }
+        lend_junk();
+        REPLY(write_key(&k, 0, 0, "\xff", 1, 0), 2, 0, 0, 0);
+        REPLY(write_key(&k, 0, 0, "oven7", 5, LARGEST), 2, 0, 0, 0);
+        REPLY(write_key(&k, 1, 0, "oven7", 5, LARGEST), 2, 0, 0, 0);
+        k.priv_len--;
+        REPLY(write_key(&k, 0, 0, "oven7", 5, LARGEST), 1, 0, 0, 0);
+        KEPT();
+    }
+}
+
 /* ---- the reader's refusals */
 
 typedef struct {
@@ -463,7 +563,8 @@ static void damaged_p256(void)
         {81, 64, 1, 0, 78},    {81, 66, 1, 0, 78},    {82, 2, 2, 0, 78},     {42, 105, 6, 1, 147},
         {185, 7, 4, 0, 182},   {193, '7', 4, 0, 182}, {197, 64, 1, 0, 194}, /* section */
         {197, 66, 6, 1, 263},  {198, 3, 2, 0, 194},   {199, 0xfe, 5, 0, 159},
-        {83, 0xfe, 5, 0, 159}, {266, 31, 1, 0, 263},  {266, 34, 6, 2, 299},  {266, 33, 2, 0, 263},
+        {83, 0xfe, 5, 0, 159}, {266, 31, 1, 0, 298},  {266, 34, 6, 2, 299},  {266, 33, 2, 0, 263},
+        {266, 0, 1, 0, 263},   {264, 1, 1, 0, 263},
         {308, 0, 2, 0, 308},   {310, 4, 2, 0, 308},   /* padding: its first byte, whichever is wrong */
     };
     key k = make_key(SALTORCHARD_P256, 0x7f);
@@ -527,8 +628,18 @@ static void section_of_another_key(void)
     other_section(&field);
     REFUSED(&image, 4, 0, 182);
     now("section's curve unlike its name, scalar length", 47);
-    field.length -= 52;
+    field.length -= 4 + 48;
     put_string(&field, p384.priv, 47);
+    other_section(&field);
+    REFUSED(&image, 4, 0, 182);
+    now("section's curve unlike its name, scalar length", 50);
+    field.length -= 4 + 47;
+    put_string(&field, p384.priv, 50);
+    other_section(&field);
+    REFUSED(&image, 6, 2, 295 + 4 + 48);
+    now("section's curve unlike its name, scalar length", 0);
+    field.length -= 4 + 50;
+    put_string(&field, "", 0);
     other_section(&field);
     REFUSED(&image, 1, 0, 295);
     now("section's key of kind", 2);
@@ -646,6 +757,9 @@ static void plain_order(void)
     now("plain writer's refusal", 2);
     REPLY(write_key(&k, 0, 0, "\xff", 1, 0), 2, 0, 0, 0);
     k.pub[0] = 4;
+    memset(k.priv, 0, 32);
+    REPLY(write_key(&k, 0, 0, "\xff", 1, 0), 2, 0, 0, 0);
+    k.priv[31] = 1;
     now("plain writer's refusal", 7);
     long_comment[65400] = (char)0xff;
     REPLY(write_key(&k, 0, 0, long_comment, 65401, 0), 7, 0, 0, 0);
@@ -1446,13 +1560,11 @@ static void halves_above_the_limit(void)
 int main(void)
 {
     memset(long_comment, 'c', sizeof long_comment - 1);
-    marked_openings();
-    marked_images();
-    marked_scalars();
-    marked_limit();
-    marked_checkint();
+    marked();
     plain_kinds();
     encrypted_kinds();
+    scalars();
+    zeros_only();
     damaged_ed25519();
     damaged_p256();
     cut_or_longer();

@@ -10,8 +10,8 @@ use crate::{Field, MAX_IMAGE_LEN};
 ///
 /// | number | [`name`](Error::name) | meaning |
 /// |---|---|---|
-/// | 1 | `Length` | the field runs past its end, or has a wrong length or key count; too few or too many bits (RSA) |
-/// | 2 | `FormatEncoding` | wrong magic, padding byte, point tag or leading scalar byte; no positive minimal mpint (RSA) |
+/// | 1 | `Length` | the field runs past its end, or has a wrong length or key count; empty (scalar); too few or too many bits (RSA) |
+/// | 2 | `FormatEncoding` | wrong magic, padding byte or point tag; a scalar's first byte, or zeros only; no positive minimal mpint (RSA) |
 /// | 3 | `Crypto` | checkints, KDF use, ciphertext length, Ed25519 halves |
 /// | 4 | `AlgorithmUnknown` | unknown name, or a curve unlike its algorithm |
 /// | 5 | `PublicKey` | the section's public key isn't the header's |
@@ -172,6 +172,7 @@ fn length_fault(field: Field) -> &'static str {
         Field::Rounds => "are cut short",
         Field::FirstCheckint | Field::Tag => "is cut short",
         Field::KeyCount => "is cut short, or isn't 1",
+        Field::Scalar => "is cut short, or empty",
         Field::BlobN | Field::SectionN => "is cut short, or doesn't have 1,024 to 8,192 bits",
         Field::BlobE | Field::SectionE | Field::D | Field::Iqmp | Field::P | Field::Q => {
             "is cut short, or has more bits than n"
@@ -189,10 +190,11 @@ fn encoding_fault(field: Field) -> &'static str {
     match field {
         Field::Image => "doesn't begin with the magic",
         Field::BlobPoint | Field::SectionPoint => "doesn't begin with 4",
-        Field::Scalar => "is a byte longer than its curve's size, and doesn't begin with 0",
+        Field::Scalar => "has zeros only, or is a byte longer than its curve's size and doesn't begin with 0",
         Field::Padding => "isn't 1, 2, 3 and so on",
         Field::HandedIn => {
-            "has a point that doesn't begin with 4, or an RSA number that isn't positive and in the fewest bytes"
+            "has a point that doesn't begin with 4, a scalar of zeros only, or an RSA number that isn't positive and in \
+             the fewest bytes"
         }
         _ => "isn't a positive number in the fewest bytes",
     }

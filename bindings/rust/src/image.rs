@@ -4,7 +4,7 @@ use std::fmt;
 
 use crate::accepted::Accepted;
 use crate::c;
-use crate::{Algorithm, Cipher, Error, KdfAlg};
+use crate::{Algorithm, Cipher, EcdsaCurve, Error, KdfAlg};
 
 /// A key file's image that the reader accepted. It borrows the caller's bytes, and so do the parts that it answers: nothing
 /// is copied.
@@ -36,9 +36,24 @@ impl<'a> Image<'a> {
         std::str::from_utf8(self.read.part(self.read.fields.comment)).expect("an accepted image's comment is UTF-8")
     }
 
-    /// **Private.** The secret scalar without a zero before it; for Ed25519 the seed. Empty for RSA and for an encrypted image.
+    /// **Private.** The secret scalar without leading zeros, so it may be shorter than its curve's size; for Ed25519 the seed,
+    /// all 32 bytes. Empty for RSA and for an encrypted image.
     pub fn scalar(&self) -> &'a [u8] {
         self.read.part(self.read.fields.scalar)
+    }
+
+    /// **Private.** The [`scalar`](Self::scalar) as [`PlainKey`](crate::PlainKey) takes it: copied into `room`, with zeros filled
+    /// in front to its curve's size. The seed, and the empty one, get none. `room` is the caller's to wipe.
+    pub fn full_scalar<'r>(&self, room: &'r mut [u8; EcdsaCurve::MAX_SIZE]) -> &'r [u8] {
+        let scalar = self.scalar();
+        let size = match self.algorithm() {
+            Algorithm::Ecdsa { curve } if !scalar.is_empty() => curve.size(),
+            _ => scalar.len(),
+        };
+        let (zeros, rest) = room[..size].split_at_mut(size - scalar.len());
+        zeros.fill(0);
+        rest.copy_from_slice(scalar);
+        &room[..size]
     }
 
     /// **Private.** An RSA key's private exponent, stored like the [`modulus`](Self::modulus). Empty for a key of another kind
@@ -86,8 +101,8 @@ impl<'a> Image<'a> {
         self.read.fields.padding as usize
     }
 
-    /// Is the image, byte for byte, what the writer makes of its record? Among accepted images only an ECDSA scalar with a
-    /// needless zero before it, or without a needed one, is not.
+    /// Is the image, byte for byte, what the writer makes of its record? Among accepted images only one with an ECDSA scalar that
+    /// has needless zeros before it, or lacks the one that it needs, is not.
     pub fn is_in_form(&self) -> bool {
         self.read.fields.form == 1
     }

@@ -14,6 +14,18 @@ pub enum EcdsaCurve {
 }
 
 impl EcdsaCurve {
+    /// The largest [`size`](Self::size) of a curve.
+    pub const MAX_SIZE: usize = 66;
+
+    /// The bytes of a scalar or a coordinate with all its leading zeros: 32, 48 or 66.
+    pub fn size(self) -> usize {
+        match self {
+            Self::NistP256 => 32,
+            Self::NistP384 => 48,
+            Self::NistP521 => 66,
+        }
+    }
+
     /// The curve's name in the container, such as `nistp256`.
     pub fn as_str(self) -> &'static str {
         match self {

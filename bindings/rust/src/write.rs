@@ -10,8 +10,8 @@ use crate::{Algorithm, Cipher, Error, KdfAlg};
 pub enum Checkint {
     /// This one.
     Given(u32),
-    /// The xor of the private bytes' big-endian groups of four, a shorter rest ignored. For RSA these are d's bytes, a zero
-    /// before them included.
+    /// The xor of the private bytes' big-endian groups of four, a shorter rest ignored. For ECDSA these are as many bytes as the
+    /// curve's size, leading zeros included; for RSA they are d's, a zero before them included.
     Derived,
 }
 
@@ -32,7 +32,8 @@ pub struct PlainKey<'a> {
     pub algorithm: Algorithm,
     /// Ed25519: the 32 public bytes. ECDSA: the uncompressed point, a byte 4 and two coordinates of the curve's size.
     pub public: &'a [u8],
-    /// **Private.** Ed25519: the seed of 32 bytes. ECDSA: the scalar, as many bytes as the curve's size (32, 48 or 66).
+    /// **Private.** Ed25519: the seed of 32 bytes. ECDSA: the scalar, as many bytes as the [curve's size](crate::EcdsaCurve::size),
+    /// a short one with zeros in front. [`Image::full_scalar`](crate::Image::full_scalar) gives both so.
     pub private: &'a [u8],
     /// The checkint.
     pub checkint: Checkint,
@@ -77,11 +78,12 @@ pub struct EncryptedKey<'a> {
     pub tag: &'a [u8],
 }
 
-/// Writes a plain image of an Ed25519 or ECDSA key to the start of `out` and answers its length; the bytes past it stay.
+/// Writes a plain image of an Ed25519 or ECDSA key to the start of `out` and answers its length; the bytes past it stay. A scalar
+/// is stored as an mpint in the fewest bytes: without leading zeros, but with one before a first byte of 0x80 or more.
 ///
 /// Refused, in this order: RSA, for which there is [`write_rsa`] (4), a length that is wrong for the algorithm (1), a point
-/// that doesn't begin with 4 (2), a comment that isn't UTF-8 (7), an image above 65,535 bytes (11) or longer than `out` (9).
-/// Then no byte of `out` changes.
+/// that doesn't begin with 4 or a scalar of zeros only (2), a comment that isn't UTF-8 (7), an image above 65,535 bytes (11) or
+/// longer than `out` (9). Then no byte of `out` changes.
 pub fn write_plain(key: &PlainKey<'_>, comment: impl AsRef<[u8]>, out: &mut [u8]) -> Result<usize, Error> {
     let (derive, checkint) = key.checkint.codes();
     let algorithm = key.algorithm.code();

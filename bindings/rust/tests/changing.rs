@@ -5,7 +5,7 @@ mod support;
 use saltorchard::{write_plain, Checkint, LentImage, PlainKey};
 use support::compare::{Tally, ALGORITHMS};
 use support::damage::{comment, structured};
-use support::images::{drafts, Draft, Key};
+use support::images::{after_zeros, drafts, Draft, Key};
 use support::Rng;
 
 /// A buffer of `room` bytes that begins with `image`; what follows is junk without a zero.
@@ -99,7 +99,8 @@ fn sequences() {
     let mut tally = Tally::new("sequences");
     let mut rng = Rng::new("sequences");
     for round in 0..400 {
-        let (key, checkint) = (Key::new((round % 4) as u8, &mut rng), rng.uint32());
+        let key = Key::new((round % 4) as u8, &mut rng).short(rng.below(1 + round % 32), 1 | rng.byte());
+        let checkint = rng.uint32();
         let first = Draft::in_form(&key, checkint, b"first").bytes();
         let (mut last, mut n) = (b"first".to_vec(), first.len());
         let mut contents = buffer(&first, n + rng.below(90));
@@ -157,14 +158,15 @@ fn out_of_the_form_near_the_limit() {
     let mut tally = Tally::new("out of the form near the limit");
     let mut rng = Rng::new("out of the form near the limit");
     let long = vec![b'n'; 65_600];
-    for (first, zero) in [(0x80, false), (0x7f, true)] {
-        let key = Key::new(1, &mut rng).beginning(first);
-        let short = Draft::plain(&key, zero, 0, b"").bytes().len();
+    let key = Key::new(1, &mut rng);
+    for (zeros, byte, times) in [(0, 0x80, 32), (1, 0x7f, 32), (0, 0x80, 7), (30, 1, 3)] {
+        let stored = after_zeros(zeros, byte, times);
+        let short = Draft::stored(&key, stored.clone(), 0, b"").bytes().len();
         for length in 65_535 - short - 8..=65_535 - short {
-            let image = Draft::plain(&key, zero, 0, &long[..length]).bytes();
+            let image = Draft::stored(&key, stored.clone(), 0, &long[..length]).bytes();
             tally.change_comment(&buffer(&image, 65_535), image.len(), b"\xff");
         }
     }
-    tally.expect_replies(&[10], 18);
-    tally.end(18);
+    tally.expect_replies(&[10], 36);
+    tally.end(36);
 }

@@ -4,6 +4,8 @@
 mod oven;
 #[path = "../examples/passphrase.rs"]
 mod passphrase;
+#[path = "../examples/short.rs"]
+mod short;
 #[path = "../examples/silo.rs"]
 mod silo;
 
@@ -11,6 +13,7 @@ mod silo;
 fn run() {
     oven::main().expect("the example's key is fine");
     passphrase::main().expect("the example's keys are fine");
+    short::main().expect("the example's key is fine");
     silo::main().expect("the example's key is fine");
 }
 
@@ -18,7 +21,8 @@ fn run() {
 fn stand_in_the_readme() {
     let readme = include_str!("../README.md");
     let [oven, passphrase] = [include_str!("../examples/oven.rs"), include_str!("../examples/passphrase.rs")];
-    for example in [oven, passphrase, include_str!("../examples/silo.rs")] {
+    let [short, silo] = [include_str!("../examples/short.rs"), include_str!("../examples/silo.rs")];
+    for example in [oven, passphrase, short, silo] {
         assert!(readme.contains(&format!("```\n{}```", example)));
     }
 }

@@ -47,6 +47,12 @@ fn with_scalar(length: usize, first: &[u8]) -> Vec<u8> {
     draft.bytes()
 }
 
+/// The length of the scalar that is read, and whether the image is in the form.
+fn scalar_length_and_form(bytes: &[u8]) -> (usize, bool) {
+    let image = Image::read(bytes).expect("it is read");
+    (image.scalar().len(), image.is_in_form())
+}
+
 #[test]
 fn m1_to_m4_the_magic() {
     assert_eq!(refused(b""), (1, 0));
@@ -71,17 +77,25 @@ fn m8_and_m9_p256() {
 #[test]
 fn m10_and_m11_not_in_the_form() {
     for image in [with_scalar(33, &[0, 0x7f]), with_scalar(32, &[0x80])] {
-        let image = Image::read(&image).expect("it is read");
-        assert!(!image.is_in_form());
-        assert_eq!(image.scalar().len(), 32);
+        assert_eq!(scalar_length_and_form(&image), (32, false));
     }
 }
 
 #[test]
-fn m12_to_m14_scalars_refused() {
+fn m12_and_m13_scalars_refused() {
     assert_eq!(refused(&with_scalar(33, &[1])), (2, 0));
     assert_eq!(refused(&with_scalar(34, &[0, 0])), (6, 2));
-    assert_eq!(refused(&with_scalar(31, &[0x11])), (1, 0));
+}
+
+/// Read if it isn't zeros only, as request Five has it.
+#[test]
+fn m14_a_short_scalar() {
+    assert_eq!(scalar_length_and_form(&with_scalar(31, &[0x11])), (31, true));
+    assert_eq!(scalar_length_and_form(&with_scalar(31, &[0x80])), (31, false));
+    assert_eq!(scalar_length_and_form(&with_scalar(31, &[0, 0x80])), (30, true));
+    assert_eq!(scalar_length_and_form(&with_scalar(31, &[0, 0, 0x11])), (29, false));
+    assert_eq!(refused(&with_scalar(31, &[0; 31])), (2, 0));
+    assert_eq!(refused(&with_scalar(0, &[])), (1, 0));
 }
 
 #[test]

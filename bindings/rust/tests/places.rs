@@ -3,7 +3,7 @@
 use saltorchard::Image;
 
 /// The lines of the list: a condition each.
-const CONDITIONS: usize = 92;
+const CONDITIONS: usize = 93;
 
 fn list() -> String {
     let path = concat!(env!("CARGO_MANIFEST_DIR"), "/tests/data/places");

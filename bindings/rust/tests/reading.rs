@@ -4,7 +4,8 @@ mod support;
 
 use support::compare::Tally;
 use support::damage::{comment, number_changes, set_uint32, spliced, structured, with_two_faults};
-use support::images::{drafts, plain_drafts, rsa_drafts, sealed, sealed_drafts, Draft, Flat, Key, DRAFTS, MAGIC};
+use support::images::{drafts, plain_drafts, rsa_drafts, sealed, sealed_drafts, Draft, Flat, Key};
+use support::images::{DRAFTS, MAGIC, PLAIN_DRAFTS};
 use support::Rng;
 
 #[test]
@@ -170,7 +171,8 @@ fn order_of_reading() {
     let mut tally = Tally::new("order of reading");
     let mut rng = Rng::new("order of reading");
     let (plain, encrypted, rsa) = (plain_drafts(&mut rng), sealed_drafts(&mut rng), rsa_drafts(&mut rng));
-    for draft in plain[13..26].iter().chain(encrypted.iter().step_by(5)).chain(rsa.iter().skip(1).step_by(2)) {
+    let with_a_comment = plain[PLAIN_DRAFTS..2 * PLAIN_DRAFTS].iter();
+    for draft in with_a_comment.chain(encrypted.iter().step_by(5)).chain(rsa.iter().skip(1).step_by(2)) {
         for image in with_two_faults(draft) {
             tally.read(&image);
         }
@@ -201,7 +203,7 @@ fn comment_lengths() {
         for length in 0..=300 {
             let image = Draft::in_form(&key, rng.uint32(), &vec![b'c'; length]).bytes();
             assert!(tally.read(&image));
-            tally.read(&Draft::plain(&key, !key.needs_zero(), 0, &vec![b'c'; length]).bytes());
+            tally.read(&Draft::plain(&key, key.private[0] < 0x80, 0, &vec![b'c'; length]).bytes());
         }
     }
     tally.end(7_200);

@@ -201,7 +201,8 @@ fn cases_of_the_section() -> Vec<Case> {
 
 fn cases_of_the_pair() -> Vec<Case> {
     const OTHER_HALF: &str = "has a second half that isn't the public key";
-    const OTHER_FIRST: &str = "is a byte longer than its curve's size, and doesn't begin with 0";
+    const ZEROS: &str = "has zeros only, or is a byte longer than its curve's size and doesn't begin with 0";
+    const EMPTY: &str = "is cut short, or empty";
     let [public, seed] = ["the public key's string in the section at byte 121", "the seed's string at byte 157"];
     let [curve, point] =
         ["the curve's string in the section at byte 182", "the point's string in the section at byte 194"];
@@ -223,8 +224,10 @@ fn cases_of_the_pair() -> Vec<Case> {
         (section_cut(p256(), 147, 48), 1, point, CUT),
         (changed(p256(), |draft| draft.pair[2][0] = 5), 2, point, "doesn't begin with 4"),
         (changed(p256(), |draft| draft.pair[2].push(0)), 6, long_point, "has 1 byte too many, from byte 263 on"),
-        (section_cut(p256(), 147, 112), 1, scalar, CUT),
-        (changed(p256(), |draft| draft.pair[3][0] = 1), 2, scalar, OTHER_FIRST),
+        (section_cut(p256(), 147, 112), 1, scalar, EMPTY),
+        (changed(p256(), |draft| draft.pair[3].clear()), 1, scalar, EMPTY),
+        (changed(p256(), |draft| draft.pair[3][0] = 1), 2, scalar, ZEROS),
+        (changed(p256(), |draft| draft.pair[3] = vec![0; 7]), 2, scalar, ZEROS),
         (
             changed(p256(), |draft| draft.pair[3].push(0)),
             6,
@@ -254,11 +257,11 @@ fn cases_of_rsa_numbers() -> Vec<Case> {
     ]
 }
 
-/// The refusal of a plain P-256 key of 65 public bytes that begin with `first`, and of as many private bytes.
-fn plain_refused(algorithm: Algorithm, first: u8, private: usize, comment: &[u8]) -> Error {
+/// The refusal of a plain P-256 key of 65 public bytes that begin with `first`, and of these private bytes.
+fn plain_refused(algorithm: Algorithm, first: u8, private: &[u8], comment: &[u8]) -> Error {
     let mut public = [9; 65];
     public[0] = first;
-    let key = PlainKey { algorithm, public: &public, private: &vec![1; private], checkint: Checkint::Derived };
+    let key = PlainKey { algorithm, public: &public, private, checkint: Checkint::Derived };
     write_plain(&key, comment, &mut []).expect_err("a refusal")
 }
 
@@ -284,30 +287,31 @@ fn cases_of_the_writers() -> Vec<Case> {
     const LENGTH: &str =
         "has a part that is cut short or has a wrong length, or an RSA number with too few or too many bits";
     const ENCODING: &str =
-        "has a point that doesn't begin with 4, or an RSA number that isn't positive and in the fewest bytes";
+        "has a point that doesn't begin with 4, a scalar of zeros only, or an RSA number that isn't positive and in the fewest bytes";
     const CRYPTO: &str =
         "has cipher none, KDF none with salt or rounds, or a ciphertext that isn't a whole number of blocks";
     const NAME: &str =
         "is RSA's, which has its own writer, or has a blob with an unknown name or a curve that isn't its key name's";
     let p256 = Algorithm::Ecdsa { curve: EcdsaCurve::NistP256 };
     vec![
-        (plain_refused(p256, 4, 31, b""), 1, HANDED_IN, LENGTH),
+        (plain_refused(p256, 4, &[1; 31], b""), 1, HANDED_IN, LENGTH),
         (rsa_refused(&[1; 200], b""), 1, HANDED_IN, LENGTH),
         (encrypted_refused(|key, _| key.tag = &[0]), 1, HANDED_IN, LENGTH),
         (encrypted_refused(|_, blob| blob.truncate(9)), 1, HANDED_IN, LENGTH),
-        (plain_refused(p256, 5, 32, b""), 2, HANDED_IN, ENCODING),
+        (plain_refused(p256, 5, &[1; 32], b""), 2, HANDED_IN, ENCODING),
+        (plain_refused(p256, 4, &[0; 32], b""), 2, HANDED_IN, ENCODING),
         (rsa_refused(&[], b""), 2, HANDED_IN, ENCODING),
         (encrypted_refused(|_, blob| blob[39] = 5), 2, HANDED_IN, ENCODING),
         (encrypted_refused(|key, _| key.cipher = Cipher::None), 3, HANDED_IN, CRYPTO),
         (encrypted_refused(|key, _| key.rounds = 1), 3, HANDED_IN, CRYPTO),
         (encrypted_refused(|key, _| key.ciphertext = &[0]), 3, HANDED_IN, CRYPTO),
-        (plain_refused(Algorithm::Rsa, 4, 32, b""), 4, HANDED_IN, NAME),
+        (plain_refused(Algorithm::Rsa, 4, &[1; 32], b""), 4, HANDED_IN, NAME),
         (encrypted_refused(|_, blob| blob[4] = b'E'), 4, HANDED_IN, NAME),
         (encrypted_refused(|_, blob| blob[20..23].copy_from_slice(b"521")), 4, HANDED_IN, NAME),
         (encrypted_refused(|_, blob| blob.push(0)), 6, HANDED_IN, "has 1 byte too many, in its blob"),
         (encrypted_refused(|_, blob| blob.extend([0; 2])), 6, HANDED_IN, "has 2 bytes too many, in its blob"),
-        (plain_refused(p256, 4, 32, b"\xff"), 7, HANDED_IN, "has a comment that isn't UTF-8"),
-        (plain_refused(p256, 4, 32, b""), 9, "the lent buffer", "is too short"),
+        (plain_refused(p256, 4, &[1; 32], b"\xff"), 7, HANDED_IN, "has a comment that isn't UTF-8"),
+        (plain_refused(p256, 4, &[1; 32], b""), 9, "the lent buffer", "is too short"),
         (rsa_refused(&[1], &[b'c'; MAX_IMAGE_LEN]), 11, "the image", "is, or would be, above 65,535 bytes"),
     ]
 }

@@ -4,7 +4,7 @@ mod support;
 
 use support::compare::{Encrypted, Plain, Tally};
 use support::damage::{comment, structured, COMMENTS};
-use support::images::{blob_bytes, block, drafts, public_length, tag_length, Draft, Key, SIZES};
+use support::images::{after_zeros, blob_bytes, block, drafts, public_length, tag_length, Draft, Key, SIZES};
 use support::Rng;
 
 fn call<'a>(key: &'a Key, comment: &'a [u8]) -> Plain<'a> {
@@ -176,7 +176,7 @@ fn order_of_the_plain_writer() {
     let mut rng = Rng::new("order of the plain writer");
     let long = vec![b'c'; 70_000];
     let long_and_bad = [&long[..], b"\xff"].concat();
-    for faults in 0..64 {
+    for faults in 0..128 {
         let has = |fault: u8| faults >> fault & 1 == 1;
         for algorithm in 0..4 {
             let mut key = Key::new(algorithm, &mut rng);
@@ -189,6 +189,9 @@ fn order_of_the_plain_writer() {
             if has(2) {
                 key.public[0] = 5;
             }
+            if has(6) {
+                key.private.fill(0);
+            }
             let comment: &[u8] = match (has(3), has(4)) {
                 (false, false) => b"oven7",
                 (true, false) => b"oven\xff",
@@ -200,7 +203,7 @@ fn order_of_the_plain_writer() {
         }
     }
     tally.expect_replies(&[0, 1, 2, 7, 9, 11], 3);
-    tally.end(256);
+    tally.end(512);
 }
 
 /// Every set of faults of an encrypted key.
@@ -378,11 +381,13 @@ fn rewriting_around_the_limit() {
     let long = vec![b'c'; 65_600];
     let mut grown = 0;
     for algorithm in 1..4 {
-        for (first, zero) in [(0x80, false), (0x80, true), (0x7f, true), (0x7f, false)] {
-            let key = Key::new(algorithm, &mut rng).beginning(first);
-            let short = Draft::plain(&key, zero, 0, b"").bytes().len();
-            for length in 65_535 - short - 16..65_535 - short + 2 {
-                let image = Draft::plain(&key, zero, 0, &long[..length]).bytes();
+        let (key, size) = (Key::new(algorithm, &mut rng), SIZES[usize::from(algorithm)]);
+        let all_bytes = [(0, 0x80, size), (1, 0x80, size), (1, 0x7f, size), (0, 0x7f, size)];
+        for (zeros, byte, times) in all_bytes.into_iter().chain([(0, 0x80, 9), (20, 0x7f, 9)]) {
+            let stored = after_zeros(zeros, byte, times);
+            let short = Draft::stored(&key, stored.clone(), 0, b"").bytes().len();
+            for length in 65_535 - short - 16..65_535 - short + 9 {
+                let image = Draft::stored(&key, stored.clone(), 0, &long[..length]).bytes();
                 let accepted = tally.read(&image);
                 let written = tally.rewrite(&image, 65_536).written;
                 grown += u64::from(accepted && written.is_none());
@@ -390,7 +395,7 @@ fn rewriting_around_the_limit() {
             }
         }
     }
-    assert_eq!(grown, 3, "for each curve, one image without its zero grows above the limit");
+    assert_eq!(grown, 6, "for each curve, two images without their zero grow above the limit");
     tally.expect_replies(&[0, 9, 11], 3);
-    tally.end(1_080);
+    tally.end(2_250);
 }

@@ -2,7 +2,7 @@
 -- answered on the first image.
 use Prim.Native.Nat.{ℕ, _+_, _-_, _≤_}
 use mathlib.Core.Path.{_≡_, refl, sym, _∙_, ap, ap₂}
-use mathlib.Core.Bool.{Bool, true, cond}
+use mathlib.Core.Bool.{true, cond}
 use mathlib.Core.List.{List, []}
 use lib.ListN.{length, take}
 use Rattle.fields.specs.Bytes.{AllBytes, sameBytes, same-self}
@@ -12,12 +12,14 @@ use Rattle.names.specs.declared.Algorithm.{Algorithm}
 use Rattle.names.specs.declared.Cipher.the-variants as cipher
 use Rattle.names.specs.declared.Kdf.the-variants as kdf
 use Rattle.utf8.specs.Utf8.{utf8}
-use Rattle.format.specs.Format.{PublicBytes, PrivateBytes, needsLeadingZero, blob, keypair, header, writtenImage}
+use Rattle.format.specs.Format.{PublicBytes, PrivateBytes, filled, zerosAsked, blob, keypair, header, writtenImage}
+use Rattle.format.specs.Scalars.{rule-may, written-own}
 use Rattle.section.specs.declared.Kind.the-variants as kind
+use Rattle.section.specs.Back.{KeyFits}
 use Rattle.section.specs.Read.{beforeComment}
 use Rattle.container.specs.declared.Fields.{Fields}
 use Rattle.container.specs.declared.ImageRead.the-variants as read
-use Rattle.container.specs.Container.{publicIn, privateIn, readAt}
+use Rattle.container.specs.Container.{publicIn, privateIn, materialIn, readAt}
 use Rattle.container.specs.Form.{rewritten, formOf}
 use Rattle.container.specs.Read.{PlainText}
 use Rattle.container.specs.FormLaws.{plain-of, form-rule}
@@ -28,7 +30,7 @@ use Rattle.plain.specs.Plain.{plainReply}
 use Rattle.comment.specs.Change.{afresh, afreshReply, commentField, acceptedReply}
 use Rattle.comment.specs.Afresh.{all-take, afresh-shell}
 use Rattle.claims.specs.Bytes.{all-shell}
-use Rattle.claims.specs.Reading.{own-of, plain-accepted}
+use Rattle.claims.specs.Reading.{plain-accepted}
 
 -- a plain image in the form and its record: what every change of it begins with
 pub record Base (s : List ℕ) (f : Fields) : Type 0 where
@@ -38,7 +40,7 @@ pub record Base (s : List ℕ) (f : Fields) : Type 0 where
 
 -- where the comment's bytes begin, by the key alone
 abbrev commentPlace : Algorithm → PublicBytes → PrivateBytes → ℕ
-commentPlace a key x = length (header cipher.None kdf.None [] 0 (blob a key)) + 4 + beforeComment (keypair a (needsLeadingZero a x) key x) + 4
+commentPlace a key x = length (header cipher.None kdf.None [] 0 (blob a key)) + 4 + beforeComment (keypair a (zerosAsked a x) key x) + 4
 
 place-of :
     (s : List ℕ) → AllBytes s → (f : Fields) → Base s f
@@ -49,7 +51,7 @@ place-of s all f b =
     let a = f .header .algorithm in
     let key = publicIn s f in
     let x = privateIn s f in
-    p .comment-place ∙ ap₂ (λ (i : ℕ) (zero : Bool). i + 4 + beforeComment (keypair a zero key x) + 4) (p .section-place) (sym rule)
+    p .comment-place ∙ ap₂ (λ (i zeros : ℕ). i + 4 + beforeComment (keypair a zeros key x) + 4) (p .section-place) (sym rule)
 
 -- what a change answers, by the base
 base-reply :
@@ -91,9 +93,9 @@ module _ (s : List ℕ) (f : Fields) (t : List ℕ) (g : Fields) (k : SameKey s 
 
 -- ---- an image that a change left
 
--- a written image that is read back is in the form
+-- an image that was written of a record's key, and is read back, is in the form
 pub back-form :
-    (t : List ℕ) (n : ℕ) (a : Algorithm) (key : PublicBytes) (x : PrivateBytes) (comment : List ℕ) (padding : ℕ) → t ≡ writtenImage n a key x comment
+    (t : List ℕ) (n : ℕ) (a : Algorithm) (key : PublicBytes) (x : PrivateBytes) (comment : List ℕ) (padding : ℕ) → t ≡ writtenImage n a key (filled a x) comment
     → (b : PlainImageBack t n a key x comment padding) → formOf t (b .fields) ≡ true
 unfolding formOf rewritten
 back-form t n a key x comment padding e b =
@@ -118,10 +120,10 @@ module _ (old : List ℕ) (n : ℕ) (inside : n ≤ length old) (all : AllBytes 
 
   pub read-again :
       (comment : List ℕ) (k : ℕ)
-      → plainReply (f .header .algorithm) (publicIn (take n old) f) (privateIn (take n old) f) (f .section .checkint) comment (length old)
+      → plainReply (f .header .algorithm) (publicIn (take n old) f) (materialIn (take n old) f) (f .section .checkint) comment (length old)
       ≡ written.Length k
       → ReadAgain (take n old) f comment
-  unfolding afresh writtenImage
+  unfolding afresh
   read-again comment k e =
       let s = take n old in
       let a = f .header .algorithm in
@@ -129,8 +131,9 @@ module _ (old : List ℕ) (n : ℕ) (inside : n ≤ length old) (all : AllBytes 
       let x = privateIn s f in
       let c = f .section .checkint in
       let fits = text-of .key-fits in
-      let h = plain-accepted a key x c comment (length old) k e in
-      let r = plain-image-back (afresh s f comment) c a (needsLeadingZero a x) key x comment (h .small) (text-of .checkint-fits) (h .fits (own-of a key x (fits .public) (fits .private))) refl in
+      let h = plain-accepted a key (materialIn s f) c comment (length old) k e in
+      let fit : KeyFits a (zerosAsked a x) key x comment = record { public = fits .public; private = fits .private; may = rule-may a key x (fits .private); text = h .text } in
+      let r = plain-image-back (afresh s f comment) c a (zerosAsked a x) key x comment (h .small) (text-of .checkint-fits) fit (written-own c a key x comment (fits .private)) in
       record {
         fields = r .fields;
         base = record { was-read = r .read; plain = r .plain; form = back-form (afresh s f comment) c a key x comment _ refl r };

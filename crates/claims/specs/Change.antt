@@ -18,7 +18,7 @@ use Rattle.section.specs.declared.Kind.the-variants as kind
 use Rattle.container.specs.declared.Fields.{Fields}
 use Rattle.container.specs.declared.ImageRead.{ImageRead}
 use Rattle.container.specs.declared.ImageRead.the-variants as read
-use Rattle.container.specs.Container.{publicIn, privateIn, onRead, readAt}
+use Rattle.container.specs.Container.{publicIn, materialIn, onRead, readAt}
 use Rattle.container.specs.Form.{onKind, formOf}
 use Rattle.buffer.specs.Puts.{splice, zeros}
 use Rattle.reply.specs.declared.Written.{Written}
@@ -39,7 +39,7 @@ pub record ChangeAccepted (old : List ℕ) (n : ℕ) (comment : List ℕ) (k : �
   pub form : formOf (take n old) fields ≡ true
   pub text : utf8 comment ≡ true
   pub answered :
-      plainReply (fields .header .algorithm) (publicIn (take n old) fields) (privateIn (take n old) fields)
+      plainReply (fields .header .algorithm) (publicIn (take n old) fields) (materialIn (take n old) fields)
       (fields .section .checkint) comment (length old)
       ≡ written.Length k
 
@@ -89,7 +89,7 @@ module _ (old : List ℕ) (n : ℕ) (comment : List ℕ) (k : ℕ) where
       (h : ChangeAccepted old n comment k) → changeReply old n comment ≡ written.Length k
       → changeLeft old n comment
       ≡ splice
-      (plainLeft (h .fields .header .algorithm) (publicIn (take n old) (h .fields)) (privateIn (take n old) (h .fields))
+      (plainLeft (h .fields .header .algorithm) (publicIn (take n old) (h .fields)) (materialIn (take n old) (h .fields))
       (h .fields .section .checkint) comment old)
       k (zeros (n - k))
   unfolding changeLeft afreshLeft
@@ -104,7 +104,7 @@ module _ (old : List ℕ) (n : ℕ) (comment : List ℕ) (k : ℕ) where
   change-laid h e =
       let f = h .fields in
       let s = take n old in
-      let w = plain-accepted (f .header .algorithm) (publicIn s f) (privateIn s f) (f .section .checkint) comment (length old) k (h .answered) in
+      let w = plain-accepted (f .header .algorithm) (publicIn s f) (materialIn s f) (f .section .checkint) comment (length old) k (h .answered) in
       let image = afresh s f comment in (
         w .size,
         w .room-enough,
@@ -115,7 +115,7 @@ module _ (old : List ℕ) (n : ℕ) (comment : List ℕ) (k : ℕ) where
 plain-is :
     (old : List ℕ) (n : ℕ) (comment : List ℕ) (k : ℕ) (h : ChangeAccepted old n comment k)
     → take k
-    (plainLeft (h .fields .header .algorithm) (publicIn (take n old) (h .fields)) (privateIn (take n old) (h .fields))
+    (plainLeft (h .fields .header .algorithm) (publicIn (take n old) (h .fields)) (materialIn (take n old) (h .fields))
     (h .fields .section .checkint) comment old)
     ≡ afresh (take n old) (h .fields) comment
 unfolding afresh
@@ -129,7 +129,7 @@ pub record Changed (old : List ℕ) (n : ℕ) (comment : List ℕ) (k : ℕ) : T
       take k (changeLeft old n comment)
       ≡ take k
       (plainLeft (accepted .fields .header .algorithm) (publicIn (take n old) (accepted .fields))
-      (privateIn (take n old) (accepted .fields)) (accepted .fields .section .checkint) comment old)
+      (materialIn (take n old) (accepted .fields)) (accepted .fields .section .checkint) comment old)
   -- old bytes past the new end are zero
   pub zeroed : take (n - k) (drop k (changeLeft old n comment)) ≡ zeros (n - k)
   -- bytes past both ends stay

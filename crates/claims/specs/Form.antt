@@ -1,13 +1,13 @@
--- Demand 2, the form: write after read gives the image exactly where it is in the form; an accepted plain image isn't in the form
--- exactly for a zero before a scalar byte below 0x80 and for no zero before one of 0x80 or more; every accepted encrypted image is, and
--- every accepted RSA image.
-use Prim.Native.Nat.{ℕ, _+_, _≤_, _<_, _^_}
+-- Demand 2, the form: write after read gives the image exactly where it is in the form. Of accepted plain images every one of a key that isn't
+-- ECDSA's is in the form, and of ECDSA's those whose scalar stands as RFC 4251's mpint; two things break it, a needless zero before the
+-- scalar, and a missing one. Every accepted encrypted image is in the form.
+use Prim.Native.Nat.{ℕ, zero, suc, _+_, _≤_, _<_, _^_}
 use native.Mathlib.Omega.{arith}
 use mathlib.Core.Path.{_≡_, refl, sym, _∙_, ap, ap₂}
-use mathlib.Core.Bool.{Bool, true, false, not}
+use mathlib.Core.Bool.{Bool, true, false}
 use mathlib.Core.List.{List}
-use borrow.Author.Tests.{eq-eqb, le-leb, lt-leb, leb-true, leb-false, not-false}
-use lib.Dec.{leb}
+use borrow.Author.Tests.{eq-eqb, ne-eqb, eqb-false, le-leb, leb-true, leb-false}
+use lib.Dec.{leb, eqb}
 use lib.ListN.{length, take, getD}
 use Rattle.fields.specs.Bytes.{AllBytes, sameBytes, same-true, same-self}
 use Rattle.fields.specs.Fields.{whole, viewOf}
@@ -19,19 +19,22 @@ use Rattle.names.specs.declared.Algorithm.{Algorithm}
 use Rattle.names.specs.declared.Algorithm.the-variants.{Elliptic as OnCurve, Rsa}
 use Rattle.names.specs.declared.Curve.{Curve}
 use Rattle.names.specs.declared.Kdf.{Kdf}
+use Rattle.names.specs.Algorithms.{sizeOf}
 use Rattle.names.specs.declared.Kdf.the-variants as kdf
-use Rattle.format.specs.Format.{PrivateBytes, OptionsFit, mayStand, leadingZero, needsLeadingZero, blob, keypair, plainImage, writtenImage, encryptedImage}
+use Rattle.mpint.specs.Mpint.{isMpint}
+use Rattle.format.specs.Format.{PrivateBytes, OptionsFit, PrivateFits, MayStand, standing, leadingZero, zeroLength, zerosAsked, blob, keypair, plainImage, writtenImage, encryptedImage}
 use Rattle.pairs.specs.Pairs.{privateBytes}
 use Rattle.fields.specs.declared.Part.{Part}
 use Rattle.format.specs.Laws.{standing-same}
+use Rattle.format.specs.Scalars.{mpint-standing}
 use Rattle.key_laws.specs.Back.{blob-back}
 use Rattle.section.specs.declared.Kind.the-variants.{Plain, Encrypted}
 use Rattle.container.specs.declared.Fields.{Fields}
 use Rattle.container.specs.declared.ImageRead.the-variants as read
-use Rattle.container.specs.Container.{publicIn, privateIn, readAt}
+use Rattle.container.specs.Container.{publicIn, privateIn, materialIn, readAt}
 use Rattle.container.specs.Form.{rewritten, formOf}
 use Rattle.container.specs.Read.{PlainText, EncryptedText, ImageText, plain-text, encrypted-text, image-text}
-use Rattle.container.specs.FormLaws.{agree, scalar-short, form-agrees, form-encrypted, plain-of}
+use Rattle.container.specs.FormLaws.{scalar-short, form-agrees, form-encrypted, plain-of}
 use Rattle.buffer.specs.Puts.{splice, take-splice}
 use Rattle.reply.specs.declared.Written.the-variants as written
 use Rattle.reply.specs.Reply.{left, sized}
@@ -53,60 +56,107 @@ encrypted-in-form s all f e kind = go (image-text s all f e)
     go (plain-text plain p) = let o : Plain ≡ Encrypted = sym plain ∙ kind in cc
     go (encrypted-text encrypted p) = form-encrypted s f p encrypted
 
--- the image is what the format writes of its fields, with a zero before the scalar or without one
-abbrev pub Stands : List ℕ → Fields → Bool → Type 0
-Stands s f zero =
-    s
-    ≡ plainImage (f .section .checkint) (blob (f .header .algorithm) (publicIn s f)) (keypair (f .header .algorithm) zero (publicIn s f) (privateIn s f))
-    (viewOf s (f .section .comment))
+-- the image is what the format writes of its fields, with so many zeros before the scalar, and as many may stand there
+abbrev pub Stands : List ℕ → Fields → ℕ → Type 0
+Stands s f zeros =
+    (s
+    ≡ plainImage (f .section .checkint) (blob (f .header .algorithm) (publicIn s f)) (keypair (f .header .algorithm) zeros (publicIn s f) (privateIn s f))
+    (viewOf s (f .section .comment)))
+    × MayStand (f .header .algorithm) zeros (privateIn s f)
 
--- what breaks the form: a zero stands before a scalar byte below 0x80, or none before one of 0x80 or more
+-- the scalar's bytes without leading zeros
+abbrev pub scalarIn : List ℕ → Fields → List ℕ
+scalarIn s f = viewOf s (f .section .private .scalar)
+
+-- what breaks the form: more zeros stand before the scalar than its first byte asks for, which is one from 0x80 on and else none; or none
+-- stands where it asks for one
 pub data Slip (s : List ℕ) (f : Fields) : Type 0 where
   needless :
-      (k : Curve) → f .header .algorithm ≡ OnCurve (Ecdsa k) → Stands s f true → getD (viewOf s (f .section .private .scalar)) 0 0 < 0x80 → Slip s f
-  missing :
-      (k : Curve) → f .header .algorithm ≡ OnCurve (Ecdsa k) → Stands s f false → 0x80 ≤ getD (viewOf s (f .section .private .scalar)) 0 0 → Slip s f
+      (k : Curve) → f .header .algorithm ≡ OnCurve (Ecdsa k) → (zeros : ℕ) → Stands s f zeros → zeroLength (leadingZero (scalarIn s f)) < zeros → Slip s f
+  missing : (k : Curve) → f .header .algorithm ≡ OnCurve (Ecdsa k) → Stands s f 0 → 0x80 ≤ getD (scalarIn s f) 0 0 → Slip s f
 
-agree-with-true : (w : Bool) → agree w true ≡ w
-agree-with-true true = refl
-agree-with-true false = refl
-
-agree-with-false : (w : Bool) → agree w false ≡ not w
-agree-with-false true = refl
-agree-with-false false = refl
+-- of a rule that asks for a zero or for none, and zeros that aren't those
+slip-of :
+    (s : List ℕ) (f : Fields) (k : Curve) → f .header .algorithm ≡ OnCurve (Ecdsa k) → (zeros : ℕ) → Stands s f zeros → (b : Bool)
+    → leadingZero (scalarIn s f) ≡ b → eqb (zeroLength b) zeros ≡ false → Slip s f
+slip-of s f k q zero z true rule w = missing k q z (leb-true _ _ rule)
+slip-of s f k q zero z false rule w = clash cc
+slip-of s f k q (suc n) z true rule w =
+    needless k q (suc n) z (rw rule (let other = eqb-false 1 (suc n) w in not-one n other))
+  where
+    not-one : (m : ℕ) → (_≡_ {A = ℕ} 1 (suc m) → ⊥) → 1 < suc m
+    not-one zero other = absurd (other refl)
+    not-one (suc m) other = omega arith
+slip-of s f k q (suc n) z false rule w = needless k q (suc n) z (rw rule (omega arith))
 
 slip-by :
-    (s : List ℕ) (f : Fields) (a : Algorithm) → f .header .algorithm ≡ a → (zero : Bool) → Stands s f zero
-    → mayStand a zero ≡ true → agree (needsLeadingZero a (privateIn s f)) zero ≡ false → Slip s f
+    (s : List ℕ) (f : Fields) (a : Algorithm) → f .header .algorithm ≡ a → (zeros : ℕ) → Stands s f zeros → MayStand a zeros (privateIn s f)
+    → eqb (zerosAsked a (privateIn s f)) zeros ≡ false → Slip s f
 unfolding privateBytes
-slip-by s f (OnCurve Ed25519) q true z may w = clash cc
-slip-by s f (OnCurve Ed25519) q false z may w = clash cc
-slip-by s f (OnCurve (Ecdsa k)) q true z may w = needless k q z (leb-false _ _ (sym (agree-with-true _) ∙ w))
-slip-by s f (OnCurve (Ecdsa k)) q false z may w =
-    missing k q z (leb-true _ _ (not-false _ (sym (agree-with-false (leb 0x80 (getD (viewOf s (f .section .private .scalar)) 0 0))) ∙ w)))
-slip-by s f Rsa q true z may w = clash cc
-slip-by s f Rsa q false z may w = clash cc
+slip-by s f (OnCurve Ed25519) q zeros z may w = absurd (eqb-false 0 zeros w (sym may))
+slip-by s f (OnCurve (Ecdsa k)) q zeros z may w = slip-of s f k q zeros z (leadingZero (scalarIn s f)) refl w
+slip-by s f Rsa q zeros z may w = absurd (eqb-false 0 zeros w (sym may))
 
--- the rule by the first byte
+-- the rule by the scalar
 rule-by :
-    (s : List ℕ) (f : Fields) (k : Curve) (b : Bool) → f .header .algorithm ≡ OnCurve (Ecdsa k) → leadingZero (viewOf s (f .section .private .scalar)) ≡ b
-    → needsLeadingZero (f .header .algorithm) (privateIn s f) ≡ b
+    (s : List ℕ) (f : Fields) (k : Curve) → f .header .algorithm ≡ OnCurve (Ecdsa k)
+    → zerosAsked (f .header .algorithm) (privateIn s f) ≡ zeroLength (leadingZero (scalarIn s f))
 unfolding privateBytes
-rule-by s f k b q w = rw q w
-
--- a scalar stands in one way only
-stands-once :
-    (s : List ℕ) (f : Fields) (p : PlainText s f) (k : Curve) → f .header .algorithm ≡ OnCurve (Ecdsa k) → (zero : Bool) → Stands s f zero → p .zero ≡ zero
-stands-once s f p k q zero z =
-    let may : (w : Bool) → mayStand (f .header .algorithm) w ≡ true = λ w. rw q in
-    standing-same (f .section .checkint) (f .header .algorithm) (publicIn s f) (privateIn s f) (viewOf s (f .section .comment)) (p .zero) zero
-    (scalar-short (f .header .algorithm) (publicIn s f) (privateIn s f) (p .key-fits .private)) (may (p .zero)) (may zero) (sym (p .text) ∙ z)
+rule-by s f k q = rw q
 
 -- a key that isn't ECDSA's has no slip
-no-slip : (a : Algorithm) (x : PrivateBytes) (zero : Bool) → ((k : Curve) → a ≡ OnCurve (Ecdsa k) → ⊥) → mayStand a zero ≡ true → agree (needsLeadingZero a x) zero ≡ true
-no-slip (OnCurve Ed25519) x zero other may = may
-no-slip (OnCurve (Ecdsa k)) x zero other may = absurd (other k refl)
-no-slip Rsa x zero other may = may
+no-slip :
+    (a : Algorithm) (x : PrivateBytes) (zeros : ℕ) → ((k : Curve) → a ≡ OnCurve (Ecdsa k) → ⊥) → MayStand a zeros x → eqb (zerosAsked a x) zeros ≡ true
+no-slip (OnCurve Ed25519) x zeros other may = eq-eqb 0 zeros (sym may)
+no-slip (OnCurve (Ecdsa k)) x zeros other may = absurd (other k refl)
+no-slip Rsa x zeros other may = eq-eqb 0 zeros (sym may)
+
+-- an ECDSA key's scalar has at most SIZE bytes and doesn't begin with a zero
+pub ecdsa-fits :
+    (s : List ℕ) (f : Fields) (k : Curve) → f .header .algorithm ≡ OnCurve (Ecdsa k) → PrivateFits (f .header .algorithm) (publicIn s f) (privateIn s f)
+    → (length (scalarIn s f) ≤ sizeOf k) × (0 < getD (scalarIn s f) 0 0)
+unfolding privateBytes
+ecdsa-fits s f k q fits = let fit : PrivateFits (OnCurve (Ecdsa k)) (publicIn s f) (privateIn s f) = rw q at fits in fit .0
+
+module _ (s : List ℕ) (all : AllBytes s) (f : Fields) (e : readAt s ≡ read.Record f) (plain : f .section .kind ≡ Plain) where
+  text : PlainText s f
+  text = plain-of s all f e plain
+
+  -- a scalar stands in one way only
+  stands-once : (zeros : ℕ) → Stands s f zeros → text .zeros ≡ zeros
+  stands-once zeros z =
+      let p = text in
+      standing-same (f .section .checkint) (f .header .algorithm) (publicIn s f) (privateIn s f) (viewOf s (f .section .comment)) (p .zeros) zeros
+      (scalar-short (f .header .algorithm) (publicIn s f) (privateIn s f) (p .key-fits .private)) (p .key-fits .may) (z .1) (sym (p .text) ∙ z .0)
+
+  -- which accepted plain images are in the form: all of a key that isn't ECDSA's
+  pub others-in-form : ((k : Curve) → f .header .algorithm ≡ OnCurve (Ecdsa k) → ⊥) → formOf s f ≡ true
+  others-in-form other =
+      form-agrees s f text plain ∙ no-slip (f .header .algorithm) (privateIn s f) (text .zeros) other (text .key-fits .may)
+
+  -- and of ECDSA's those whose scalar's string, zeros and scalar, is RFC 4251's mpint, positive and minimal
+  pub form-minimal :
+      (k : Curve) → f .header .algorithm ≡ OnCurve (Ecdsa k) → (zeros : ℕ) → Stands s f zeros → formOf s f ≡ isMpint (standing zeros (scalarIn s f))
+  form-minimal k q zeros z =
+      form-agrees s f text plain ∙ ap₂ eqb (rule-by s f k q) (stands-once zeros z)
+      ∙ sym (mpint-standing zeros (scalarIn s f) (ecdsa-fits s f k q (text .key-fits .private) .1))
+
+  -- its scalar does stand so, with some zeros
+  pub stands-some : (zeros : ℕ) × Stands s f zeros
+  stands-some = (text .zeros, (text .text, text .key-fits .may))
+
+  -- an accepted plain image that isn't in the form has one of the two slips
+  pub form-fails : formOf s f ≡ false → Slip s f
+  form-fails broken =
+      slip-by s f (f .header .algorithm) refl (text .zeros) (text .text, text .key-fits .may) (text .key-fits .may)
+      (sym (form-agrees s f text plain) ∙ broken)
+
+  -- and either slip takes it out of the form
+  pub slip-fails : Slip s f → formOf s f ≡ false
+  slip-fails (needless k q zeros z more) =
+      form-agrees s f text plain ∙ ap₂ eqb (rule-by s f k q) (stands-once zeros z) ∙ ne-eqb (zeroLength (leadingZero (scalarIn s f))) zeros (λ o. omega (arith, more, o))
+  slip-fails (missing k q z above) =
+      form-agrees s f text plain ∙ ap₂ eqb (rule-by s f k q ∙ ap zeroLength (le-leb _ _ above)) (stands-once 0 z)
 
 -- an accepted RSA image is always in the form
 pub rsa-in-form : (s : List ℕ) → AllBytes s → (f : Fields) → readAt s ≡ read.Record f → f .header .algorithm ≡ Rsa → formOf s f ≡ true
@@ -116,26 +166,8 @@ rsa-in-form s all f e rsa = go (image-text s all f e)
     other k q = clash (let o : Rsa ≡ OnCurve (Ecdsa k) = sym rsa ∙ q in cc)
 
     go : ImageText s all f e → formOf s f ≡ true
-    go (plain-text kind p) = form-agrees s f p kind ∙ no-slip (f .header .algorithm) (privateIn s f) (p .zero) other (p .key-fits .may)
+    go (plain-text kind p) = others-in-form s all f e kind other
     go (encrypted-text kind p) = form-encrypted s f p kind
-
-module _ (s : List ℕ) (all : AllBytes s) (f : Fields) (e : readAt s ≡ read.Record f) (plain : f .section .kind ≡ Plain) where
-  -- an accepted plain image that isn't in the form has one of the two slips
-  pub form-fails : formOf s f ≡ false → Slip s f
-  form-fails broken =
-      let p = plain-of s all f e plain in
-      slip-by s f (f .header .algorithm) refl (p .zero) (p .text) (p .key-fits .may) (sym (form-agrees s f p plain) ∙ broken)
-
-  -- and either slip takes it out of the form
-  pub slip-fails : Slip s f → formOf s f ≡ false
-  slip-fails (needless k q z below) =
-      let p = plain-of s all f e plain in
-      form-agrees s f p plain
-      ∙ ap₂ agree (rule-by s f k false q (lt-leb _ _ below)) (stands-once s f p k q true z)
-  slip-fails (missing k q z above) =
-      let p = plain-of s all f e plain in
-      form-agrees s f p plain
-      ∙ ap₂ agree (rule-by s f k true q (le-leb _ _ above)) (stands-once s f p k q false z)
 
 -- ---- write after read
 
@@ -159,7 +191,7 @@ options-told kdf.Bcrypt salt rounds h = refl
 module _ (s : List ℕ) (all : AllBytes s) (f : Fields) (e : readAt s ≡ read.Record f) where
   -- an accepted image's record passes every test of its writer but size and room
   plain-again : PlainText s f → (room : ℕ)
-      → plainAgain s f room ≡ sized (writtenImage (f .section .checkint) (f .header .algorithm) (publicIn s f) (privateIn s f) (viewOf s (f .section .comment))) room
+      → plainAgain s f room ≡ sized (writtenImage (f .section .checkint) (f .header .algorithm) (publicIn s f) (materialIn s f) (viewOf s (f .section .comment))) room
   unfolding plainAgain afreshReply afresh
   plain-again p room = afresh-sized s f p (viewOf s (f .section .comment)) (p .key-fits .text) room
 

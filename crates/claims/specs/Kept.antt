@@ -9,7 +9,7 @@ use lib.ListN.{length, take}
 use Rattle.fields.specs.Bytes.{AllBytes}
 use Rattle.container.specs.declared.Fields.{Fields}
 use Rattle.container.specs.declared.ImageRead.the-variants as read
-use Rattle.container.specs.Container.{publicIn, privateIn, readAt}
+use Rattle.container.specs.Container.{publicIn, materialIn, readAt}
 use Rattle.reply.specs.declared.Written.the-variants as written
 use Rattle.plain.specs.Plain.{plainReply}
 use Rattle.comment.specs.Change.{afresh, acceptedReply, changeReply, changeLeft}
@@ -38,7 +38,7 @@ pub record Kept (s : State) (comment : List ℕ) (far : ℕ) (u : State) : Type 
   pub base : Base (take (s .n) (s .buf)) fields
   pub answered : changeReply (s .buf) (s .n) comment ≡ written.Length (u .n)
   pub writes :
-      plainReply (fields .header .algorithm) (publicIn (take (s .n) (s .buf)) fields) (privateIn (take (s .n) (s .buf)) fields)
+      plainReply (fields .header .algorithm) (publicIn (take (s .n) (s .buf)) fields) (materialIn (take (s .n) (s .buf)) fields)
       (fields .section .checkint) comment (length (s .buf))
       ≡ written.Length (u .n)
   pub bytes : AllBytes comment

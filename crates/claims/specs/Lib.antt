@@ -1,9 +1,10 @@
 -- Demand 1: Refusals, Ordered. Demand 2: Reading, Sealed, Form. Demand 3: Change, Front, Sequence. The two halves of a read:
--- Halves, HeaderAlone. Records handed in: Handed. What is printed: Printed. Where a refusal is: Places, PlacesWritten.
+-- Halves, HeaderAlone. Scalars of any length: Scalars. Records handed in: Handed. What is printed: Printed. Where a refusal is: Places, PlacesWritten.
 -- The marked examples: Marked. The paper's wrong programs: ShutOut. The others hold what these rest on.
 pub mod Reading
 pub mod Sealed
 pub mod Form
+pub mod Scalars
 pub mod Laid
 pub mod Change
 pub mod Front

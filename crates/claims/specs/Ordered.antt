@@ -21,7 +21,7 @@ use Rattle.names.specs.declared.Cipher.{Cipher}
 use Rattle.names.specs.declared.Kdf.{Kdf}
 use Rattle.names.specs.declared.Kdf.the-variants as kdf
 use Rattle.utf8.specs.Utf8.{utf8}
-use Rattle.format.specs.Format.{PublicBytes, PrivateBytes, publicLength, privateLength, pointTag, writtenImage, encryptedImage}
+use Rattle.format.specs.Format.{PublicBytes, PrivateBytes, publicLength, privateLength, pointTag, notZero, writtenImage, encryptedImage}
 use Rattle.keys.specs.Keys.{onBlob, blobAt}
 use Rattle.keys.specs.declared.Blob.{Blob}
 use Rattle.keys.specs.declared.Blob.the-variants as blob
@@ -63,10 +63,13 @@ first (c ∷ more) length = cond (c .holds) (record { number = c .number; count 
 abbrev pub sizes : List ℕ → ℕ → List Condition
 sizes image room = says (ltb 65535 (length image)) 11 ∷ says (ltb room (length image)) 9 ∷ []
 
--- a length wrong for the kind 1; point tag 2; or RSA's numbers, 2 over all six, then 1 over all six
+-- a length wrong for the kind 1; point tag 2; a scalar of zeros 2; or RSA's numbers, 2 over all six, then 1 over all six
 abbrev pub keyConditions : Algorithm → PublicBytes → PrivateBytes → List Condition → List Condition
 keyConditions (OnCurve e) key x more =
-    says (not (eqb (length (key .point)) (publicLength e)) || not (eqb (length (x .scalar)) (privateLength e))) 1 ∷ says (not (pointTag e (key .point))) 2 ∷ more
+    says (not (eqb (length (key .point)) (publicLength e)) || not (eqb (length (x .scalar)) (privateLength e))) 1
+    ∷ says (not (pointTag e (key .point))) 2
+    ∷ says (not (notZero e (x .scalar))) 2
+    ∷ more
 keyConditions Rsa key x more = says (not (allMpints key x)) 2 ∷ says (not (sizesFit key x)) 1 ∷ more
 
 -- then comment 7; size 11; room 9
@@ -184,10 +187,14 @@ key-first (OnCurve e) key x w c n h =
     let long = eqb (length (key .point)) (publicLength e) in
     let private-long = eqb (length (x .scalar)) (privateLength e) in
     let tag = pointTag e (key .point) in
-    let w₂ = unless tag FormatEncoding w in
+    let some = notZero e (x .scalar) in
+    let w₃ = unless some FormatEncoding w in
+    let c₃ = says (not some) 2 ∷ c in
+    let w₂ = unless tag FormatEncoding w₃ in
     ap told (either-fails long private-long Length w₂)
-    ∙ then-first (not long || not private-long) (long && private-long) (not-both long private-long) Length refl w₂ (says (not tag) 2 ∷ c) n
-    (then-first (not tag) tag refl FormatEncoding refl w c n h)
+    ∙ then-first (not long || not private-long) (long && private-long) (not-both long private-long) Length refl w₂ (says (not tag) 2 ∷ c₃) n
+    (then-first (not tag) tag refl FormatEncoding refl w₃ c₃ n
+    (then-first (not some) some refl FormatEncoding refl w c n h))
 key-first Rsa key x w c n h =
     then-first (not (allMpints key x)) (allMpints key x) refl FormatEncoding refl (unless (sizesFit key x) Length w) (says (not (sizesFit key x)) 1 ∷ c) n
     (then-first (not (sizesFit key x)) (sizesFit key x) refl Length refl w c n h)

@@ -23,7 +23,7 @@ use Rattle.names.specs.declared.Kdf.{Kdf}
 use Rattle.names.specs.Ciphers.{isNone, blockSize, tagLength}
 use Rattle.codes.specs.Codes.{algorithmCoded, cipherCoded, kdfCoded}
 use Rattle.utf8.specs.Utf8.{utf8}
-use Rattle.format.specs.Format.{PublicBytes, PrivateBytes, publicLength, privateLength, pointTag, ofPoint, ofScalar, ofModulus, ofNumbers, writtenImage, encryptedImage}
+use Rattle.format.specs.Format.{PublicBytes, PrivateBytes, publicLength, privateLength, pointTag, notZero, ofPoint, ofScalar, scalarFilled, ofModulus, ofNumbers, writtenImage, encryptedImage}
 use Rattle.material.specs.Material.{publicOf, privateOf, checkintOf}
 use Rattle.keys.specs.Keys.{onAlgorithm, blobAt}
 use Rattle.key_laws.specs.Read.{by-algorithm}
@@ -31,7 +31,7 @@ use Rattle.header.specs.Place.{by-cipher-name, by-kdf-name, by-blob}
 use Rattle.section.specs.declared.Kind.{Kind}
 use Rattle.section.specs.declared.Kind.the-variants.{Plain, Encrypted as Sealed}
 use Rattle.container.specs.declared.Fields.{Fields}
-use Rattle.container.specs.Container.{onRead, readAt, publicIn, privateIn}
+use Rattle.container.specs.Container.{onRead, readAt, publicIn, materialIn}
 use Rattle.container.specs.Form.{onKind, formOf}
 use Rattle.container.specs.FormLaws.{by-read}
 use Rattle.judge.specs.Judge.{isRead}
@@ -49,7 +49,7 @@ use Rattle.numbers.specs.declared.Reply.{Reply}
 use Rattle.saltorchard.specs.Interface.{namesNothing, checkintFor, codedPlainReply, codedEncryptedReply, answersC}
 use Rattle.places.specs.Read.{read-said}
 use Rattle.claims.specs.Places.{place-within}
-use Rattle.claims.specs.Refusals.{by-kind, Entry, write-parts, write-numbers, write-rsa, write-plain, write-encrypted, rewrite, rewrite-record, recorded-rewrite, change-comment, write-report, Promise, EntryC, saltorchard-write-plain, saltorchard-write-rsa, saltorchard-write-encrypted, saltorchard-rewrite, saltorchard-change-comment, PromiseC}
+use Rattle.claims.specs.Refusals.{by-kind, Entry, write-parts, write-filled, write-numbers, write-rsa, write-plain, write-encrypted, rewrite, rewrite-record, recorded-rewrite, change-comment, write-report, Promise, EntryC, saltorchard-write-plain, saltorchard-write-rsa, saltorchard-write-encrypted, saltorchard-rewrite, saltorchard-change-comment, PromiseC}
 
 -- ---- the place by the reply's number
 
@@ -68,6 +68,7 @@ changePlace old n number =
 
 abbrev pub placeOf : Entry → List ℕ → ℕ → ℕ
 placeOf (write-parts e point scalar checkint comment) old number = 0
+placeOf (write-filled e point scalar checkint comment) old number = 0
 placeOf (write-numbers n e d iqmp p q checkint comment) old number = 0
 placeOf (write-rsa n e d iqmp p q given comment) old number = 0
 placeOf (write-plain m given comment) old number = 0
@@ -113,9 +114,12 @@ unfolding keyChecked
 key-at place (OnCurve e) key x next one two h =
     let long = eqb (length (x .scalar)) (privateLength e) in
     let tag = pointTag e (key .point) in
-    unless-at place (eqb (length (key .point)) (publicLength e)) Length (unless long Length (unless tag FormatEncoding next)) one
-    (unless-at place long Length (unless tag FormatEncoding next) one
-    (unless-at place tag FormatEncoding next two h))
+    let some = notZero e (x .scalar) in
+    let last = unless some FormatEncoding next in
+    unless-at place (eqb (length (key .point)) (publicLength e)) Length (unless long Length (unless tag FormatEncoding last)) one
+    (unless-at place long Length (unless tag FormatEncoding last) one
+    (unless-at place tag FormatEncoding last two
+    (unless-at place some FormatEncoding next two h)))
 key-at place Rsa key x next one two h =
     unless-at place (allMpints key x) FormatEncoding (unless (sizesFit key x) Length next) two
     (unless-at place (sizesFit key x) Length next one h)
@@ -165,9 +169,9 @@ handed-at s f room = unless-at nowhere (isRead s f) Length (recordReply s f room
 afresh-at : (s : List ℕ) (f : Fields) (comment : List ℕ) (room : ℕ) → utf8 comment ≡ true → At (acceptedPlace f) (afreshReply s f comment room)
 unfolding afreshReply plainReply
 afresh-at s f comment room text =
-    let image = writtenImage (f .section .checkint) (f .header .algorithm) (publicIn s f) (privateIn s f) comment in
+    let image = writtenImage (f .section .checkint) (f .header .algorithm) (publicIn s f) (materialIn s f) comment in
     rw text
-    (key-at (acceptedPlace f) (f .header .algorithm) (publicIn s f) (privateIn s f) (sized image room) refl refl
+    (key-at (acceptedPlace f) (f .header .algorithm) (publicIn s f) (materialIn s f) (sized image room) refl refl
     (sized-at (acceptedPlace f) image room refl refl refl))
 
 -- encrypted: 8
@@ -265,6 +269,8 @@ told-at place (written.Length n) r after out h p = rw (p .0) h
 pub place-said : (entry : Entry) (old : List ℕ) (r : Written) (out : List ℕ) → Promise entry old r out → told r .at ≡ placeOf entry old (told r .number)
 place-said (write-parts e point scalar checkint comment) old r out p =
     told-at nowhere _ r _ out (plain-at (OnCurve e) (ofPoint point) (ofScalar scalar) checkint comment (length old)) p
+place-said (write-filled e point scalar checkint comment) old r out p =
+    told-at nowhere _ r _ out (plain-at (OnCurve e) (ofPoint point) (ofScalar (scalarFilled e scalar)) checkint comment (length old)) p
 place-said (write-numbers n e d iqmp p q checkint comment) old r out promise =
     told-at nowhere _ r _ out (plain-at Rsa (ofModulus n e) (ofNumbers d iqmp p q) checkint comment (length old)) promise
 place-said (write-rsa n e d iqmp p q given comment) old r out promise =

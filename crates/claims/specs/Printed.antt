@@ -1,13 +1,15 @@
 -- Document 01, 'Views and the inspection program': the program prints no private byte. What it prints of every image: of an accepted one its
 -- kind, its names, its lengths and its form, of a refused one number, count and place. Images that are alike in these have the same report,
--- whatever their private bytes. (Length and form of an ECDSA image together tell whether its scalar's first byte is 0x80 or more.)
+-- whatever their private bytes. (Length and form of an ECDSA image together tell how many bytes its scalar has without leading zeros, up to
+-- the padding, and whether the first of them is 0x80 or more.)
 use Prim.Native.Nat.{ℕ, _+_, _*_, _≤_, _<_, _^_}
 use native.Mathlib.Omega.{arith}
 use mathlib.Core.Path.{_≡_, refl, sym, _∙_, ap}
-use mathlib.Core.Bool.{Bool, true, false}
+use mathlib.Core.Bool.{true}
 use mathlib.Core.List.{List, [], _∷_}
 use lib.Count.{leadingZeros}
-use lib.ListN.{length, length-append}
+use lib.Dec.{eqb}
+use lib.ListN.{length, length-append, length-replicate}
 use Rattle.fields.specs.Bytes.{ascii, AllBytes}
 use Rattle.fields.specs.Fields.{viewOf}
 use Rattle.fields.specs.Place.{clash}
@@ -26,9 +28,10 @@ use Rattle.names.specs.declared.Kdf.the-variants as kdf
 use Rattle.names.specs.Algorithms.{sizeOf}
 use Rattle.utf8.specs.Utf8.{UTF8-char, utf8, utf8From}
 use Rattle.mpint.specs.Mpint.{zerosBefore, bits}
-use Rattle.format.specs.Format.{PublicBytes, PrivateBytes, ofPoint, ofScalar, scalarZero, blob, keypair, needsLeadingZero, paddingLength, content, plainImage, writtenImage, encryptedImage}
+use Rattle.format.specs.Format.{PublicBytes, PrivateBytes, ofPoint, ofScalar, scalarZero, zerosAsked, blob, keypair, paddingLength, content, plainImage, writtenImage, encryptedImage}
 use Rattle.format.specs.Laws.{section-length}
-use Rattle.format.specs.Lengths.{LengthsFit, blobLength, keypairLength, blob-length, zeroLength, standing-length, content-length, plain-length}
+use Rattle.format.specs.Lengths.{LengthsFit, blobLength, keypairLength, blob-length, content-length, plain-length}
+use Rattle.format.specs.Scalars.{fits-allowed}
 use Rattle.section.specs.Back.{KeyFits}
 use Rattle.section.specs.declared.Kind.the-variants as kind
 use Rattle.container.specs.declared.Fields.{Fields}
@@ -36,93 +39,93 @@ use Rattle.container.specs.declared.ImageRead.the-variants as read
 use Rattle.container.specs.Container.{publicIn, privateIn, readAt}
 use Rattle.container.specs.Back.{plain-image-back, SealFits, encrypted-image-back}
 use Rattle.container.specs.Read.{ImageText, plain-text, encrypted-text, image-text}
-use Rattle.container.specs.FormLaws.{agree, form-back, plain-of}
+use Rattle.container.specs.FormLaws.{form-back, plain-of}
 use Rattle.report.specs.Report.{Summary, Plain, Encrypted, Refused, accepted, summaryOf, lines, reportOf}
 use Rattle.report.specs.Examples.{printed, oven7}
 use Rattle.claims.specs.Form.{Stands}
 
 -- ---- plain images
 
--- the keypair's length, by the kind, whether a zero stands before the scalar, and RSA's numbers' lengths
-abbrev pub pairLength : Algorithm → Bool → PublicBytes → PrivateBytes → ℕ
-pairLength (OnCurve Ed25519) zero key x = 119
-pairLength (OnCurve (Ecdsa k)) zero key x = 40 + 2 * sizeOf k + (4 + sizeOf k + zeroLength zero)
-pairLength Rsa zero key x = keypairLength Rsa key x
+-- the keypair's length, by the kind, a scalar's length and how many zeros stand before it, and RSA's numbers' lengths
+abbrev pub pairLength : Algorithm → ℕ → PublicBytes → PrivateBytes → ℕ
+pairLength (OnCurve Ed25519) zeros key x = 119
+pairLength (OnCurve (Ecdsa k)) zeros key x = 40 + 2 * sizeOf k + (4 + zeros + length (x .scalar))
+pairLength Rsa zeros key x = keypairLength Rsa key x
 
 pair-length :
-    (a : Algorithm) (zero : Bool) (key : PublicBytes) (x : PrivateBytes) (comment : List ℕ) → KeyFits a zero key x comment
-    → length (keypair a zero key x) ≡ pairLength a zero key x
+    (a : Algorithm) (zeros : ℕ) (key : PublicBytes) (x : PrivateBytes) (comment : List ℕ) → KeyFits a zeros key x comment
+    → length (keypair a zeros key x) ≡ pairLength a zeros key x
 unfolding keypair
-pair-length (OnCurve Ed25519) true key x comment fits = let never = fits .may in clash cc
-pair-length (OnCurve Ed25519) false key x comment fits =
-    simp (length-append, length-string) (omega (arith, fits .public .0, fits .private .0))
-pair-length (OnCurve (Ecdsa Nistp256)) zero key x comment fits =
-    simp (length-append, length-string, standing-length) (omega (arith, fits .public .0, fits .private .0))
-pair-length (OnCurve (Ecdsa Nistp384)) zero key x comment fits =
-    simp (length-append, length-string, standing-length) (omega (arith, fits .public .0, fits .private .0))
-pair-length (OnCurve (Ecdsa Nistp521)) zero key x comment fits =
-    simp (length-append, length-string, standing-length) (omega (arith, fits .public .0, fits .private .0))
-pair-length Rsa zero key x comment fits = simp (length-append, length-string) (omega arith)
+pair-length (OnCurve Ed25519) zeros key x comment fits =
+    simp (length-append, length-string, length-replicate) (omega (arith, fits .public .0, fits .private .0, fits .may))
+pair-length (OnCurve (Ecdsa Nistp256)) zeros key x comment fits =
+    simp (length-append, length-string, length-replicate) (omega (arith, fits .public .0))
+pair-length (OnCurve (Ecdsa Nistp384)) zeros key x comment fits =
+    simp (length-append, length-string, length-replicate) (omega (arith, fits .public .0))
+pair-length (OnCurve (Ecdsa Nistp521)) zeros key x comment fits =
+    simp (length-append, length-string, length-replicate) (omega (arith, fits .public .0))
+pair-length Rsa zeros key x comment fits = simp (length-append, length-string) (omega arith)
 
 -- the section's but for its padding, with a comment of c bytes
-abbrev pub sectionSize : Algorithm → Bool → PublicBytes → PrivateBytes → ℕ → ℕ
-sectionSize a zero key x c = 8 + pairLength a zero key x + (4 + c)
+abbrev pub sectionSize : Algorithm → ℕ → PublicBytes → PrivateBytes → ℕ → ℕ
+sectionSize a zeros key x c = 8 + pairLength a zeros key x + (4 + c)
 
 -- what is printed: by the kind, the lengths, the bits of a modulus, and how a scalar stands
-abbrev pub shown : Algorithm → Bool → PublicBytes → PrivateBytes → ℕ → Summary
-shown a zero key x c =
-    Plain a (bits (key .modulus)) cipher.None kdf.None c (paddingLength (sectionSize a zero key x c))
-    (47 + blobLength a key + (sectionSize a zero key x c + paddingLength (sectionSize a zero key x c)))
-    (agree (needsLeadingZero a x) zero)
+abbrev pub shown : Algorithm → ℕ → PublicBytes → PrivateBytes → ℕ → Summary
+shown a zeros key x c =
+    Plain a (bits (key .modulus)) cipher.None kdf.None c (paddingLength (sectionSize a zeros key x c))
+    (47 + blobLength a key + (sectionSize a zeros key x c + paddingLength (sectionSize a zeros key x c)))
+    (eqb (zerosAsked a x) zeros)
 
-lengths-fit : (a : Algorithm) (zero : Bool) (key : PublicBytes) (x : PrivateBytes) (comment : List ℕ) → KeyFits a zero key x comment → LengthsFit a key x
-lengths-fit (OnCurve e) zero key x comment fits = (fits .public .0, fits .private .0)
-lengths-fit Rsa zero key x comment fits = tt
+lengths-fit : (a : Algorithm) (zeros : ℕ) (key : PublicBytes) (x : PrivateBytes) (comment : List ℕ) → KeyFits a zeros key x comment → LengthsFit a key x
+lengths-fit (OnCurve e) zeros key x comment fits = (fits .public .0, fits-allowed e (x .scalar) (fits .private .0))
+lengths-fit Rsa zeros key x comment fits = tt
 
-module _ (n : ℕ) (a : Algorithm) (zero : Bool) (key : PublicBytes) (x : PrivateBytes) (comment : List ℕ) (small : n < 2 ^ 32) (fits : KeyFits a zero key x comment) where
+module _ (n : ℕ) (a : Algorithm) (zeros : ℕ) (key : PublicBytes) (x : PrivateBytes) (comment : List ℕ) (small : n < 2 ^ 32) (fits : KeyFits a zeros key x comment) where
   abbrev image : List ℕ
-  image = plainImage n (blob a key) (keypair a zero key x) comment
+  image = plainImage n (blob a key) (keypair a zeros key x) comment
 
   -- the lengths that are printed
-  size-is : length (content n (keypair a zero key x) comment) ≡ sectionSize a zero key x (length comment)
-  size-is = content-length n (keypair a zero key x) comment ∙ rw (pair-length a zero key x comment fits)
+  size-is : length (content n (keypair a zeros key x) comment) ≡ sectionSize a zeros key x (length comment)
+  size-is = content-length n (keypair a zeros key x) comment ∙ rw (pair-length a zeros key x comment fits)
 
   length-is :
       length image
-      ≡ 47 + blobLength a key + (sectionSize a zero key x (length comment) + paddingLength (sectionSize a zero key x (length comment)))
+      ≡ 47 + blobLength a key + (sectionSize a zeros key x (length comment) + paddingLength (sectionSize a zeros key x (length comment)))
   length-is =
-      plain-length n (blob a key) (keypair a zero key x) comment
-      ∙ rw (section-length n (keypair a zero key x) comment, size-is, blob-length key x a (lengths-fit a zero key x comment fits))
+      plain-length n (blob a key) (keypair a zeros key x) comment
+      ∙ rw (section-length n (keypair a zeros key x) comment, size-is, blob-length key x a (lengths-fit a zeros key x comment fits))
 
   -- what is printed of a plain image
-  pub report-plain : length image ≤ 65535 → reportOf image ≡ lines (shown a zero key x (length comment))
+  pub report-plain : length image ≤ 65535 → reportOf image ≡ lines (shown a zeros key x (length comment))
   unfolding reportOf summaryOf accepted
   report-plain limit =
-      let b = plain-image-back image n a zero key x comment limit small fits refl in
-      rw (b .read, b .plain, form-back image n a zero key x comment _ fits refl b, b .same-algorithm, b .same-bits, b .no-cipher, b .no-kdf, b .comment-size, b .same-padding, size-is, length-is)
+      let b = plain-image-back image n a zeros key x comment limit small fits refl in
+      rw (b .read, b .plain, form-back image n a zeros key x comment _ fits refl b, b .same-algorithm, b .same-bits, b .no-cipher, b .no-kdf, b .comment-size, b .same-padding, size-is, length-is)
 
 -- no private byte: two keys whose kind, lengths, bits of a modulus and form are the same have the same report, whatever their private
 -- bytes are, and whatever their points, numbers, checkints and comments
 pub no-private-byte :
-    (a : Algorithm) (zero : Bool) (n m : ℕ) (key : PublicBytes) (x : PrivateBytes) (comment : List ℕ) (key′ : PublicBytes) (x′ : PrivateBytes) (comment′ : List ℕ)
-    → n < 2 ^ 32 → m < 2 ^ 32 → KeyFits a zero key x comment → KeyFits a zero key′ x′ comment′
-    → shown a zero key x (length comment) ≡ shown a zero key′ x′ (length comment′)
-    → length (plainImage n (blob a key) (keypair a zero key x) comment) ≤ 65535
-    → length (plainImage m (blob a key′) (keypair a zero key′ x′) comment′) ≤ 65535
-    → reportOf (plainImage n (blob a key) (keypair a zero key x) comment) ≡ reportOf (plainImage m (blob a key′) (keypair a zero key′ x′) comment′)
-no-private-byte a zero n m key x comment key′ x′ comment′ hn hm fits also-fits alike limit also-limit =
-    report-plain n a zero key x comment hn fits limit ∙ ap lines alike ∙ sym (report-plain m a zero key′ x′ comment′ hm also-fits also-limit)
+    (a : Algorithm) (zeros : ℕ) (n m : ℕ) (key : PublicBytes) (x : PrivateBytes) (comment : List ℕ) (key′ : PublicBytes) (x′ : PrivateBytes) (comment′ : List ℕ)
+    → n < 2 ^ 32 → m < 2 ^ 32 → KeyFits a zeros key x comment → KeyFits a zeros key′ x′ comment′
+    → shown a zeros key x (length comment) ≡ shown a zeros key′ x′ (length comment′)
+    → length (plainImage n (blob a key) (keypair a zeros key x) comment) ≤ 65535
+    → length (plainImage m (blob a key′) (keypair a zeros key′ x′) comment′) ≤ 65535
+    → reportOf (plainImage n (blob a key) (keypair a zeros key x) comment) ≡ reportOf (plainImage m (blob a key′) (keypair a zeros key′ x′) comment′)
+no-private-byte a zeros n m key x comment key′ x′ comment′ hn hm fits also-fits alike limit also-limit =
+    report-plain n a zeros key x comment hn fits limit ∙ ap lines alike ∙ sym (report-plain m a zeros key′ x′ comment′ hm also-fits also-limit)
 
--- of a key over a curve that is its kind, its comment's length, and its scalar's first byte against 0x80; of an RSA key the numbers' lengths and the
--- modulus's bits
+-- of a key over a curve that is its kind, its comment's length, and its scalar's length and first byte against 0x80; of an RSA key the numbers'
+-- lengths and the modulus's bits
 pub elliptic-alike :
-    (e : Elliptic) (zero : Bool) (key : PublicBytes) (x : PrivateBytes) (key′ : PublicBytes) (x′ : PrivateBytes) (c : ℕ)
+    (e : Elliptic) (zeros : ℕ) (key : PublicBytes) (x : PrivateBytes) (key′ : PublicBytes) (x′ : PrivateBytes) (c : ℕ)
     → key ≡ ofPoint (key .point) → key′ ≡ ofPoint (key′ .point) → scalarZero e (x .scalar) ≡ scalarZero e (x′ .scalar)
-    → shown (OnCurve e) zero key x c ≡ shown (OnCurve e) zero key′ x′ c
-elliptic-alike Ed25519 zero key x key′ x′ c own own′ rule =
+    → length (x .scalar) ≡ length (x′ .scalar)
+    → shown (OnCurve e) zeros key x c ≡ shown (OnCurve e) zeros key′ x′ c
+elliptic-alike Ed25519 zeros key x key′ x′ c own own′ rule long =
     rw (ap (λ (k : PublicBytes). bits (k .modulus)) own, ap (λ (k : PublicBytes). bits (k .modulus)) own′)
-elliptic-alike (Ecdsa k) zero key x key′ x′ c own own′ rule =
-    rw (ap (λ (k : PublicBytes). bits (k .modulus)) own, ap (λ (k : PublicBytes). bits (k .modulus)) own′, rule)
+elliptic-alike (Ecdsa k) zeros key x key′ x′ c own own′ rule long =
+    rw (ap (λ (k : PublicBytes). bits (k .modulus)) own, ap (λ (k : PublicBytes). bits (k .modulus)) own′, rule, long)
 
 oven7-text : utf8 (ascii "oven7") ≡ true
 unfolding utf8 utf8From UTF8-char
@@ -139,10 +142,10 @@ oven7-report n point seed small long private =
     let ed25519 = OnCurve Ed25519 in
     let key = ofPoint point in
     let x = ofScalar seed in
-    let fits : KeyFits ed25519 false key x (ascii "oven7") = record { public = (long, refl, refl); private = (private, refl); may = refl; text = oven7-text } in
-    let limit : length (plainImage n (blob ed25519 key) (keypair ed25519 false key x) (ascii "oven7")) ≤ 65535 =
-    omega (arith, length-is n ed25519 false key x (ascii "oven7") small fits) in
-    report-plain n ed25519 false key x (ascii "oven7") small fits limit ∙ oven7
+    let fits : KeyFits ed25519 0 key x (ascii "oven7") = record { public = (long, refl, refl); private = (private, refl); may = refl; text = oven7-text } in
+    let limit : length (plainImage n (blob ed25519 key) (keypair ed25519 0 key x) (ascii "oven7")) ≤ 65535 =
+    omega (arith, length-is n ed25519 0 key x (ascii "oven7") small fits) in
+    report-plain n ed25519 0 key x (ascii "oven7") small fits limit ∙ oven7
 
 -- ---- encrypted images
 
@@ -158,21 +161,21 @@ report-encrypted c k salt rounds a key ciphertext tag fits limit =
 
 -- ---- every image
 
--- accepted, plain: the lengths of the fields, and whether a zero stands before the scalar in the image, decide
+-- accepted, plain: the lengths of the fields, and how many zeros stand before the scalar in the image, decide
 pub report-accepted :
     (s : List ℕ) (all : AllBytes s) (f : Fields) → readAt s ≡ read.Record f → f .section .kind ≡ kind.Plain
-    → (zero : Bool)
-    × Stands s f zero
-    × (reportOf s ≡ lines (shown (f .header .algorithm) zero (publicIn s f) (privateIn s f) (length (viewOf s (f .section .comment)))))
+    → (zeros : ℕ)
+    × Stands s f zeros
+    × (reportOf s ≡ lines (shown (f .header .algorithm) zeros (publicIn s f) (privateIn s f) (length (viewOf s (f .section .comment)))))
 report-accepted s all f e plain =
     let p = plain-of s all f e plain in
     let a = f .header .algorithm in
-    let image = plainImage (f .section .checkint) (blob a (publicIn s f)) (keypair a (p .zero) (publicIn s f) (privateIn s f)) (viewOf s (f .section .comment)) in
+    let image = plainImage (f .section .checkint) (blob a (publicIn s f)) (keypair a (p .zeros) (publicIn s f) (privateIn s f)) (viewOf s (f .section .comment)) in
     let limit : length image ≤ 65535 = omega (arith, ap length (p .text), p .fits) in (
-      p .zero,
-      p .text,
+      p .zeros,
+      (p .text, p .key-fits .may),
       ap reportOf (p .text)
-          ∙ report-plain (f .section .checkint) a (p .zero) (publicIn s f) (privateIn s f) (viewOf s (f .section .comment)) (p .checkint-fits) (p .key-fits)
+          ∙ report-plain (f .section .checkint) a (p .zeros) (publicIn s f) (privateIn s f) (viewOf s (f .section .comment)) (p .checkint-fits) (p .key-fits)
           limit,
     )
 

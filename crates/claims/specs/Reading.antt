@@ -2,18 +2,20 @@
 -- is not refused.
 use Prim.Native.Nat.{ℕ, _+_, _≤_, _<_, _^_}
 use native.Mathlib.Omega.{arith}
-use mathlib.Core.Path.{_≡_, refl, sym, ap}
+use mathlib.Core.Path.{_≡_, refl, sym, _∙_, ap}
 use mathlib.Core.Bool.{Bool, true, false}
 use mathlib.Core.List.{List}
 use borrow.Author.Tests.{eqb-true, leb-true}
-use lib.Dec.{leb}
+use lib.Dec.{leb, eqb}
 use lib.ListN.{length, take}
 use Rattle.fields.specs.Place.{clash}
 use Rattle.fields.specs.declared.Refusal.{Refusal}
+use Rattle.fields.specs.declared.Refusal.the-variants.{Length, FormatEncoding}
+use Rattle.names.specs.declared.Elliptic.{Elliptic}
 use Rattle.names.specs.declared.Algorithm.{Algorithm}
 use Rattle.names.specs.declared.Algorithm.the-variants.{Elliptic as OnCurve, Rsa}
-use Rattle.format.specs.Format.{PublicBytes, PrivateBytes, ofPoint, ofScalar, ofModulus, ofNumbers, PublicFits, PrivateFits, needsLeadingZero, paddingLength, blob, keypair, content, plainImage, writtenImage}
-use Rattle.format.specs.Laws.{rule-may}
+use Rattle.format.specs.Format.{PublicBytes, PrivateBytes, ofPoint, ofScalar, ofModulus, ofNumbers, PublicFits, PrivateFits, publicLength, privateLength, pointTag, notZero, trimmed, filled, zerosAsked, writtenPair, paddingLength, blob, keypair, content, plainImage, writtenImage}
+use Rattle.format.specs.Scalars.{rule-may, allowed-own, trimmed-back, trimmed-fits}
 use Rattle.utf8.specs.Utf8.{utf8}
 use Rattle.section.specs.Back.{KeyFits}
 use Rattle.container.specs.Back.{PlainImageBack, plain-image-back}
@@ -49,26 +51,57 @@ pub own-of : (a : Algorithm) (key : PublicBytes) (x : PrivateBytes) → PublicFi
 own-of (OnCurve e) key x fits fit = (fits .2, fit .1)
 own-of Rsa key x fits fit = (fits .1, fit .1)
 
--- a key that passed its kind's tests fits, if it has no bytes but its own
+-- what a key over a curve is that passed its tests
+pub record EllipticHeld (e : Elliptic) (point scalar : List ℕ) (next : Written) (k : ℕ) : Type 0 where
+  pub long : length point ≡ publicLength e
+  pub private : length scalar ≡ privateLength e
+  pub tag : pointTag e point ≡ true
+  pub some : notZero e scalar ≡ true
+  pub then : next ≡ written.Length k
+
+pub elliptic-held :
+    (e : Elliptic) (key : PublicBytes) (x : PrivateBytes) (next : Written) (k : ℕ) → keyChecked (OnCurve e) key x next ≡ written.Length k
+    → EllipticHeld e (key .point) (x .scalar) next k
+unfolding keyChecked
+elliptic-held e key x next k passes =
+    let tag = pointTag e (key .point) in
+    let some = notZero e (x .scalar) in
+    let w₄ = unless some FormatEncoding next in
+    let w₃ = unless tag FormatEncoding w₄ in
+    let w₂ = unless (eqb (length (x .scalar)) (privateLength e)) Length w₃ in
+    let h₁ = held (eqb (length (key .point)) (publicLength e)) Length w₂ k passes in
+    let h₂ = held (eqb (length (x .scalar)) (privateLength e)) Length w₃ k (h₁ .1) in
+    let h₃ = held tag FormatEncoding w₄ k (h₂ .1) in
+    let h₄ = held some FormatEncoding next k (h₃ .1) in
+    record {
+      long = eqb-true (length (key .point)) (publicLength e) (h₁ .0);
+      private = eqb-true (length (x .scalar)) (privateLength e) (h₂ .0);
+      tag = h₃ .0;
+      some = h₄ .0;
+      then = h₄ .1;
+    }
+
+-- a key that passed its kind's tests fits once its scalar is trimmed, and is filled again to what it was, if it has no bytes but its own
 pub key-held :
     (a : Algorithm) (key : PublicBytes) (x : PrivateBytes) (next : Written) (k : ℕ) → keyChecked a key x next ≡ written.Length k
-    → (Own a key x → PublicFits a key × PrivateFits a key x) × (next ≡ written.Length k)
+    → (Own a key x → PublicFits a key × PrivateFits a key (trimmed a x) × (filled a (trimmed a x) ≡ x)) × (next ≡ written.Length k)
 unfolding keyChecked
 key-held (OnCurve e) key x next k passes =
-    let h₁ = held _ _ _ k passes in
-    let h₂ = held _ _ _ k (h₁ .1) in
-    let h₃ = held _ _ _ k (h₂ .1) in
-    (λ own. ((eqb-true _ _ (h₁ .0), h₃ .0, own .0), (eqb-true _ _ (h₂ .0), own .1)), h₃ .1)
+    let h = elliptic-held e key x next k passes in
+    let fits = trimmed-fits e (x .scalar) (allowed-own e (x .scalar) (h .private)) (h .some) in
+    let back = ap ofScalar (trimmed-back e (x .scalar) (h .private)) in
+    (λ own. ((h .long, h .tag, own .0), (fits, refl), back ∙ sym (own .1)), h .then)
 key-held Rsa key x next k passes =
     let h₁ = held _ _ _ k passes in
     let h₂ = held _ _ _ k (h₁ .1) in
     let fits = numbers-fit key x (h₁ .0) (h₂ .0) in
-    (λ own. ((fits .0, own .0), (fits .1, own .1)), h₂ .1)
+    (λ own. ((fits .0, own .0), (fits .1, own .1), refl), h₂ .1)
 
 module _ (a : Algorithm) (key : PublicBytes) (x : PrivateBytes) (n : ℕ) (comment : List ℕ) where
   -- what an accepted plain write was given
   pub record PlainAccepted (room k : ℕ) : Type 0 where
-    pub fits : Own a key x → KeyFits a (needsLeadingZero a x) key x comment
+    pub fits : Own a key x → KeyFits a (zerosAsked a (trimmed a x)) key (trimmed a x) comment
+    pub material : Own a key x → filled a (trimmed a x) ≡ x
     pub text : utf8 comment ≡ true
     pub small : length (writtenImage n a key x comment) ≤ 65535
     pub room-enough : length (writtenImage n a key x comment) ≤ room
@@ -81,7 +114,11 @@ module _ (a : Algorithm) (key : PublicBytes) (x : PrivateBytes) (n : ℕ) (comme
       let h₂ = held _ _ _ k (h₁ .1) in
       let h₃ = sized-held _ room k (h₂ .1) in
       record {
-        fits = λ own. record { public = h₁ .0 own .0; private = h₁ .0 own .1; may = rule-may a x; text = h₂ .0 };
+        fits =
+            λ own.
+            let fit = h₁ .0 own in
+            record { public = fit .0; private = fit .1; may = rule-may a key (trimmed a x) (fit .1); text = h₂ .0 };
+        material = λ own. h₁ .0 own .2;
         text = h₂ .0;
         small = h₃ .0;
         room-enough = h₃ .1;
@@ -99,24 +136,24 @@ module _ (a : Algorithm) (key : PublicBytes) (x : PrivateBytes) (n : ℕ) (comme
       let end : k ≡ 0 + length image = omega (arith, h .size) in
       rw (e, end) (take-splice old 0 image fit)
 
-  -- read after write gives the record
+  -- read after write gives the record, whose scalar has no leading zeros; filled to SIZE again, it is what was written (`material`)
   pub read-after-write :
       (old : List ℕ) (k : ℕ) → n < 2 ^ 32 → Own a key x → plainReply a key x n comment (length old) ≡ written.Length k
-      → PlainImageBack (take k (plainLeft a key x n comment old)) n a key x comment
-      (paddingLength (length (content n (keypair a (needsLeadingZero a x) key x) comment)))
+      → PlainImageBack (take k (plainLeft a key x n comment old)) n a key (trimmed a x) comment
+      (paddingLength (length (content n (writtenPair a key x) comment)))
   unfolding writtenImage
   read-after-write old k small own e =
       let h = plain-accepted (length old) k e in
       let w = plain-written old k e in
-      plain-image-back (take k (plainLeft a key x n comment old)) n a (needsLeadingZero a x) key x comment
+      plain-image-back (take k (plainLeft a key x n comment old)) n a (zerosAsked a (trimmed a x)) key (trimmed a x) comment
       (omega (arith, ap length w, h .small)) small (h .fits own) w
 
--- what the definition of the format admits within the limits is not refused: a key that fits, a scalar in either form that it may
--- have
+-- what the definition of the format admits within the limits is not refused: a key that fits, a scalar after any zeros that may stand
+-- before it
 pub plain-admitted :
-    (n : ℕ) (a : Algorithm) (zero : Bool) (key : PublicBytes) (x : PrivateBytes) (comment : List ℕ) → n < 2 ^ 32 → KeyFits a zero key x comment
-    → length (plainImage n (blob a key) (keypair a zero key x) comment) ≤ 65535
-    → PlainImageBack (plainImage n (blob a key) (keypair a zero key x) comment) n a key x comment
-    (paddingLength (length (content n (keypair a zero key x) comment)))
-plain-admitted n a zero key x comment small fits limit =
-    plain-image-back (plainImage n (blob a key) (keypair a zero key x) comment) n a zero key x comment limit small fits refl
+    (n : ℕ) (a : Algorithm) (zeros : ℕ) (key : PublicBytes) (x : PrivateBytes) (comment : List ℕ) → n < 2 ^ 32 → KeyFits a zeros key x comment
+    → length (plainImage n (blob a key) (keypair a zeros key x) comment) ≤ 65535
+    → PlainImageBack (plainImage n (blob a key) (keypair a zeros key x) comment) n a key x comment
+    (paddingLength (length (content n (keypair a zeros key x) comment)))
+plain-admitted n a zeros key x comment small fits limit =
+    plain-image-back (plainImage n (blob a key) (keypair a zeros key x) comment) n a zeros key x comment limit small fits refl

@@ -12,7 +12,7 @@ use Rattle.names.specs.declared.Algorithm.the-variants.{Elliptic as OnCurve, Rs
 use Rattle.names.specs.declared.Cipher.{Cipher}
 use Rattle.names.specs.declared.Kdf.{Kdf}
 use Rattle.codes.specs.Codes.{algorithmCoded, cipherCoded, kdfCoded}
-use Rattle.format.specs.Format.{PublicBytes, PrivateBytes, ofPoint, ofScalar, ofModulus, ofNumbers}
+use Rattle.format.specs.Format.{PublicBytes, PrivateBytes, ofPoint, ofScalar, scalarFilled, ofModulus, ofNumbers}
 use Rattle.material.specs.Material.{publicOf, privateOf, checkintOf}
 use Rattle.material.specs.declared.Material.{Material}
 use Rattle.material.specs.declared.Checkint.{Checkint}
@@ -42,6 +42,7 @@ use Rattle.claims.specs.Change.{refused-stays}
 -- the entries of the library
 pub data Entry : Type 0 where
   write-parts : Elliptic → List ℕ → List ℕ → ℕ → List ℕ → Entry
+  write-filled : Elliptic → List ℕ → List ℕ → ℕ → List ℕ → Entry
   write-numbers : List ℕ → List ℕ → List ℕ → List ℕ → List ℕ → List ℕ → ℕ → List ℕ → Entry
   write-rsa : List ℕ → List ℕ → List ℕ → List ℕ → List ℕ → List ℕ → Checkint → List ℕ → Entry
   write-plain : Material → Checkint → List ℕ → Entry
@@ -54,6 +55,8 @@ pub data Entry : Type 0 where
 
 abbrev pub Promise : Entry → List ℕ → Written → List ℕ → Type 0
 Promise (write-parts e point scalar checkint comment) old r out = isPlain (OnCurve e) (ofPoint point) (ofScalar scalar) checkint comment old r out
+Promise (write-filled e point scalar checkint comment) old r out =
+    isPlain (OnCurve e) (ofPoint point) (ofScalar (scalarFilled e scalar)) checkint comment old r out
 Promise (write-numbers n e d iqmp p q checkint comment) old r out = isPlain Rsa (ofModulus n e) (ofNumbers d iqmp p q) checkint comment old r out
 Promise (write-rsa n e d iqmp p q given comment) old r out = isPlain Rsa (ofModulus n e) (ofNumbers d iqmp p q) (checkintOf given d) comment old r out
 Promise (write-plain m given comment) old r out =
@@ -176,6 +179,8 @@ kept w r after out old g keeps p e = p .1 ∙ keeps g (sym (p .0) ∙ e)
 pub refused-keeps : (entry : Entry) (old : List ℕ) (r : Written) (out : List ℕ) (g : Fault) → Promise entry old r out → r ≡ written.Refused g → out ≡ old
 refused-keeps (write-parts e point scalar checkint comment) old r out g promise q =
     kept _ r _ out old g (plain-keeps (OnCurve e) (ofPoint point) (ofScalar scalar) checkint comment old) promise q
+refused-keeps (write-filled e point scalar checkint comment) old r out g promise q =
+    kept _ r _ out old g (plain-keeps (OnCurve e) (ofPoint point) (ofScalar (scalarFilled e scalar)) checkint comment old) promise q
 refused-keeps (write-numbers n e d iqmp p q checkint comment) old r out g promise w =
     kept _ r _ out old g (plain-keeps Rsa (ofModulus n e) (ofNumbers d iqmp p q) checkint comment old) promise w
 refused-keeps (write-rsa n e d iqmp p q given comment) old r out g promise w =

@@ -9,7 +9,7 @@ use lib.ListN.{length, take, drop}
 use Rattle.fields.specs.Bytes.{AllBytes}
 use Rattle.fields.specs.declared.Fault.{Fault}
 use Rattle.container.specs.declared.Fields.{Fields}
-use Rattle.container.specs.Container.{publicIn, privateIn}
+use Rattle.container.specs.Container.{publicIn, materialIn}
 use Rattle.buffer.specs.Puts.{zeros}
 use Rattle.reply.specs.declared.Written.{Written}
 use Rattle.reply.specs.declared.Written.the-variants as written
@@ -190,7 +190,7 @@ pub sequence-afresh :
     × (take (t .n) (t .buf)
     ≡ take (t .n)
     (plainLeft (h .fields .header .algorithm) (publicIn (take (s .n) (s .buf)) (h .fields))
-    (privateIn (take (s .n) (s .buf)) (h .fields)) (h .fields .section .checkint) comment (s .buf)))
+    (materialIn (take (s .n) (s .buf)) (h .fields)) (h .fields .section .checkint) comment (s .buf)))
 sequence-afresh s comment far t e =
     let c = change-changes (s .buf) (s .n) comment (t .n) (e .0) in
     (c .accepted, e .1 ∙ c .written-afresh)

@@ -17,7 +17,7 @@ use Rattle.fields.specs.declared.Fault.{Fault}
 use Rattle.names.specs.declared.Algorithm.{Algorithm}
 use Rattle.names.specs.declared.Algorithm.the-variants.{Elliptic as OnCurve}
 use Rattle.names.specs.declared.Elliptic.the-variants.{Ed25519}
-use Rattle.format.specs.Format.{PublicBytes, PrivateBytes, ofPoint, ofScalar, magic, blob, keypair, header, needsLeadingZero, paddingLength, content, section, plainImage, writtenImage}
+use Rattle.format.specs.Format.{PublicBytes, PrivateBytes, ofPoint, ofScalar, magic, blob, keypair, header, trimmed, filled, zerosAsked, writtenPair, paddingLength, content, section, plainImage, writtenImage}
 use Rattle.container.specs.declared.ImageRead.{ImageRead}
 use Rattle.container.specs.declared.ImageRead.the-variants as read
 use Rattle.container.specs.Container.{answersRead}
@@ -68,7 +68,7 @@ abbrev private32 : PrivateBytes
 private32 = ofScalar bytes32
 
 parts : Key Ed25519 bytes32 bytes32
-parts = record { long = refl; tag = refl; private = refl }
+parts = record { long = refl; tag = refl; private = refl; some = refl }
 
 -- comments of c letters
 letters : (c : ℕ) → Ascii (replicate c 97)
@@ -162,7 +162,7 @@ pub made-up-count :
 unfolding below p256Image plainImage header section content blob keypair string uint32 magic
 made-up-count reader meets count same =
     let two = other-scalars .1 in
-    let three = other-scalars .3 in
+    let three = other-scalars .2 in
     let bytes-two = all-below (p256Image (replicate 34 9)) refl in
     let bytes-three = all-below (p256Image (replicate 35 9)) refl in
     let e₁ = same _ _ bytes-two (meets _ bytes-two .0 ∙ two .read) (two .number-is) in
@@ -190,22 +190,26 @@ module _ (a : Algorithm) (key : PublicBytes) (x : PrivateBytes) (n : ℕ) (fit :
   abbrev s : List ℕ
   s = writtenImage n a key x first
 
-  back : PlainImageBack s n a key x first (paddingLength (length (content n (keypair a (needsLeadingZero a x) key x) first)))
+  back : PlainImageBack s n a key (trimmed a x) first (paddingLength (length (content n (writtenPair a key x) first)))
   unfolding writtenImage
-  back = plain-image-back s n a (needsLeadingZero a x) key x first (was .small) fit (was .fits own) refl
+  back = plain-image-back s n a (zerosAsked a (trimmed a x)) key (trimmed a x) first (was .small) fit (was .fits own) refl
+
+  -- the record's material is what the image was written of
+  material : filled a (trimmed a x) ≡ x
+  material = was .material own
 
   all : take k s ≡ s
   all = ap (λ (i : ℕ). take i s) (was .size) ∙ take-length s
 
   in-form : formOf s (back .fields) ≡ true
-  in-form = back-form s n a key x first _ refl back
+  in-form = back-form s n a key (trimmed a x) first _ (ap (λ (y : PrivateBytes). writtenImage n a key y first) (sym material)) back
 
   change-reply : changeReply s k second ≡ written.Length k
   unfolding changeReply acceptedReply afreshReply
   change-reply =
       let will = plain-accepted a key x n second k k fits in
       rw (all, le-leb k 65535 (omega (arith, was .small, was .size)), le-leb k (length s) (omega (arith, was .size)), back .read, back .plain, in-form)
-      (rw (will .text, back .same-checkint, back .same-algorithm, back .same-public, back .same-private, sym (was .size)) fits)
+      (rw (will .text, back .same-checkint, back .same-algorithm, back .same-public, back .same-private, material, sym (was .size)) fits)
 
   change-leaves : changeLeft s k second ≡ writtenImage n a key x second
   unfolding changeLeft afreshLeft plainLeft
@@ -214,7 +218,7 @@ module _ (a : Algorithm) (key : PublicBytes) (x : PrivateBytes) (n : ℕ) (fit :
       let image = writtenImage n a key x second in
       let room : plainReply a key x n second (length s) ≡ written.Length k = rw (sym (was .size)) fits in
       let out : changeLeft s k second ≡ laid image (k - length image) s =
-      rw (change-reply, all, back .read, back .same-checkint, back .same-algorithm, back .same-public, back .same-private, room)
+      rw (change-reply, all, back .read, back .same-checkint, back .same-algorithm, back .same-public, back .same-private, material, room)
       (changed-laid s image k k (will .size) (omega (arith, was .size, will .size)) (omega (arith, was .size))) in
       let long : length (changeLeft s k second) ≡ k =
       ap length out ∙ laid-length image (k - length image) s (omega (arith, was .size, will .size)) ∙ sym (was .size) in

@@ -1,11 +1,12 @@
--- How long an image the plain writer makes of a key and an ASCII comment, and with how much padding: by the lengths and a scalar's first byte, for every
--- key, checkint and comment of that length.
+-- How long an image the plain writer makes of a key and an ASCII comment, and with how much padding: by the lengths and a scalar's bytes without leading
+-- zeros, for every key, checkint and comment of that length.
 use Prim.Native.Nat.{ℕ, _+_, _≤_, _<_, _^_}
 use native.Mathlib.Omega.{arith}
 use mathlib.Core.Path.{_≡_, refl, _∙_, ap}
 use mathlib.Core.Bool.{true}
 use mathlib.Core.List.{List, [], _∷_}
 use borrow.Author.Tests.{eq-eqb, le-leb, lt-leb}
+use lib.Dec.{leb}
 use lib.ListN.{length, getD}
 use Rattle.fields.specs.declared.Refusal.the-variants.{Size}
 use Rattle.names.specs.declared.Algorithm.the-variants.{Elliptic as OnCurve}
@@ -13,8 +14,8 @@ use Rattle.names.specs.declared.Elliptic.{Elliptic}
 use Rattle.names.specs.declared.Elliptic.the-variants.{Ed25519, Ecdsa}
 use Rattle.names.specs.declared.Curve.the-variants.{Nistp256}
 use Rattle.utf8.specs.Laws.{ascii-utf8}
-use Rattle.format.specs.Format.{ofPoint, ofScalar, publicLength, privateLength, pointTag, scalarZero, paddingLength, writtenImage}
-use Rattle.format.specs.Laws.{rule-may}
+use Rattle.format.specs.Format.{ofPoint, ofScalar, publicLength, privateLength, pointTag, scalarBytes, notZero, zeroLength, zerosAsked, paddingLength, writtenImage}
+use Rattle.format.specs.Scalars.{significant-own, rule-may, allowed-own, trimmed-fits}
 use Rattle.format.specs.Lengths.{pointBlobLength, contentLength, written-content-length, written-length}
 use Rattle.section.specs.Back.{KeyFits}
 use Rattle.container.specs.Back.{PlainImageBack, plain-image-back}
@@ -22,11 +23,12 @@ use Rattle.reply.specs.declared.Written.the-variants as written
 use Rattle.reply.specs.Reply.{refused, sized}
 use Rattle.plain.specs.Plain.{keyChecked, plainReply}
 
--- public and private bytes that make a key: their lengths, and the tag of a point
+-- public and private bytes that make a key: their lengths, the tag of a point, and a scalar that isn't zero
 pub record Key (a : Elliptic) (point scalar : List ℕ) : Type 0 where
   pub long : length point ≡ publicLength a
   pub tag : pointTag a point ≡ true
   pub private : length scalar ≡ privateLength a
+  pub some : notZero a scalar ≡ true
 
 -- every byte is ASCII
 abbrev pub Ascii : List ℕ → Type 0
@@ -43,20 +45,22 @@ module _ (a : Elliptic) (point scalar : List ℕ) (n : ℕ) (comment : List ℕ)
   -- the writer answers this length where there is room for it, and the image is read with this padding
   pub record Takes (size padding : ℕ) : Type 0 where
     pub answer : (room : ℕ) → size ≤ room → plainReply (OnCurve a) (ofPoint point) (ofScalar scalar) n comment room ≡ written.Length size
-    pub pads : n < 2 ^ 32 → PlainImageBack (writtenImage n (OnCurve a) (ofPoint point) (ofScalar scalar) comment) n (OnCurve a) (ofPoint point) (ofScalar scalar) comment padding
+    pub pads : n < 2 ^ 32 → PlainImageBack (writtenImage n (OnCurve a) (ofPoint point) (ofScalar scalar) comment) n (OnCurve a) (ofPoint point) (ofScalar (scalarBytes a scalar)) comment padding
 
   -- a key with an ASCII comment is refused for its size or for want of room only
   sized-alone : Key a point scalar → Ascii comment → (room : ℕ) → plainReply (OnCurve a) (ofPoint point) (ofScalar scalar) n comment room ≡ sized (writtenImage n (OnCurve a) (ofPoint point) (ofScalar scalar) comment) room
   unfolding plainReply keyChecked
-  sized-alone key text room = rw (eq-eqb _ _ (key .long), eq-eqb _ _ (key .private), key .tag, ascii-utf8 comment text)
+  sized-alone key text room = rw (eq-eqb _ _ (key .long), eq-eqb _ _ (key .private), key .tag, key .some, ascii-utf8 comment text)
 
   -- a key with an ASCII comment fits the format
-  key-fits : Key a point scalar → Ascii comment → KeyFits (OnCurve a) (scalarZero a scalar) (ofPoint point) (ofScalar scalar) comment
+  key-fits :
+      Key a point scalar → Ascii comment → KeyFits (OnCurve a) (zerosAsked (OnCurve a) (ofScalar (scalarBytes a scalar))) (ofPoint point) (ofScalar (scalarBytes a scalar)) comment
   key-fits key text =
+      let fits = trimmed-fits a scalar (allowed-own a scalar (key .private)) (key .some) in
       record {
         public = (key .long, key .tag, refl);
-        private = (key .private, refl);
-        may = rule-may (OnCurve a) (ofScalar scalar);
+        private = (fits, refl);
+        may = rule-may (OnCurve a) (ofPoint point) (ofScalar (scalarBytes a scalar)) (fits, refl);
         text = ascii-utf8 comment text;
       }
 
@@ -66,13 +70,13 @@ module _ (a : Elliptic) (point scalar : List ℕ) (n : ℕ) (comment : List ℕ)
       → paddingLength (bodyLength a scalar (length comment)) ≡ padding → Takes size padding
   unfolding sized writtenImage
   takes key text size padding long small pads =
-      let is : length (writtenImage n (OnCurve a) (ofPoint point) (ofScalar scalar) comment) ≡ size = written-length n (OnCurve a) (ofPoint point) (ofScalar scalar) comment (key .long, key .private) ∙ long in
+      let is : length (writtenImage n (OnCurve a) (ofPoint point) (ofScalar scalar) comment) ≡ size = written-length n (OnCurve a) (ofPoint point) (ofScalar scalar) comment (key .long, allowed-own a scalar (key .private)) ∙ long in
       record {
         answer = λ room enough. sized-alone key text room ∙ rw (is, le-leb _ _ small, le-leb _ _ enough);
         pads =
             λ fits.
-            rw (ap paddingLength (written-content-length n (OnCurve a) (ofPoint point) (ofScalar scalar) comment (key .long, key .private)) ∙ pads) at
-            (plain-image-back (writtenImage n (OnCurve a) (ofPoint point) (ofScalar scalar) comment) n (OnCurve a) (scalarZero a scalar) (ofPoint point) (ofScalar scalar) comment (omega (arith, is, small)) fits
+            rw (ap paddingLength (written-content-length n (OnCurve a) (ofPoint point) (ofScalar scalar) comment (key .long, allowed-own a scalar (key .private))) ∙ pads) at
+            (plain-image-back (writtenImage n (OnCurve a) (ofPoint point) (ofScalar scalar) comment) n (OnCurve a) (zerosAsked (OnCurve a) (ofScalar (scalarBytes a scalar))) (ofPoint point) (ofScalar (scalarBytes a scalar)) comment (omega (arith, is, small)) fits
             (key-fits key text) refl);
       }
 
@@ -81,7 +85,7 @@ module _ (a : Elliptic) (point scalar : List ℕ) (n : ℕ) (comment : List ℕ)
       Key a point scalar → Ascii comment → 65535 < imageLength a scalar (length comment) → (room : ℕ) → plainReply (OnCurve a) (ofPoint point) (ofScalar scalar) n comment room ≡ refused Size
   unfolding sized
   too-long key text above room =
-      let is = written-length n (OnCurve a) (ofPoint point) (ofScalar scalar) comment (key .long, key .private) in
+      let is = written-length n (OnCurve a) (ofPoint point) (ofScalar scalar) comment (key .long, allowed-own a scalar (key .private)) in
       sized-alone key text room ∙ rw (is, lt-leb _ _ above)
 
 -- every Ed25519 key with any checkint and an ASCII comment of c bytes takes this image and padding
@@ -109,8 +113,17 @@ P256Takes first c size padding =
     (point scalar : List ℕ) (n : ℕ) (comment : List ℕ) → Key (Ecdsa Nistp256) point scalar → getD scalar 0 0 ≡ first → Ascii comment → length comment ≡ c
     → Takes (Ecdsa Nistp256) point scalar n comment size padding
 
+-- the section's length but for its padding, of a scalar that begins with another byte than zero
+abbrev p256Body : ℕ → ℕ → ℕ
+p256Body first c = 8 + (104 + (4 + zeroLength (leb 0x80 first) + 32)) + (4 + c)
+
+p256-body :
+    (first : ℕ) (scalar : List ℕ) (c : ℕ) → 0 < first → getD scalar 0 0 ≡ first → length scalar ≡ 32 → bodyLength (Ecdsa Nistp256) scalar c ≡ p256Body first c
+p256-body first scalar c some begins long = rw (significant-own scalar (rw begins some), begins, long)
+
 pub p256-takes :
-    (first c size padding : ℕ) → imageLength (Ecdsa Nistp256) (first ∷ []) c ≡ size → size ≤ 65535
-    → paddingLength (bodyLength (Ecdsa Nistp256) (first ∷ []) c) ≡ padding → P256Takes first c size padding
-p256-takes first c size padding long small pads point scalar n comment key begins text e =
-    takes (Ecdsa Nistp256) point scalar n comment key text size padding (rw (begins, e) long) small (rw (begins, e) pads)
+    (first c size padding : ℕ) → 0 < first → 47 + 104 + (p256Body first c + paddingLength (p256Body first c)) ≡ size → size ≤ 65535
+    → paddingLength (p256Body first c) ≡ padding → P256Takes first c size padding
+p256-takes first c size padding some long small pads point scalar n comment key begins text e =
+    let body = p256-body first scalar c some begins (key .private) in
+    takes (Ecdsa Nistp256) point scalar n comment key text size padding (rw (e, body) long) small (rw (e, body) pads)

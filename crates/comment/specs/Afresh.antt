@@ -14,9 +14,10 @@ use Rattle.fields.specs.Rest.{length-uint32}
 use Rattle.names.specs.declared.Cipher.the-variants as cipher
 use Rattle.names.specs.declared.Kdf.the-variants as kdf
 use Rattle.utf8.specs.Utf8.{utf8}
-use Rattle.format.specs.Format.{needsLeadingZero, blob, keypair, paddingLength, paddingBytes, content, section, header, plainImage, writtenImage}
+use Rattle.format.specs.Format.{zerosAsked, blob, keypair, paddingLength, paddingBytes, content, section, header, plainImage}
 use Rattle.format.specs.Laws.{content-then, section-length}
 use Rattle.format.specs.Lengths.{content-length}
+use Rattle.format.specs.Scalars.{written-own}
 use Rattle.section.specs.Read.{beforeComment}
 use Rattle.container.specs.declared.Fields.{Fields}
 use Rattle.container.specs.Container.{publicIn, privateIn}
@@ -101,13 +102,13 @@ module _ (old : List ℕ) (n : ℕ) (inside : n ≤ length old) (f : Fields) (p 
 
   pub stands :
       Standing (header cipher.None kdf.None [] 0 (blob (f .header .algorithm) (publicIn (take n old) f)))
-      (middle (f .section .checkint) (keypair (f .header .algorithm) (p .zero) (publicIn (take n old) f) (privateIn (take n old) f)))
+      (middle (f .section .checkint) (keypair (f .header .algorithm) (p .zeros) (publicIn (take n old) f) (privateIn (take n old) f)))
   stands =
       let s = take n old in
       let c = f .section .checkint in
       let a = f .header .algorithm in
       let key = blob a (publicIn s f) in
-      let pair = keypair a (p .zero) (publicIn s f) (privateIn s f) in
+      let pair = keypair a (p .zeros) (publicIn s f) (privateIn s f) in
       let comment = viewOf s (f .section .comment) in
       let front = header cipher.None kdf.None [] 0 key in
       let m = middle c pair in
@@ -136,17 +137,18 @@ module _ (old : List ℕ) (n : ℕ) (inside : n ≤ length old) (f : Fields) (p 
 
   -- the image written afresh with any comment
   pub afresh-shell :
-      needsLeadingZero (f .header .algorithm) (privateIn (take n old) f) ≡ p .zero → (comment : List ℕ)
+      zerosAsked (f .header .algorithm) (privateIn (take n old) f) ≡ p .zeros → (comment : List ℕ)
       → afresh (take n old) f comment ≡ shellAt old (f .header .section) (commentField f) comment
-  unfolding afresh writtenImage shellAt shellFields
+  unfolding afresh shellAt shellFields
   afresh-shell rule comment =
       let s = take n old in
       let c = f .section .checkint in
       let a = f .header .algorithm in
       let key = blob a (publicIn s f) in
-      let pair = keypair a (p .zero) (publicIn s f) (privateIn s f) in
+      let pair = keypair a (p .zeros) (publicIn s f) (privateIn s f) in
       let same : bareOf c pair comment ≡ bare (f .header .section) (commentField f) comment = omega (arith, stands .apart) in
-      rw rule
+      let written = written-own c a (publicIn s f) (privateIn s f) comment (p .key-fits .private) in
+      rw (written, rule)
       (regrouped c key pair comment
       ∙ rw (stands .before, stands .middle-stands, same, append-nil))
 

@@ -9,7 +9,7 @@ use Rattle.fields.specs.Fields.{fault}
 use Rattle.fields.specs.declared.Refusal.the-variants.{Length, CharacterEncoding, Encrypted, Form, Size}
 use Rattle.utf8.specs.Utf8.{utf8}
 use Rattle.format.specs.Format.{writtenImage}
-use Rattle.container.specs.Container.{publicIn, privateIn, onRead, readAt}
+use Rattle.container.specs.Container.{publicIn, materialIn, onRead, readAt}
 use Rattle.container.specs.Form.{onKind, formOf}
 use Rattle.container.specs.declared.Fields.{Fields}
 use Rattle.buffer.specs.Puts.{splice, zeros}
@@ -22,15 +22,15 @@ use Rattle.reply.specs.Reply.{onWritten, refused, unless, answers}
 
 unfoldable pub afresh : List ℕ → Fields → List ℕ → List ℕ
 afresh s f comment =
-    writtenImage (f .section .checkint) (f .header .algorithm) (publicIn s f) (privateIn s f) comment
+    writtenImage (f .section .checkint) (f .header .algorithm) (publicIn s f) (materialIn s f) comment
 
 unfoldable pub afreshReply : List ℕ → Fields → List ℕ → ℕ → Written
 afreshReply s f comment room =
-    plainReply (f .header .algorithm) (publicIn s f) (privateIn s f) (f .section .checkint) comment room
+    plainReply (f .header .algorithm) (publicIn s f) (materialIn s f) (f .section .checkint) comment room
 
 unfoldable pub afreshLeft : List ℕ → Fields → List ℕ → List ℕ → List ℕ
 afreshLeft s f comment old =
-    plainLeft (f .header .algorithm) (publicIn s f) (privateIn s f) (f .section .checkint) comment old
+    plainLeft (f .header .algorithm) (publicIn s f) (materialIn s f) (f .section .checkint) comment old
 
 -- ---- the change of an accepted image s
 

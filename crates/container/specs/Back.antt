@@ -2,7 +2,7 @@
 use Prim.Native.Nat.{ℕ, _%_, _≤_, _<_, _^_}
 use native.Mathlib.Omega.{arith}
 use mathlib.Core.Path.{_≡_, refl, _∙_, ap}
-use mathlib.Core.Bool.{Bool, false}
+use mathlib.Core.Bool.{false}
 use mathlib.Core.List.{List, [], _++_, append-nil}
 use lib.ListN.{length}
 use Rattle.fields.specs.Bytes.{string}
@@ -43,15 +43,15 @@ pub record PlainImageBack (s : List ℕ) (n : ℕ) (a : Algorithm) (key : Public
 
 -- the section after a header that was read back
 plain-after :
-    (s : List ℕ) (n : ℕ) (a : Algorithm) (zero : Bool) (key : PublicBytes) (x : PrivateBytes) (comment : List ℕ) → length s ≤ 65535 → n < 2 ^ 32 → KeyFits a zero key x comment
-    → HeaderBack s cipher.None kdf.None [] 0 a key (string (section n (keypair a zero key x) comment))
-    → PlainImageBack s n a key x comment (paddingLength (length (content n (keypair a zero key x) comment)))
+    (s : List ℕ) (n : ℕ) (a : Algorithm) (zeros : ℕ) (key : PublicBytes) (x : PrivateBytes) (comment : List ℕ) → length s ≤ 65535 → n < 2 ^ 32 → KeyFits a zeros key x comment
+    → HeaderBack s cipher.None kdf.None [] 0 a key (string (section n (keypair a zeros key x) comment))
+    → PlainImageBack s n a key x comment (paddingLength (length (content n (keypair a zeros key x) comment)))
 unfolding readAt sectionAt
-plain-after s n a zero key x comment small fit fits h =
+plain-after s n a zeros key x comment small fit fits h =
     let f = h .fields in
-    let k : PlainBack s _ n x comment (paddingLength (length (content n (keypair a zero key x) comment))) =
+    let k : PlainBack s _ n x comment (paddingLength (length (content n (keypair a zeros key x) comment))) =
     rw (h .same-public) at
-    (plain-back s (record { at = f .section; end = length s }) (omega (arith, h .good)) (omega arith) a (f .public) zero n x comment fit
+    (plain-back s (record { at = f .section; end = length s }) (omega (arith, h .good)) (omega arith) a (f .public) zeros n x comment fit
     (rw (h .same-public) fits) (rw (h .same-public) (h .more))) in
     record {
       fields = record { header = f; section = k .fields };
@@ -73,15 +73,15 @@ plain-after s n a zero key x comment small fit fits h =
     }
 
 pub plain-image-back :
-    (s : List ℕ) (n : ℕ) (a : Algorithm) (zero : Bool) (key : PublicBytes) (x : PrivateBytes) (comment : List ℕ) → length s ≤ 65535 → n < 2 ^ 32 → KeyFits a zero key x comment
-    → s ≡ plainImage n (blob a key) (keypair a zero key x) comment
-    → PlainImageBack s n a key x comment (paddingLength (length (content n (keypair a zero key x) comment)))
+    (s : List ℕ) (n : ℕ) (a : Algorithm) (zeros : ℕ) (key : PublicBytes) (x : PrivateBytes) (comment : List ℕ) → length s ≤ 65535 → n < 2 ^ 32 → KeyFits a zeros key x comment
+    → s ≡ plainImage n (blob a key) (keypair a zeros key x) comment
+    → PlainImageBack s n a key x comment (paddingLength (length (content n (keypair a zeros key x) comment)))
 unfolding plainImage
-plain-image-back s n a zero key x comment small fit fits e =
-    let body = section n (keypair a zero key x) comment in
+plain-image-back s n a zeros key x comment small fit fits e =
+    let body = section n (keypair a zeros key x) comment in
     let h = header-back s cipher.None kdf.None [] 0 a key (string body) small (refl, refl) (fits .public)
     (e ∙ ap (λ (l : List ℕ). header cipher.None kdf.None [] 0 (blob a key) ++ l) (append-nil (string body))) in
-    plain-after s n a zero key x comment small fit fits h
+    plain-after s n a zeros key x comment small fit fits h
 
 -- what an encrypted image gives back
 pub record EncryptedImageBack

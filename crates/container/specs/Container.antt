@@ -15,7 +15,7 @@ use Rattle.names.specs.declared.Cipher.the-variants as cipher
 use Rattle.names.specs.Ciphers.{isNone, cipherName}
 use Rattle.header.specs.Header.{onKdf, onHeaderRead, headerAt, noHeader}
 use Rattle.halves.specs.Halves.{isHeader}
-use Rattle.format.specs.Format.{PublicBytes, PrivateBytes, magic}
+use Rattle.format.specs.Format.{PublicBytes, PrivateBytes, filled, magic}
 use Rattle.keys.specs.Keys.{publicBytes}
 use Rattle.pairs.specs.Pairs.{scalarPlace, privateBytes}
 use Rattle.section.specs.declared.Kind.the-variants.{Plain}
@@ -61,6 +61,10 @@ publicIn s f = publicBytes s (f .header .public)
 
 abbrev pub privateIn : List ℕ → Fields → PrivateBytes
 privateIn s f = privateBytes s (f .section .private)
+
+-- its private bytes as a writer takes them: a scalar is filled with zeros in front to SIZE
+abbrev pub materialIn : List ℕ → Fields → PrivateBytes
+materialIn s f = filled (f .header .algorithm) (privateIn s f)
 
 -- ---- the paper's reply to a read
 

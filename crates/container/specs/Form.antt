@@ -1,16 +1,17 @@
--- Document 01, 'Writing': an image is in the writer's form if writing its record with its own checkint gives it back.
+-- Document 01, 'Writing': an image is in the writer's form if writing its record with its own checkint gives it back. Document 02, request
+-- Five: the writer gives the minimal mpint, and the form follows from that.
 use Prim.Native.Nat.{ℕ}
 use mathlib.Core.Path.{_≡_}
-use mathlib.Core.Bool.{Bool, true, false, cond, not}
+use mathlib.Core.Bool.{Bool, true, false}
 use mathlib.Core.List.{List}
 use Rattle.fields.specs.Bytes.{sameBytes}
 use Rattle.fields.specs.Fields.{viewOf}
 use Rattle.fields.specs.declared.Fault.{Fault}
-use Rattle.format.specs.Format.{leadingZero, writtenImage, encryptedImage}
+use Rattle.format.specs.Format.{leadingZero, zeroLength, writtenImage, encryptedImage}
 use Rattle.fields.specs.declared.Part.{Part}
 use Rattle.names.specs.declared.Elliptic.{Elliptic}
 use Rattle.keys.specs.Keys.{onAlgorithm, onElliptic}
-use Rattle.pairs.specs.Pairs.{afterZero}
+use Rattle.pairs.specs.Pairs.{beginsBefore}
 use Rattle.header.specs.declared.Header.{Header}
 use Rattle.section.specs.declared.Kind.{Kind}
 use Rattle.section.specs.declared.Kind.the-variants.{Plain, Encrypted}
@@ -19,7 +20,7 @@ use Rattle.container.specs.declared.FormRead.{FormRead}
 use Rattle.container.specs.declared.FormRead.the-variants as form-read
 use Rattle.container.specs.declared.ImageRead.{ImageRead}
 use Rattle.container.specs.declared.ImageRead.the-variants as read
-use Rattle.container.specs.Container.{publicIn, privateIn, onRead, readAt, sectionReadAt, ToldRead, toldRead}
+use Rattle.container.specs.Container.{publicIn, materialIn, onRead, readAt, sectionReadAt, ToldRead, toldRead}
 
 abbrev pub onKind : {R : Type 0} → Kind → R → R → R
 onKind Plain plain encrypted = plain
@@ -29,7 +30,7 @@ onKind Encrypted plain encrypted = encrypted
 unfoldable pub rewritten : List ℕ → Fields → List ℕ
 rewritten s f =
     onKind (f .section .kind)
-    (writtenImage (f .section .checkint) (f .header .algorithm) (publicIn s f) (privateIn s f) (viewOf s (f .section .comment)))
+    (writtenImage (f .section .checkint) (f .header .algorithm) (publicIn s f) (materialIn s f) (viewOf s (f .section .comment)))
     (encryptedImage (f .header .cipher) (f .header .kdf) (viewOf s (f .header .salt)) (f .header .rounds) (viewOf s (f .header .blob))
     (viewOf s (f .section .ciphertext)) (viewOf s (f .section .tag)))
 
@@ -67,10 +68,9 @@ answersSectionForm s half r = answersThis (sectionFormAt s half) r
 
 -- ---- the form by the scalar alone, which is what the code looks at; `form-scalar` says that it is the same
 
--- a zero stands before the scalar exactly if its first byte is 0x80 or more; a seed always stands right
+-- before the scalar stands one zero if its first byte is 0x80 or more, and else none; a seed always stands right
 unfoldable pub scalarStands : List ℕ → Elliptic → Part → Bool
-scalarStands s e scalar =
-    onElliptic e true (λ k. cond (leadingZero (viewOf s scalar)) (afterZero s scalar) (not (afterZero s scalar)))
+scalarStands s e scalar = onElliptic e true (λ k. beginsBefore s scalar (zeroLength (leadingZero (viewOf s scalar))))
 
 -- RSA has none
 unfoldable pub scalarInForm : List ℕ → Fields → Bool

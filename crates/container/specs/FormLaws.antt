@@ -1,10 +1,12 @@
 -- The form by the scalar alone: for an accepted image, writing its record again gives it back exactly where the scalar stands by
 -- the writer's rule.
-use Prim.Native.Nat.{ℕ, _<_, _^_}
+use Prim.Native.Nat.{ℕ, _<_}
 use native.Mathlib.Omega.{arith}
 use mathlib.Core.Path.{_≡_, refl, sym, _∙_, ap}
-use mathlib.Core.Bool.{Bool, true, false, cond, not}
+use mathlib.Core.Bool.{Bool, true, false}
 use mathlib.Core.List.{List}
+use borrow.Author.Tests.{eq-eqb, eqb-true, eqb-false}
+use lib.Dec.{eqb}
 use lib.ListN.{length}
 use Rattle.fields.specs.Bytes.{AllBytes, sameBytes, same-true, same-self}
 use Rattle.fields.specs.Fields.{viewOf}
@@ -13,12 +15,13 @@ use Rattle.fields.specs.Place.{clash, by-bool}
 use Rattle.names.specs.declared.Elliptic.the-variants.{Ed25519, Ecdsa}
 use Rattle.names.specs.declared.Algorithm.{Algorithm}
 use Rattle.names.specs.declared.Algorithm.the-variants.{Elliptic as OnCurve, Rsa}
-use Rattle.format.specs.Format.{PublicBytes, PrivateBytes, PrivateFits, leadingZero, mayStand, needsLeadingZero, blob, keypair, plainImage, writtenImage}
-use Rattle.format.specs.Laws.{key-small, rule-may, standing-same}
+use Rattle.format.specs.Format.{PublicBytes, PrivateBytes, PrivateFits, MayStand, leadingZero, zeroLength, zerosAsked, blob, keypair, plainImage}
+use Rattle.format.specs.Laws.{allowed-small, standing-same}
+use Rattle.format.specs.Scalars.{rule-may, fits-allowed, written-own}
 use Rattle.fields.specs.declared.Part.{Part}
 use Rattle.keys.specs.Keys.{onAlgorithm, onElliptic}
-use Rattle.pairs.specs.Pairs.{privateBytes, afterZero}
-use Rattle.key_laws.specs.ReadPair.{IfScalar}
+use Rattle.pairs.specs.Pairs.{privateBytes, beginsBefore}
+use Rattle.key_laws.specs.ReadPair.{IfScalar, Begins}
 use Rattle.section.specs.declared.Kind.the-variants.{Plain, Encrypted}
 use Rattle.section.specs.Back.{KeyFits}
 use Rattle.container.specs.declared.Fields.{Fields}
@@ -30,99 +33,82 @@ use Rattle.container.specs.Container.{publicIn, privateIn, readAt}
 use Rattle.container.specs.Form.{rewritten, formOf, formReadAt, scalarStands, scalarInForm}
 use Rattle.container.specs.Read.{PlainText, EncryptedText, ImageText, plain-text, encrypted-text, image-text}
 
--- whether two answers are the same
-abbrev pub agree : Bool → Bool → Bool
-agree true z = z
-agree false z = not z
-
-agree-true : (w z : Bool) → agree w z ≡ true → w ≡ z
-agree-true true true e = refl
-agree-true true false e = sym e
-agree-true false true e = e
-agree-true false false e = refl
-
-agree-self : (z : Bool) → agree z z ≡ true
-agree-self true = refl
-agree-self false = refl
-
 -- a scalar is short, and RSA has none
-pub scalar-short : (a : Algorithm) (key : PublicBytes) (x : PrivateBytes) → PrivateFits a key x → length (x .scalar) < 2 ^ 31
-scalar-short (OnCurve e) key x fits = let small = key-small e in omega (arith, fits .0)
+pub scalar-short : (a : Algorithm) (key : PublicBytes) (x : PrivateBytes) → PrivateFits a key x → length (x .scalar) < 67
+scalar-short (OnCurve e) key x fits = allowed-small e (x .scalar) (fits-allowed e (x .scalar) (fits .0))
 scalar-short Rsa key x fits =
     let none : length (x .scalar) ≡ 0 = ap (λ (y : PrivateBytes). length (y .scalar)) (fits .1) in
     omega (arith, none)
 
--- the writer's image is the image itself exactly where the zero that stands is the one that the rule asks for
+-- the writer's image is the image itself exactly where the zeros that stand are those that the rule asks for
 pub form-stands :
-    (s : List ℕ) (f : Fields) (zero : Bool)
+    (s : List ℕ) (f : Fields) (zeros : ℕ)
     → s
-    ≡ plainImage (f .section .checkint) (blob (f .header .algorithm) (publicIn s f)) (keypair (f .header .algorithm) zero (publicIn s f) (privateIn s f))
+    ≡ plainImage (f .section .checkint) (blob (f .header .algorithm) (publicIn s f)) (keypair (f .header .algorithm) zeros (publicIn s f) (privateIn s f))
     (viewOf s (f .section .comment))
-    → KeyFits (f .header .algorithm) zero (publicIn s f) (privateIn s f) (viewOf s (f .section .comment))
-    → f .section .kind ≡ Plain → formOf s f ≡ agree (needsLeadingZero (f .header .algorithm) (privateIn s f)) zero
-unfolding formOf rewritten writtenImage
-form-stands s f zero text fits plain =
+    → KeyFits (f .header .algorithm) zeros (publicIn s f) (privateIn s f) (viewOf s (f .section .comment))
+    → f .section .kind ≡ Plain → formOf s f ≡ eqb (zerosAsked (f .header .algorithm) (privateIn s f)) zeros
+unfolding formOf rewritten
+form-stands s f zeros text fits plain =
     let a = f .header .algorithm in
     let key = publicIn s f in
     let x = privateIn s f in
     let comment = viewOf s (f .section .comment) in
-    let rule = needsLeadingZero a x in
-    let image : Bool → List ℕ = λ z. plainImage (f .section .checkint) (blob a key) (keypair a z key x) comment in
-    rw plain
-    (by-bool (agree rule zero)
-    (λ w. rw w (ap (λ (z : Bool). sameBytes (image z) s) (agree-true rule zero w) ∙ ap (λ (t : List ℕ). sameBytes t s) (sym text) ∙ same-self s))
+    let rule = zerosAsked a x in
+    let image : ℕ → List ℕ = λ z. plainImage (f .section .checkint) (blob a key) (keypair a z key x) comment in
+    let written = written-own (f .section .checkint) a key x comment (fits .private) in
+    rw (plain, written)
+    (by-bool (eqb rule zeros)
+    (λ w. rw w (ap (λ (z : ℕ). sameBytes (image z) s) (eqb-true rule zeros w) ∙ ap (λ (t : List ℕ). sameBytes t s) (sym text) ∙ same-self s))
     (λ w.
     rw w
     (by-bool (sameBytes (image rule) s)
     (λ v.
-    let same : image rule ≡ image zero = same-true (image rule) s v ∙ text in
+    let same : image rule ≡ image zeros = same-true (image rule) s v ∙ text in
     let z =
-    standing-same (f .section .checkint) a key x comment rule zero (scalar-short a key x (fits .private)) (rule-may a x) (fits .may) same in
-    clash (let q : agree rule zero ≡ true = rw z (agree-self zero) in cc))
+    standing-same (f .section .checkint) a key x comment rule zeros (scalar-short a key x (fits .private)) (rule-may a key x (fits .private)) (fits .may) same in
+    absurd (eqb-false rule zeros w z))
     (λ v. v))))
 
 pub form-agrees :
     (s : List ℕ) (f : Fields) (p : PlainText s f)
-    → f .section .kind ≡ Plain → formOf s f ≡ agree (needsLeadingZero (f .header .algorithm) (privateIn s f)) (p .zero)
-form-agrees s f p plain = form-stands s f (p .zero) (p .text) (p .key-fits) plain
+    → f .section .kind ≡ Plain → formOf s f ≡ eqb (zerosAsked (f .header .algorithm) (privateIn s f)) (p .zeros)
+form-agrees s f p plain = form-stands s f (p .zeros) (p .text) (p .key-fits) plain
 
 -- of an image that the format writes and that is read back
 pub form-back :
-    (s : List ℕ) (n : ℕ) (a : Algorithm) (zero : Bool) (key : PublicBytes) (x : PrivateBytes) (comment : List ℕ) (padding : ℕ) → KeyFits a zero key x comment
-    → s ≡ plainImage n (blob a key) (keypair a zero key x) comment → (b : PlainImageBack s n a key x comment padding)
-    → formOf s (b .fields) ≡ agree (needsLeadingZero a x) zero
-form-back s n a zero key x comment padding fits text b =
-    let form = form-stands s (b .fields) zero
+    (s : List ℕ) (n : ℕ) (a : Algorithm) (zeros : ℕ) (key : PublicBytes) (x : PrivateBytes) (comment : List ℕ) (padding : ℕ) → KeyFits a zeros key x comment
+    → s ≡ plainImage n (blob a key) (keypair a zeros key x) comment → (b : PlainImageBack s n a key x comment padding)
+    → formOf s (b .fields) ≡ eqb (zerosAsked a x) zeros
+form-back s n a zeros key x comment padding fits text b =
+    let form = form-stands s (b .fields) zeros
     (rw (b .same-checkint, b .same-algorithm, b .same-public, b .same-private, b .same-comment) text)
     (rw (b .same-algorithm, b .same-public, b .same-private, b .same-comment) fits) (b .plain) in
-    let rule : needsLeadingZero (b .fields .header .algorithm) (privateIn s (b .fields)) ≡ needsLeadingZero a x =
+    let rule : zerosAsked (b .fields .header .algorithm) (privateIn s (b .fields)) ≡ zerosAsked a x =
     rw (b .same-algorithm, b .same-private) in
-    form ∙ ap (λ (w : Bool). agree w zero) rule
+    form ∙ ap (λ (w : ℕ). eqb w zeros) rule
 
--- the same, by the byte before the scalar
+zero-small : (b : Bool) → zeroLength b < 2
+zero-small true = omega arith
+zero-small false = omega arith
+
+-- the same, by the byte at which the scalar's string would begin
 scalar-agrees :
     (s : List ℕ) (f : Fields) (p : PlainText s f) → f .section .kind ≡ Plain
-    → scalarInForm s f ≡ agree (needsLeadingZero (f .header .algorithm) (privateIn s f)) (p .zero)
+    → scalarInForm s f ≡ eqb (zerosAsked (f .header .algorithm) (privateIn s f)) (p .zeros)
 unfolding scalarInForm scalarStands privateBytes
-scalar-agrees s f p plain = rw plain (go (f .header .algorithm) (p .key-fits .may) (p .after))
+scalar-agrees s f p plain = rw plain (go (f .header .algorithm) (p .key-fits .may) (p .begins))
   where
     place : Part
     place = f .section .private .scalar
 
-    scalar : List ℕ
-    scalar = viewOf s place
-
-    as-cond : (w y z : Bool) → y ≡ z → cond w y (not y) ≡ agree w z
-    as-cond true y z e = e
-    as-cond false y z e = ap not e
-
     go :
-        (a : Algorithm) → mayStand a (p .zero) ≡ true → IfScalar a (afterZero s place ≡ p .zero)
-        → onAlgorithm a (λ e. onElliptic e true (λ k. cond (leadingZero scalar) (afterZero s place) (not (afterZero s place)))) true
-        ≡ agree (needsLeadingZero a (privateIn s f)) (p .zero)
-    go (OnCurve Ed25519) may after = sym may
-    go (OnCurve (Ecdsa k)) may after = as-cond (leadingZero scalar) (afterZero s place) (p .zero) after
-    go Rsa may after = sym may
+        (a : Algorithm) → MayStand a (p .zeros) (privateIn s f) → IfScalar a (Begins s place (p .zeros))
+        → onAlgorithm a (λ e. onElliptic e true (λ k. beginsBefore s place (zeroLength (leadingZero (viewOf s place))))) true
+        ≡ eqb (zerosAsked a (privateIn s f)) (p .zeros)
+    go (OnCurve Ed25519) may begins = sym (eq-eqb 0 (p .zeros) (sym may))
+    go (OnCurve (Ecdsa k)) may begins = begins (zeroLength (leadingZero (viewOf s place))) (zero-small (leadingZero (viewOf s place)))
+    go Rsa may begins = sym (eq-eqb 0 (p .zeros) (sym may))
 
 -- every accepted encrypted image is in the form
 pub form-encrypted : (s : List ℕ) (f : Fields) → EncryptedText s f → f .section .kind ≡ Encrypted → formOf s f ≡ true
@@ -175,5 +161,5 @@ plain-of s all f e plain = go (image-text s all f e)
 -- in the form the scalar stands by the rule
 pub form-rule :
     (s : List ℕ) (f : Fields) (p : PlainText s f) → f .section .kind ≡ Plain → formOf s f ≡ true
-    → needsLeadingZero (f .header .algorithm) (privateIn s f) ≡ p .zero
-form-rule s f p plain e = agree-true _ (p .zero) (sym (form-agrees s f p plain) ∙ e)
+    → zerosAsked (f .header .algorithm) (privateIn s f) ≡ p .zeros
+form-rule s f p plain e = eqb-true _ (p .zeros) (sym (form-agrees s f p plain) ∙ e)

@@ -2,7 +2,7 @@
 use Prim.Native.Nat.{ℕ, _+_, _-_, _≤_, _<_, _^_}
 use native.Mathlib.Omega.{arith}
 use mathlib.Core.Path.{_≡_, refl, sym, _∙_, ap}
-use mathlib.Core.Bool.{Bool, true, false}
+use mathlib.Core.Bool.{true, false}
 use mathlib.Core.List.{List, [], _++_, append-nil}
 use lib.ListN.{length, length-append}
 use lib.Seq.{slice, length-slice}
@@ -18,8 +18,7 @@ use Rattle.names.specs.declared.Kdf.{Kdf}
 use Rattle.names.specs.declared.Kdf.the-variants as kdf
 use Rattle.names.specs.Ciphers.{isNone, none-only}
 use Rattle.format.specs.Format.{blob, keypair, section, header, plainImage, encryptedImage}
-use Rattle.key_laws.specs.ReadPair.{IfScalar}
-use Rattle.pairs.specs.Pairs.{afterZero}
+use Rattle.key_laws.specs.ReadPair.{IfScalar, Begins}
 use Rattle.header.specs.declared.Header.{Header}
 use Rattle.header.specs.declared.HeaderRead.the-variants as header-read
 use Rattle.header.specs.Header.{onKdf, headerAt}
@@ -77,20 +76,20 @@ sections s h x e =
 
 -- an accepted plain image
 pub record PlainText (s : List ℕ) (f : Fields) : Type 0 where
-  pub zero : Bool
+  pub zeros : ℕ
   pub fits : length s ≤ 65535
   pub text :
       s
-      ≡ plainImage (f .section .checkint) (blob (f .header .algorithm) (publicIn s f)) (keypair (f .header .algorithm) zero (publicIn s f) (privateIn s f))
+      ≡ plainImage (f .section .checkint) (blob (f .header .algorithm) (publicIn s f)) (keypair (f .header .algorithm) zeros (publicIn s f) (privateIn s f))
       (viewOf s (f .section .comment))
-  pub key-fits : KeyFits (f .header .algorithm) zero (publicIn s f) (privateIn s f) (viewOf s (f .section .comment))
+  pub key-fits : KeyFits (f .header .algorithm) zeros (publicIn s f) (privateIn s f) (viewOf s (f .section .comment))
   pub checkint-fits : f .section .checkint < 2 ^ 32
-  pub after : IfScalar (f .header .algorithm) (afterZero s (f .section .private .scalar) ≡ zero)
+  pub begins : IfScalar (f .header .algorithm) (Begins s (f .section .private .scalar) zeros)
   pub content : viewOf s (f .header .blob) ≡ blob (f .header .algorithm) (publicIn s f)
   pub section-place : f .header .section ≡ length (header cipher.None kdf.None [] 0 (blob (f .header .algorithm) (publicIn s f)))
   pub comment-place :
       f .section .comment .start
-      ≡ f .header .section + 4 + beforeComment (keypair (f .header .algorithm) zero (publicIn s f) (privateIn s f)) + 4
+      ≡ f .header .section + 4 + beforeComment (keypair (f .header .algorithm) zeros (publicIn s f) (privateIn s f)) + 4
 
 -- an accepted encrypted image
 pub record EncryptedText (s : List ℕ) (f : Fields) : Type 0 where
@@ -130,20 +129,20 @@ module _ (s : List ℕ) (all : AllBytes s) (f : Fields) (e : readAt s ≡ read.R
       let h = head in
       let a = f .header .algorithm in
       let key = blob a (publicIn s f) in
-      let body = section (f .section .checkint) (keypair a (x .zero) (publicIn s f) (privateIn s f)) (viewOf s (f .section .comment)) in
+      let body = section (f .section .checkint) (keypair a (x .zeros) (publicIn s f) (privateIn s f)) (viewOf s (f .section .comment)) in
       let front : s ≡ header cipher.None kdf.None [] 0 key ++ rest s (record { at = f .header .section; end = length s }) =
       h .text
       ∙ ap (λ (o : List ℕ). o ++ rest s (record { at = f .header .section; end = length s }))
       (header-plain (f .header .cipher) (f .header .kdf) (viewOf s (f .header .salt)) (f .header .rounds) key nc nk) in
       record {
-        zero = x .zero;
+        zeros = x .zeros;
         fits = h .fits;
         text = front ∙ ap (λ (t : List ℕ). header cipher.None kdf.None [] 0 key ++ t) (x .text ∙ sym (append-nil (string body)));
         section-place = section-starts s (f .header .section) (header cipher.None kdf.None [] 0 key) (h .good) front;
         comment-place = x .place;
         key-fits = x .fits;
         checkint-fits = x .checkint;
-        after = x .after;
+        begins = x .begins;
         content = h .content;
       }
 

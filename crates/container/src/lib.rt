@@ -1,9 +1,10 @@
 // An image read whole, and its section read from a header half that is handed in. Both go through one
 // section step. The record's fields are plain data, places in the image among them.
 ghost use mathlib.Core.Path.{_≡_};
+ghost use Prim.Native.Nat.{_<_};
 ghost use Rattle.container.specs.Container.{sectionAt, goOnAt, answersRead, answersSection};
 ghost use Rattle.container.specs.Form.{scalarStands, scalarInForm, answersForm, answersSectionForm};
-ghost use Rattle.pairs.specs.Pairs.{afterZero};
+ghost use Rattle.pairs.specs.Pairs.{beginsBefore};
 use fields::Cursor;
 use fields::Fault;
 use fields::Part;
@@ -90,14 +91,21 @@ pub fn read_section(image: &[u8], half: Header) -> ImageRead
     })
 }
 
-fn after_zero(image: &[u8], part: Part) -> bool
-    ensures { λ r. ⌜ r ≡ afterZero (now (image .entry)) part ⌝ }
+// Does the string that holds a part begin so many bytes before it? Its length's last byte then stands there.
+fn begins_before(image: &[u8], part: Part, zeros: usize) -> bool
+    requires { ⌜ zeros < 2 ⌝ }
+    ensures { λ r. ⌜ r ≡ beginsBefore (now (image .entry)) part zeros ⌝ }
 {
     let start = part.start;
-    if start == 0 {
-        return fields::byte(image, 0) == 0;
+    let length = part.length;
+    if start <= zeros {
+        return false;
     }
-    fields::byte(image, start - 1) == 0
+    let last = fields::byte(image, start - (zeros + 1)) as usize;
+    if last < zeros {
+        return false;
+    }
+    last - zeros == length
 }
 
 // Does a scalar stand as the writer would write it? A seed always does.
@@ -108,12 +116,9 @@ fn scalar_stands(image: &[u8], e: Elliptic, scalar: Part) -> bool
         Elliptic::Ed25519 => true,
         Elliptic::Ecdsa(_) => {
             if keys::needs_leading_zero(fields::view(image, scalar)) {
-                return after_zero(image, scalar);
+                return begins_before(image, scalar, 1);
             }
-            if after_zero(image, scalar) {
-                return false;
-            }
-            true
+            begins_before(image, scalar, 0)
         }
     }
 }

@@ -1,12 +1,12 @@
 -- The container as a list of fields joined: OpenSSH's PROTOCOL.key, document 01's 'Bytes of the container', 'Plain section' and
--- 'Keys', and document 02's request Two. Whether a zero stands before a scalar is a parameter, so that both of its readable forms are
--- written here.
-use Prim.Native.Nat.{ℕ, _+_, _-_, _*_, _%_, _<_, _^_}
+-- 'Keys', and document 02's requests Two and Five. How many zeros stand before a scalar is a parameter, so that each of its readable forms
+-- is written here.
+use Prim.Native.Nat.{ℕ, _+_, _-_, _*_, _%_, _≤_, _<_, _^_}
 use mathlib.Core.Path.{_≡_}
-use mathlib.Core.Bool.{Bool, true, false, not}
+use mathlib.Core.Bool.{Bool, true, false}
 use mathlib.Core.List.{List, [], _∷_, _++_}
-use lib.Dec.{leb, eqb}
-use lib.ListN.{length, take, getD}
+use lib.Dec.{leb, ltb, eqb}
+use lib.ListN.{length, take, getD, replicate}
 use Rattle.fields.specs.Bytes.{ascii, uint32, string, join}
 use Rattle.names.specs.declared.Cipher.{Cipher}
 use Rattle.names.specs.declared.Cipher.the-variants as cipher
@@ -18,7 +18,7 @@ use Rattle.names.specs.declared.Algorithm.{Algorithm}
 use Rattle.names.specs.declared.Algorithm.the-variants.{Elliptic as OnCurve, Rsa}
 use Rattle.names.specs.Ciphers.{cipherName, kdfName}
 use Rattle.names.specs.Algorithms.{algorithmName, curveName, sizeOf}
-use Rattle.mpint.specs.Mpint.{isMpint, modulusFits, atMost}
+use Rattle.mpint.specs.Mpint.{isMpint, zerosBefore, significant, modulusFits, atMost}
 
 -- AUTH_MAGIC: 15 bytes, the last of them zero
 unfoldable pub magic : List ℕ
@@ -40,7 +40,7 @@ pub record PublicBytes : Type 0 where
   pub modulus : List ℕ
   pub exponent : List ℕ
 
--- the private bytes: a scalar, or Ed25519's seed; or RSA's d, iqmp, p and q
+-- the private bytes: a scalar, as a record has it without leading zeros, or Ed25519's seed; or RSA's d, iqmp, p and q
 pub record PrivateBytes : Type 0 where
   pub scalar : List ℕ
   pub d : List ℕ
@@ -65,7 +65,7 @@ abbrev pub curveField : Elliptic → List ℕ
 curveField Ed25519 = []
 curveField (Ecdsa curve) = string (curveName curve)
 
--- the lengths of a public string or point, and of a seed or scalar
+-- the lengths of a public string or point, and of a seed or a scalar as a writer takes it
 abbrev pub publicLength : Elliptic → ℕ
 publicLength Ed25519 = 32
 publicLength (Ecdsa curve) = 1 + 2 * sizeOf curve
@@ -84,10 +84,9 @@ abbrev pub privateField : Elliptic → List ℕ → List ℕ → List ℕ
 privateField Ed25519 point stored = string (stored ++ point)
 privateField (Ecdsa curve) point stored = string stored
 
--- a scalar as it may stand in an image: as it is, or after a zero
-abbrev pub standing : Bool → List ℕ → List ℕ
-standing false scalar = scalar
-standing true scalar = 0 ∷ scalar
+-- a scalar as it may stand in an image: after so many zeros
+abbrev pub standing : ℕ → List ℕ → List ℕ
+standing zeros scalar = replicate zeros 0 ++ scalar
 
 -- a public key: the algorithm's name, then Ed25519's public string, or curve and point, or RSA's mpints e and n
 abbrev pub publicFields : Algorithm → PublicBytes → List (List ℕ)
@@ -98,21 +97,55 @@ unfoldable pub blob : Algorithm → PublicBytes → List ℕ
 blob a key = join (string (algorithmName a) ∷ publicFields a key)
 
 -- a keypair: the same with the private bytes after it, or RSA's mpints n, e, d, iqmp, p, q
-abbrev pub pairFields : Algorithm → Bool → PublicBytes → PrivateBytes → List (List ℕ)
-pairFields (OnCurve e) zero key x = curveField e ∷ string (key .point) ∷ privateField e (key .point) (standing zero (x .scalar)) ∷ []
-pairFields Rsa zero key x =
+abbrev pub pairFields : Algorithm → ℕ → PublicBytes → PrivateBytes → List (List ℕ)
+pairFields (OnCurve e) zeros key x = curveField e ∷ string (key .point) ∷ privateField e (key .point) (standing zeros (x .scalar)) ∷ []
+pairFields Rsa zeros key x =
     string (key .modulus) ∷ string (key .exponent) ∷ string (x .d) ∷ string (x .iqmp) ∷ string (x .p) ∷ string (x .q) ∷ []
 
-unfoldable pub keypair : Algorithm → Bool → PublicBytes → PrivateBytes → List ℕ
-keypair a zero key x = join (string (algorithmName a) ∷ pairFields a zero key x)
+unfoldable pub keypair : Algorithm → ℕ → PublicBytes → PrivateBytes → List ℕ
+keypair a zeros key x = join (string (algorithmName a) ∷ pairFields a zeros key x)
 
--- only a scalar may stand after a zero
-abbrev pub mayStand : Algorithm → Bool → Bool
-mayStand (OnCurve Ed25519) zero = not zero
-mayStand (OnCurve (Ecdsa curve)) zero = true
-mayStand Rsa zero = not zero
+-- only a scalar may stand after zeros, and takes SIZE + 1 bytes with them at the most
+abbrev pub MayStand : Algorithm → ℕ → PrivateBytes → Type 0
+MayStand (OnCurve Ed25519) zeros x = zeros ≡ 0
+MayStand (OnCurve (Ecdsa curve)) zeros x = zeros + length (x .scalar) ≤ sizeOf curve + 1
+MayStand Rsa zeros x = zeros ≡ 0
 
--- the writer's rule: a zero before a scalar exactly if its first byte is 0x80 or more
+-- ---- a scalar as the writer takes it, of SIZE bytes, and as it is written, the minimal mpint
+
+-- a scalar without its leading zeros, a seed as it is
+abbrev pub scalarBytes : Elliptic → List ℕ → List ℕ
+scalarBytes Ed25519 seed = seed
+scalarBytes (Ecdsa curve) scalar = significant scalar
+
+-- zeros filled in front to SIZE bytes
+abbrev pub filledTo : ℕ → List ℕ → List ℕ
+filledTo size scalar = standing (size - length scalar) scalar
+
+abbrev pub scalarFilled : Elliptic → List ℕ → List ℕ
+scalarFilled Ed25519 seed = seed
+scalarFilled (Ecdsa curve) scalar = filledTo (sizeOf curve) scalar
+
+-- the same of a key of any kind: what of its private bytes is written, and the private bytes for a writer
+abbrev pub trimmed : Algorithm → PrivateBytes → PrivateBytes
+trimmed (OnCurve e) x = ofScalar (scalarBytes e (x .scalar))
+trimmed Rsa x = x
+
+abbrev pub filled : Algorithm → PrivateBytes → PrivateBytes
+filled (OnCurve e) x = ofScalar (scalarFilled e (x .scalar))
+filled Rsa x = x
+
+-- private bytes that can be filled to their kind's length: a seed has it, a scalar at most SIZE
+abbrev pub LengthAllowed : Elliptic → List ℕ → Type 0
+LengthAllowed Ed25519 seed = length seed ≡ 32
+LengthAllowed (Ecdsa curve) scalar = length scalar ≤ sizeOf curve
+
+-- a scalar that isn't zero; a seed may be
+abbrev pub notZero : Elliptic → List ℕ → Bool
+notZero Ed25519 seed = true
+notZero (Ecdsa curve) scalar = ltb (zerosBefore scalar) (length scalar)
+
+-- the writer's rule, for a scalar without its leading zeros: a zero before it exactly if its first byte is 0x80 or more
 abbrev pub leadingZero : List ℕ → Bool
 leadingZero scalar = leb 0x80 (getD scalar 0 0)
 
@@ -125,6 +158,26 @@ scalarZero (Ecdsa curve) scalar = leadingZero scalar
 abbrev pub needsLeadingZero : Algorithm → PrivateBytes → Bool
 needsLeadingZero (OnCurve e) x = scalarZero e (x .scalar)
 needsLeadingZero Rsa x = false
+
+-- a zero takes one byte
+abbrev pub zeroLength : Bool → ℕ
+zeroLength true = 1
+zeroLength false = 0
+
+abbrev pub zerosAsked : Algorithm → PrivateBytes → ℕ
+zerosAsked a x = zeroLength (needsLeadingZero a x)
+
+-- the minimal mpint of a scalar
+abbrev pub minimal : List ℕ → List ℕ
+minimal scalar = standing (zeroLength (leadingZero (significant scalar))) (significant scalar)
+
+-- it is what is written; a seed is written as it is
+abbrev pub writtenScalar : Elliptic → List ℕ → List ℕ
+writtenScalar e scalar = standing (zeroLength (scalarZero e (scalarBytes e scalar))) (scalarBytes e scalar)
+
+-- a keypair as the writer writes it
+abbrev pub writtenPair : Algorithm → PublicBytes → PrivateBytes → List ℕ
+writtenPair a key x = keypair a (zerosAsked a (trimmed a x)) key (trimmed a x)
 
 -- RSA's sizes: the modulus has 1,024 to 8,192 bits, every other number at most as many as that modulus
 pub record ModulusFits (n e : List ℕ) : Type 0 where
@@ -149,8 +202,13 @@ PublicFits (OnCurve e) key =
     (length (key .point) ≡ publicLength e) × (pointTag e (key .point) ≡ true) × (key ≡ ofPoint (key .point))
 PublicFits Rsa key = ModulusFits (key .modulus) (key .exponent) × (key ≡ ofModulus (key .modulus) (key .exponent))
 
+-- a seed of its length; a scalar of 1 to SIZE bytes, the first of them not zero
+abbrev pub ScalarFits : Elliptic → List ℕ → Type 0
+ScalarFits Ed25519 seed = length seed ≡ 32
+ScalarFits (Ecdsa curve) scalar = (length scalar ≤ sizeOf curve) × (0 < getD scalar 0 0)
+
 abbrev pub PrivateFits : Algorithm → PublicBytes → PrivateBytes → Type 0
-PrivateFits (OnCurve e) key x = (length (x .scalar) ≡ privateLength e) × (x ≡ ofScalar (x .scalar))
+PrivateFits (OnCurve e) key x = ScalarFits e (x .scalar) × (x ≡ ofScalar (x .scalar))
 PrivateFits Rsa key x = NumbersFit (key .modulus) (x .d) (x .iqmp) (x .p) (x .q) × (x ≡ ofNumbers (x .d) (x .iqmp) (x .p) (x .q))
 
 -- PADDING_BYTES: 1, 2, 3 and so on; a padding has fewer than 8 bytes
@@ -179,9 +237,9 @@ unfoldable pub plainImage : ℕ → List ℕ → List ℕ → List ℕ → List 
 plainImage checkint key pair comment =
     join (header cipher.None kdf.None [] 0 key ∷ string (section checkint pair comment) ∷ [])
 
--- the image that the writer makes: a scalar stands by its rule
+-- the image that the writer makes: a scalar stands as the minimal mpint
 unfoldable pub writtenImage : ℕ → Algorithm → PublicBytes → PrivateBytes → List ℕ → List ℕ
-writtenImage checkint a key x comment = plainImage checkint (blob a key) (keypair a (needsLeadingZero a x) key x) comment
+writtenImage checkint a key x comment = plainImage checkint (blob a key) (writtenPair a key x) comment
 
 -- an encrypted image: the tag stands outside the ciphertext's string
 unfoldable pub encryptedImage : Cipher → Kdf → List ℕ → ℕ → List ℕ → List ℕ → List ℕ → List ℕ

@@ -1,14 +1,12 @@
 -- Fields regrouped, the lengths of what the format writes, and that an image says in which form its scalar stands (`standing-same`).
-use Prim.Native.Nat.{ℕ, _+_, _≤_, _<_, _^_}
+use Prim.Native.Nat.{ℕ, _+_, _<_, _^_}
 use native.Mathlib.Omega.{arith}
 use mathlib.Core.Path.{_≡_, refl, sym, _∙_, ap}
-use mathlib.Core.Bool.{Bool, true, false, not}
 use mathlib.Core.List.{List, [], _++_, append-assoc, append-nil}
 use lib.ListN.{length, take, drop, length-append}
 use lib.Seq.{length-take-le, drop-at}
 use Rattle.fields.specs.Rest.{append-cancel, string-same, length-uint32}
 use Rattle.fields.specs.Bytes.{uint32, string, join}
-use Rattle.fields.specs.Place.{clash}
 use Rattle.names.specs.declared.Cipher.{Cipher}
 use Rattle.names.specs.declared.Cipher.the-variants as cipher
 use Rattle.names.specs.declared.Kdf.{Kdf}
@@ -18,9 +16,10 @@ use Rattle.names.specs.declared.Elliptic.the-variants.{Ed25519, Ecdsa}
 use Rattle.names.specs.declared.Algorithm.{Algorithm}
 use Rattle.names.specs.declared.Algorithm.the-variants.{Elliptic as OnCurve, Rsa}
 use Rattle.names.specs.declared.Curve.the-variants.{Nistp256, Nistp384, Nistp521}
-use Rattle.names.specs.Algorithms.{algorithmName}
+use Rattle.names.specs.Algorithms.{algorithmName, size-small}
 use Rattle.names.specs.Ciphers.{cipherName, kdfName}
-use Rattle.format.specs.Format.{PublicBytes, PrivateBytes, magic, options, header, curveField, publicFields, blob, standing, pairFields, keypair, mayStand, needsLeadingZero, content, section, plainImage, paddingLength, paddingBytes, publicLength, privateLength}
+use Rattle.format.specs.Format.{PublicBytes, PrivateBytes, magic, options, header, curveField, publicFields, blob, standing, pairFields, keypair, MayStand, content, section, plainImage, paddingLength, paddingBytes, publicLength, privateLength, LengthAllowed}
+use Rattle.format.specs.Scalars.{standing-length}
 
 -- a public key or a keypair and what comes after it, field by field
 pub blob-then : (a : Algorithm) (key : PublicBytes) (t : List ℕ) → blob a key ++ t ≡ string (algorithmName a) ++ (join (publicFields a key) ++ t)
@@ -28,10 +27,10 @@ unfolding blob
 blob-then a key t = append-assoc (string (algorithmName a)) (join (publicFields a key)) t
 
 pub keypair-then :
-    (a : Algorithm) (zero : Bool) (key : PublicBytes) (x : PrivateBytes) (t : List ℕ)
-    → keypair a zero key x ++ t ≡ string (algorithmName a) ++ (join (pairFields a zero key x) ++ t)
+    (a : Algorithm) (zeros : ℕ) (key : PublicBytes) (x : PrivateBytes) (t : List ℕ)
+    → keypair a zeros key x ++ t ≡ string (algorithmName a) ++ (join (pairFields a zeros key x) ++ t)
 unfolding keypair
-keypair-then a zero key x t = append-assoc (string (algorithmName a)) (join (pairFields a zero key x)) t
+keypair-then a zeros key x t = append-assoc (string (algorithmName a)) (join (pairFields a zeros key x)) t
 
 -- a header and what comes after it, field by field
 pub header-then :
@@ -65,51 +64,34 @@ key-small (Ecdsa Nistp256) = omega arith
 key-small (Ecdsa Nistp384) = omega arith
 key-small (Ecdsa Nistp521) = omega arith
 
+pub allowed-small : (e : Elliptic) (x : List ℕ) → LengthAllowed e x → length x < 67
+allowed-small Ed25519 x h = omega arith
+allowed-small (Ecdsa k) x h = omega (arith, key-small (Ecdsa k))
+
 -- ---- an image says in which form its scalar stands
-
--- the rule asks for no zero where none may stand
-pub rule-may : (a : Algorithm) (x : PrivateBytes) → mayStand a (needsLeadingZero a x) ≡ true
-rule-may (OnCurve Ed25519) x = refl
-rule-may (OnCurve (Ecdsa k)) x = refl
-rule-may Rsa x = refl
-
--- where none may stand, none does
-no-zeros : (z w : Bool) → not z ≡ true → not w ≡ true → z ≡ w
-no-zeros false false h k = refl
-no-zeros false true h k = k
-no-zeros true w h k = clash cc
-
-standing-told : (z w : Bool) (x : List ℕ) → length (standing z x) ≡ length (standing w x) → z ≡ w
-standing-told false false x e = refl
-standing-told false true x e = absurd (omega arith)
-standing-told true false x e = absurd (omega arith)
-standing-told true true x e = refl
-
--- how long a scalar stands
-standing-short : (z : Bool) (x : List ℕ) → length (standing z x) ≤ length x + 1
-standing-short false x = omega arith
-standing-short true x = omega arith
 
 -- keypairs that begin the same bytes have their scalars in the same form
 keypair-same :
-    (a : Algorithm) (key : PublicBytes) (x : PrivateBytes) (t u : List ℕ) (z w : Bool) → length (x .scalar) < 2 ^ 31 → mayStand a z ≡ true → mayStand a w ≡ true
+    (a : Algorithm) (key : PublicBytes) (x : PrivateBytes) (t u : List ℕ) (z w : ℕ) → length (x .scalar) < 67 → MayStand a z x → MayStand a w x
     → keypair a z key x ++ t ≡ keypair a w key x ++ u → z ≡ w
 unfolding keypair
-keypair-same (OnCurve Ed25519) key x t u z w hx mz mw e = no-zeros z w mz mw
-keypair-same Rsa key x t u z w hx mz mw e = no-zeros z w mz mw
+keypair-same (OnCurve Ed25519) key x t u z w hx mz mw e = mz ∙ sym mw
+keypair-same Rsa key x t u z w hx mz mw e = mz ∙ sym mw
 keypair-same (OnCurve (Ecdsa k)) key x t u z w hx mz mw e =
     let name = string (algorithmName (OnCurve (Ecdsa k))) in
     let curve = curveField (Ecdsa k) in
     let point = string (key .point) in
-    let stored : Bool → List ℕ → List ℕ = λ v l. string (standing v (x .scalar)) ++ l in
-    let split : (v : Bool) (l : List ℕ) → keypair (OnCurve (Ecdsa k)) v key x ++ l ≡ name ++ (curve ++ (point ++ stored v l)) = λ v l. simp append-assoc in
+    let stored : ℕ → List ℕ → List ℕ = λ v l. string (standing v (x .scalar)) ++ l in
+    let split : (v : ℕ) (l : List ℕ) → keypair (OnCurve (Ecdsa k)) v key x ++ l ≡ name ++ (curve ++ (point ++ stored v l)) = λ v l. simp append-assoc in
     let e₀ = sym (split z t) ∙ e ∙ split w u in
     let e₁ = append-cancel name (curve ++ (point ++ stored z t)) (curve ++ (point ++ stored w u)) e₀ in
     let e₂ = append-cancel curve (point ++ stored z t) (point ++ stored w u) e₁ in
     let e₃ = append-cancel point (stored z t) (stored w u) e₂ in
-    let sz = standing-short z (x .scalar) in
-    let sw = standing-short w (x .scalar) in
-    standing-told z w (x .scalar) (string-same (standing z (x .scalar)) (standing w (x .scalar)) t u (omega arith) (omega arith) e₃)
+    let lz = standing-length z (x .scalar) in
+    let lw = standing-length w (x .scalar) in
+    let small = size-small k .1 in
+    let same = string-same (standing z (x .scalar)) (standing w (x .scalar)) t u (omega arith) (omega arith) e₃ in
+    omega arith
 
 string-body : (b c : List ℕ) → string b ++ [] ≡ string c ++ [] → b ≡ c
 unfolding string
@@ -126,13 +108,13 @@ image-body n key pair₁ pair₂ comment e =
     (append-cancel (header cipher.None kdf.None [] 0 key) (string (section n pair₁ comment) ++ []) (string (section n pair₂ comment) ++ []) e)
 
 pub standing-same :
-    (n : ℕ) (a : Algorithm) (key : PublicBytes) (x : PrivateBytes) (comment : List ℕ) (z w : Bool) → length (x .scalar) < 2 ^ 31 → mayStand a z ≡ true
-    → mayStand a w ≡ true → plainImage n (blob a key) (keypair a z key x) comment ≡ plainImage n (blob a key) (keypair a w key x) comment → z ≡ w
+    (n : ℕ) (a : Algorithm) (key : PublicBytes) (x : PrivateBytes) (comment : List ℕ) (z w : ℕ) → length (x .scalar) < 67 → MayStand a z x
+    → MayStand a w x → plainImage n (blob a key) (keypair a z key x) comment ≡ plainImage n (blob a key) (keypair a w key x) comment → z ≡ w
 unfolding section
 standing-same n a key x comment z w hx mz mw e =
-    let pair : Bool → List ℕ = λ v. keypair a v key x in
-    let pad : Bool → List ℕ = λ v. take (paddingLength (length (content n (pair v) comment))) paddingBytes in
-    let tail : Bool → List ℕ = λ v. string comment ++ pad v in
+    let pair : ℕ → List ℕ = λ v. keypair a v key x in
+    let pad : ℕ → List ℕ = λ v. take (paddingLength (length (content n (pair v) comment))) paddingBytes in
+    let tail : ℕ → List ℕ = λ v. string comment ++ pad v in
     let e₀ = sym (content-then n (pair z) comment (pad z)) ∙ image-body n (blob a key) (pair z) (pair w) comment e ∙ content-then n (pair w) comment (pad w) in
     let e₁ = append-cancel (uint32 n) (uint32 n ++ (pair z ++ tail z)) (uint32 n ++ (pair w ++ tail w)) e₀ in
     let e₂ = append-cancel (uint32 n) (pair z ++ tail z) (pair w ++ tail w) e₁ in

@@ -2,9 +2,8 @@
 use Prim.Native.Nat.{ℕ, _+_, _*_}
 use native.Mathlib.Omega.{arith}
 use mathlib.Core.Path.{_≡_, _∙_}
-use mathlib.Core.Bool.{Bool, true, false}
 use mathlib.Core.List.{List, []}
-use lib.ListN.{length, length-append}
+use lib.ListN.{length, length-append, length-replicate}
 use Rattle.fields.specs.Rest.{length-uint32, length-string}
 use Rattle.names.specs.declared.Elliptic.{Elliptic}
 use Rattle.names.specs.declared.Elliptic.the-variants.{Ed25519, Ecdsa}
@@ -17,7 +16,8 @@ use Rattle.names.specs.declared.Kdf.{Kdf}
 use Rattle.names.specs.declared.Kdf.the-variants as kdf
 use Rattle.names.specs.Algorithms.{sizeOf}
 use Rattle.names.specs.Ciphers.{cipherName, kdfName}
-use Rattle.format.specs.Format.{PublicBytes, PrivateBytes, magic, options, header, blob, keypair, publicLength, privateLength, standing, scalarZero, needsLeadingZero, paddingLength, content, section, plainImage, writtenImage, encryptedImage}
+use Rattle.mpint.specs.Mpint.{significant}
+use Rattle.format.specs.Format.{PublicBytes, PrivateBytes, magic, options, header, blob, keypair, publicLength, LengthAllowed, leadingZero, zeroLength, writtenPair, paddingLength, content, section, plainImage, writtenImage, encryptedImage}
 use Rattle.format.specs.Laws.{section-length}
 
 -- the length of a blob whose point has its algorithm's length
@@ -25,19 +25,10 @@ abbrev pub pointBlobLength : Elliptic → ℕ
 pointBlobLength Ed25519 = 51
 pointBlobLength (Ecdsa curve) = 40 + 2 * sizeOf curve
 
--- a zero takes one byte
-abbrev pub zeroLength : Bool → ℕ
-zeroLength true = 1
-zeroLength false = 0
-
-pub standing-length : (zero : Bool) (scalar : List ℕ) → length (standing zero scalar) ≡ zeroLength zero + length scalar
-standing-length true scalar = omega arith
-standing-length false scalar = omega arith
-
--- the length of the private field, of private bytes that have their algorithm's length
+-- the length of the private field, of a seed that has its length, or of a scalar
 abbrev pub privateFieldLength : Elliptic → List ℕ → ℕ
 privateFieldLength Ed25519 seed = 68
-privateFieldLength (Ecdsa curve) scalar = 4 + sizeOf curve + zeroLength (scalarZero (Ecdsa curve) scalar)
+privateFieldLength (Ecdsa curve) scalar = 4 + zeroLength (leadingZero (significant scalar)) + length (significant scalar)
 
 -- the length of a blob, and of a keypair as the writer writes it
 abbrev pub blobLength : Algorithm → PublicBytes → ℕ
@@ -49,9 +40,9 @@ keypairLength (OnCurve e) key x = pointBlobLength e + privateFieldLength e (x .s
 keypairLength Rsa key x =
     35 + length (key .modulus) + length (key .exponent) + length (x .d) + length (x .iqmp) + length (x .p) + length (x .q)
 
--- of bytes that have their kind's lengths
+-- of bytes that have their kind's lengths, or can be filled to them
 abbrev pub LengthsFit : Algorithm → PublicBytes → PrivateBytes → Type 0
-LengthsFit (OnCurve e) key x = (length (key .point) ≡ publicLength e) × (length (x .scalar) ≡ privateLength e)
+LengthsFit (OnCurve e) key x = (length (key .point) ≡ publicLength e) × LengthAllowed e (x .scalar)
 LengthsFit Rsa key x = Unit {0}
 
 module _ (key : PublicBytes) (x : PrivateBytes) where
@@ -63,12 +54,12 @@ module _ (key : PublicBytes) (x : PrivateBytes) where
   blob-length (OnCurve (Ecdsa Nistp521)) h = simp (length-append, length-string) (omega (arith, h .0))
   blob-length Rsa h = simp (length-append, length-string) (omega arith)
 
-  pub keypair-length : (a : Algorithm) → LengthsFit a key x → length (keypair a (needsLeadingZero a x) key x) ≡ keypairLength a key x
+  pub keypair-length : (a : Algorithm) → LengthsFit a key x → length (writtenPair a key x) ≡ keypairLength a key x
   unfolding keypair
   keypair-length (OnCurve Ed25519) h = simp (length-append, length-string) (omega (arith, h .0, h .1))
-  keypair-length (OnCurve (Ecdsa Nistp256)) h = simp (length-append, length-string, standing-length) (omega (arith, h .0, h .1))
-  keypair-length (OnCurve (Ecdsa Nistp384)) h = simp (length-append, length-string, standing-length) (omega (arith, h .0, h .1))
-  keypair-length (OnCurve (Ecdsa Nistp521)) h = simp (length-append, length-string, standing-length) (omega (arith, h .0, h .1))
+  keypair-length (OnCurve (Ecdsa Nistp256)) h = simp (length-append, length-string, length-replicate) (omega (arith, h .0))
+  keypair-length (OnCurve (Ecdsa Nistp384)) h = simp (length-append, length-string, length-replicate) (omega (arith, h .0))
+  keypair-length (OnCurve (Ecdsa Nistp521)) h = simp (length-append, length-string, length-replicate) (omega (arith, h .0))
   keypair-length Rsa h = simp (length-append, length-string) (omega arith)
 
 -- a section's length but for its padding, by what stands before the comment
@@ -82,8 +73,8 @@ contentLength a key x comment = 8 + keypairLength a key x + (4 + comment)
 
 pub written-content-length :
     (n : ℕ) (a : Algorithm) (key : PublicBytes) (x : PrivateBytes) (comment : List ℕ) → LengthsFit a key x
-    → length (content n (keypair a (needsLeadingZero a x) key x) comment) ≡ contentLength a key x (length comment)
-written-content-length n a key x comment h = content-length n (keypair a (needsLeadingZero a x) key x) comment ∙ rw (keypair-length key x a h)
+    → length (content n (writtenPair a key x) comment) ≡ contentLength a key x (length comment)
+written-content-length n a key x comment h = content-length n (writtenPair a key x) comment ∙ rw (keypair-length key x a h)
 
 -- the header of a plain image
 plain-header-length : (key : List ℕ) → length (header cipher.None kdf.None [] 0 key) ≡ 43 + length key
@@ -96,14 +87,14 @@ pub plain-length :
 unfolding plainImage
 plain-length n key pair comment = simp (length-append, length-string, plain-header-length) (omega arith)
 
--- the length law: an image's length by its kind, its parts' lengths, the scalar's first byte and the comment's length
+-- the length law: an image's length by its kind, its parts' lengths, the scalar's bytes without leading zeros and the comment's length
 pub written-length :
     (n : ℕ) (a : Algorithm) (key : PublicBytes) (x : PrivateBytes) (comment : List ℕ) → LengthsFit a key x
     → length (writtenImage n a key x comment)
     ≡ 47 + blobLength a key + (contentLength a key x (length comment) + paddingLength (contentLength a key x (length comment)))
 unfolding writtenImage
 written-length n a key x comment h =
-    let pair = keypair a (needsLeadingZero a x) key x in
+    let pair = writtenPair a key x in
     plain-length n (blob a key) pair comment
     ∙ rw (section-length n pair comment, written-content-length n a key x comment h, blob-length key x a h)
 

@@ -1,3 +1,4 @@
 pub mod Format
+pub mod Scalars
 pub mod Laws
 pub mod Lengths

@@ -1,16 +1,15 @@
 -- Reading back: a public key, a blob or a keypair that stands at a place as the format writes it is read there, with its bytes.
-use Prim.Native.Nat.{ℕ, _+_, _*_, _≤_, _<_, _^_}
+use Prim.Native.Nat.{ℕ, _+_, _-_, _*_, _≤_, _<_, _^_}
 use native.Mathlib.Nat.{add-zero}
 use native.Mathlib.Omega.{arith}
 use mathlib.Core.Path.{_≡_, refl, sym, _∙_, ap}
-use mathlib.Core.Bool.{Bool, true, false}
 use mathlib.Core.List.{List, [], _∷_, _++_, append-assoc, append-nil}
-use borrow.Author.Tests.{eq-eqb, ne-eqb, eqb-true}
+use mathlib.Core.Bool.{true}
+use borrow.Author.Tests.{eq-eqb, ne-eqb, le-ltb, eqb-true}
 use lib.Count.{leadingZeros}
-use lib.ListN.{length, getD, length-append}
+use lib.ListN.{length, getD, replicate, length-append, length-replicate}
 use Rattle.fields.specs.Bytes.{string, join, same-self}
 use Rattle.fields.specs.Fields.{part, viewOf}
-use Rattle.fields.specs.Place.{clash}
 use Rattle.fields.specs.Rest.{rest, Good, view-byte, view-two, view-absent}
 use Rattle.fields.specs.Back.{FieldBack, also, string-back, fixed-back, end-back}
 use Rattle.fields.specs.declared.Cursor.{Cursor}
@@ -22,8 +21,9 @@ use Rattle.names.specs.declared.Algorithm.the-variants.{Elliptic as OnCurve, Rs
 use Rattle.names.specs.declared.Curve.{Curve}
 use Rattle.names.specs.Algorithms.{algorithmName, curveName, sizeOf, curve-back, algorithm-back, algorithm-self, size-small}
 use Rattle.mpint.specs.Mpint.{zerosBefore, bits}
-use Rattle.format.specs.Format.{PublicBytes, PrivateBytes, ofPoint, ofScalar, ofModulus, ofNumbers, curveField, publicFields, blob, pairFields, keypair as pair, standing, mayStand, PublicFits, PrivateFits}
+use Rattle.format.specs.Format.{PublicBytes, PrivateBytes, ofPoint, ofScalar, ofModulus, ofNumbers, curveField, publicFields, blob, pairFields, keypair as pair, standing, MayStand, PublicFits, PrivateFits}
 use Rattle.format.specs.Laws.{blob-then, keypair-then}
+use Rattle.format.specs.Scalars.{some-bytes, standing-length, standing-zeros}
 use Rattle.keys.specs.declared.EcdsaPublic.{EcdsaPublic}
 use Rattle.keys.specs.declared.EcdsaPublic.the-variants as ecdsa
 use Rattle.keys.specs.declared.PublicKey.{PublicKey}
@@ -37,7 +37,8 @@ use Rattle.pairs.specs.declared.Keypair.{Keypair}
 use Rattle.pairs.specs.declared.Keypair.the-variants as keypair
 use Rattle.keys.specs.Keys.{onAlgorithm, pointAt, ecdsaPublicAt, pointPlace, modulusPlace, publicBytes, ecdsaKeyAt, ellipticKeyAt, rsaKeyAt, publicKeyAt, blobAt}
 use Rattle.key_laws.specs.RsaBack.{rsa-public-back, rsa-pair-back}
-use Rattle.pairs.specs.Pairs.{scalarAt, scalarPlace, numbersPlace, privateBytes, ed25519PairAt, ecdsaPairAt, ellipticPairAt, rsaKeypairAt, keypairAt}
+use Rattle.pairs.specs.Scalar.{scalar-stands}
+use Rattle.pairs.specs.Pairs.{isScalar, significantPart, scalarAt, scalarPlace, numbersPlace, privateBytes, ed25519PairAt, ecdsaPairAt, ellipticPairAt, rsaKeypairAt, keypairAt}
 
 -- the first byte of a part is that of its bytes
 first-byte :
@@ -55,26 +56,40 @@ module _ (s : List ℕ) (c : Cursor) (good : Good s c) (k : Curve) (x t : List �
       let first = first-byte s (a .place) x (a .seen) (a .size) (a .inside) (omega arith) ∙ four in
       also a (rw (a .read, eq-eqb _ _ first))
 
--- a scalar, at any size, with or without a zero before it
-module _ (s : List ℕ) (c : Cursor) (good : Good s c) (size : ℕ) (small : size < 100) (x t : List ℕ) (l : length x ≡ size) where
-  pub scalar-back : (zero : Bool) → rest s c ≡ string (standing zero x) ++ t → FieldBack s (scalarAt s c size) x t
+-- a scalar's place in a string in which zeros stand before it
+scalar-place :
+    (s : List ℕ) (p : Part) (zeros : ℕ) (x : List ℕ) → 0 < getD x 0 0 → viewOf s p ≡ standing zeros x → significantPart s p ≡ part (p .start + zeros) (length x)
+unfolding significantPart
+scalar-place s p zeros x first seen =
+    let left : zeros + length x - zeros ≡ length x = omega arith in
+    rw (seen, standing-zeros zeros x first, standing-length zeros x, left)
+
+-- a scalar, at any size, after zeros that may stand before it
+module _ (s : List ℕ) (c : Cursor) (good : Good s c) (size : ℕ) (small : size < 100) (x t : List ℕ) (short : length x ≤ size) (first : 0 < getD x 0 0) where
+  pub scalar-back : (zeros : ℕ) → zeros + length x ≤ size + 1 → rest s c ≡ string (standing zeros x) ++ t → FieldBack s (scalarAt s c size) x t
   unfolding scalarAt
-  scalar-back false e =
-      let a = string-back s c good x t (omega arith) e in
-      let f = fixed-back s c good x t (omega arith) e size l in
-      also f (rw (a .read, ne-eqb (a .place .length) (size + 1) (omega (arith, a .size))) (f .read))
-  scalar-back true e =
-      let b : List ℕ = 0 ∷ x in
+  scalar-back zeros may e =
+      let b = standing zeros x in
+      let long = standing-length zeros x in
       let a = string-back s c good b t (omega arith) e in
-      let first = first-byte s (a .place) b (a .seen) (a .size) (a .inside) (omega arith) in
-      let two = view-two s (a .place) 1 size (0 ∷ []) x (a .inside) (omega (arith, a .size)) refl (a .seen) in
+      let place : a .place .length ≡ zeros + length x = a .size ∙ long in
+      let some = some-bytes x first in
+      let two = view-two s (a .place) zeros (length x) (replicate zeros 0) x (a .inside) place (length-replicate zeros 0) (a .seen) in
+      let is : isScalar size (viewOf s (a .place)) ≡ true = ap (isScalar size) (a .seen) ∙ scalar-stands size zeros x first short may in
       record {
-        place = part (a .place .start + 1) size;
+        place = part (a .place .start + zeros) (length x);
         next = a .next;
-        read = rw (a .read, eq-eqb (a .place .length) (size + 1) (omega (arith, a .size)), eq-eqb _ _ first);
+        read =
+            rw (
+              a .read,
+              ne-eqb (a .place .length) 0 (λ z. omega (arith, place)),
+              le-ltb (size + 1) (a .place .length) (omega (arith, place)),
+              is,
+              scalar-place s (a .place) zeros x first (a .seen),
+            );
         seen = two .1;
-        size = sym l;
-        inside = omega (arith, a .inside, a .size);
+        size = refl;
+        inside = omega (arith, a .inside, place);
         good = a .good;
         more = a .more;
       }
@@ -265,16 +280,16 @@ ed25519-pair-back s c good key x t fits fit e =
       more = q .more;
     }
 
--- curve, point and scalar, in either of its forms
+-- curve, point and scalar, in any of its forms
 ecdsa-pair-back :
-    (s : List ℕ) (c : Cursor) → Good s c → (k : Curve) (zero : Bool) (key : PublicBytes) (x : PrivateBytes) (t : List ℕ) → PublicFits (OnCurve (Ecdsa k)) key
-    → PrivateFits (OnCurve (Ecdsa k)) key x
-    → rest s c ≡ string (curveName k) ++ (string (key .point) ++ (string (standing zero (x .scalar)) ++ t))
+    (s : List ℕ) (c : Cursor) → Good s c → (k : Curve) (zeros : ℕ) (key : PublicBytes) (x : PrivateBytes) (t : List ℕ) → PublicFits (OnCurve (Ecdsa k)) key
+    → PrivateFits (OnCurve (Ecdsa k)) key x → MayStand (OnCurve (Ecdsa k)) zeros x
+    → rest s c ≡ string (curveName k) ++ (string (key .point) ++ (string (standing zeros (x .scalar)) ++ t))
     → PairBack s (ecdsaPairAt s c k) (OnCurve (Ecdsa k)) key x t
 unfolding ecdsaPairAt
-ecdsa-pair-back s c good k zero key x t fits fit e =
-    let p = ecdsa-public-back s c good k (key .point) (string (standing zero (x .scalar)) ++ t) (fits .0) (eqb-true _ _ (fits .1)) e in
-    let q = scalar-back s (p .next) (p .good) (sizeOf k) (size-small k .1) (x .scalar) t (fit .0) zero (p .more) in
+ecdsa-pair-back s c good k zeros key x t fits fit may e =
+    let p = ecdsa-public-back s c good k (key .point) (string (standing zeros (x .scalar)) ++ t) (fits .0) (eqb-true _ _ (fits .1)) e in
+    let q = scalar-back s (p .next) (p .good) (sizeOf k) (size-small k .1) (x .scalar) t (fit .0 .0) (fit .0 .1) zeros may (p .more) in
     record {
       place = pointPlace (p .place);
       private = scalarPlace (q .place);
@@ -308,26 +323,25 @@ rsa-keypair-back s c good small key x t fits fit e =
 
 -- the fields that a name asks for
 pair-fields-back :
-    (s : List ℕ) (c : Cursor) → Good s c → length s < 2 ^ 32 → (a : Algorithm) (zero : Bool) (key : PublicBytes) (x : PrivateBytes) (t : List ℕ) → PublicFits a key
-    → PrivateFits a key x → mayStand a zero ≡ true → rest s c ≡ join (pairFields a zero key x) ++ t
+    (s : List ℕ) (c : Cursor) → Good s c → length s < 2 ^ 32 → (a : Algorithm) (zeros : ℕ) (key : PublicBytes) (x : PrivateBytes) (t : List ℕ) → PublicFits a key
+    → PrivateFits a key x → MayStand a zeros x → rest s c ≡ join (pairFields a zeros key x) ++ t
     → PairBack s (onAlgorithm a (ellipticPairAt s c) (rsaKeypairAt s c)) a key x t
 unfolding ellipticPairAt
-pair-fields-back s c good small (OnCurve Ed25519) true key x t fits fit may e = clash cc
-pair-fields-back s c good small (OnCurve Ed25519) false key x t fits fit may e =
-    ed25519-pair-back s c good key x t fits fit (e ∙ simp append-assoc)
-pair-fields-back s c good small (OnCurve (Ecdsa k)) zero key x t fits fit may e =
-    ecdsa-pair-back s c good k zero key x t fits fit (e ∙ simp append-assoc)
-pair-fields-back s c good small Rsa zero key x t fits fit may e =
+pair-fields-back s c good small (OnCurve Ed25519) zeros key x t fits fit may e =
+    ed25519-pair-back s c good key x t fits fit (e ∙ rw may (simp append-assoc))
+pair-fields-back s c good small (OnCurve (Ecdsa k)) zeros key x t fits fit may e =
+    ecdsa-pair-back s c good k zeros key x t fits fit may (e ∙ simp append-assoc)
+pair-fields-back s c good small Rsa zeros key x t fits fit may e =
     rsa-keypair-back s c good small key x t fits fit (e ∙ simp append-assoc)
 
--- a keypair as the format writes it, a scalar in either form
+-- a keypair as the format writes it, a scalar in any of its forms
 pub keypair-back :
-    (s : List ℕ) (c : Cursor) → Good s c → length s < 2 ^ 32 → (a : Algorithm) (zero : Bool) (key : PublicBytes) (x : PrivateBytes) (t : List ℕ) → PublicFits a key
-    → PrivateFits a key x → mayStand a zero ≡ true → rest s c ≡ pair a zero key x ++ t → PairBack s (keypairAt s c) a key x t
+    (s : List ℕ) (c : Cursor) → Good s c → length s < 2 ^ 32 → (a : Algorithm) (zeros : ℕ) (key : PublicBytes) (x : PrivateBytes) (t : List ℕ) → PublicFits a key
+    → PrivateFits a key x → MayStand a zeros x → rest s c ≡ pair a zeros key x ++ t → PairBack s (keypairAt s c) a key x t
 unfolding keypairAt
-keypair-back s c good small a zero key x t fits fit may e =
-    let n = string-back s c good (algorithmName a) (join (pairFields a zero key x) ++ t) (algorithm-back a .1) (e ∙ keypair-then a zero key x t) in
-    let p = pair-fields-back s (n .next) (n .good) small a zero key x t fits fit may (n .more) in
+keypair-back s c good small a zeros key x t fits fit may e =
+    let n = string-back s c good (algorithmName a) (join (pairFields a zeros key x) ++ t) (algorithm-back a .1) (e ∙ keypair-then a zeros key x t) in
+    let p = pair-fields-back s (n .next) (n .good) small a zeros key x t fits fit may (n .more) in
     record {
       place = p .place;
       private = p .private;

@@ -2,16 +2,16 @@
 use Prim.Native.Nat.{ℕ, _+_, _-_, _≤_, _<_}
 use native.Mathlib.Omega.{arith}
 use mathlib.Core.Path.{_≡_, refl, sym, _∙_, ap}
-use mathlib.Core.Bool.{Bool, true, false}
-use mathlib.Core.List.{List, _∷_, _++_, append-assoc}
-use borrow.Author.Tests.{eq-eqb, ne-eqb, eqb-true}
-use lib.Dec.{eqb}
-use lib.ListN.{length, getD}
+use mathlib.Core.Bool.{true}
+use mathlib.Core.List.{List, _++_, append-assoc}
+use borrow.Author.Tests.{eq-eqb, ne-eqb, eqb-true, eqb-false, ltb-true, ltb-false, lt-ltb}
+use lib.Dec.{eqb, ltb}
+use lib.ListN.{length, getD, replicate, length-replicate}
 use Rattle.fields.specs.Bytes.{string, join, AllBytes, sameBytes, same-true}
-use Rattle.fields.specs.Fields.{part, stringAt, fixedAt, viewOf}
-use Rattle.fields.specs.Place.{clash, by-field, by-bool, fixed-place}
-use Rattle.fields.specs.Rest.{rest, view-cons, view-split, view-length, view-absent}
-use Rattle.fields.specs.Read.{string-read, length-byte}
+use Rattle.fields.specs.Fields.{number4, part, stringAt, fixedAt, viewOf}
+use Rattle.fields.specs.Place.{clash, by-field, by-bool, uint32-place, string-place, fixed-place}
+use Rattle.fields.specs.Rest.{rest, view-two, view-byte, view-split, view-length, view-absent}
+use Rattle.fields.specs.Read.{StringRead, string-read, length-byte}
 use Rattle.fields.specs.declared.Cursor.{Cursor}
 use Rattle.fields.specs.declared.Fault.{Fault}
 use Rattle.fields.specs.declared.Part.{Part}
@@ -22,8 +22,11 @@ use Rattle.names.specs.declared.Algorithm.{Algorithm}
 use Rattle.names.specs.declared.Algorithm.the-variants.{Elliptic as OnCurve, Rsa}
 use Rattle.names.specs.declared.Curve.{Curve}
 use Rattle.names.specs.Algorithms.{algorithmName, algorithmNamed, curveName, sizeOf, sameAlgorithm, algorithm-same, size-small}
-use Rattle.format.specs.Format.{curveField, publicLength, privateLength, pointTag, privateField, standing, pairFields, keypair as pair, mayStand, PublicFits, PrivateFits}
+use Rattle.format.specs.Format.{ofScalar, curveField, publicLength, pointTag, privateField, standing, pairFields, keypair as pair, MayStand, ScalarFits, PublicFits, PrivateFits}
+use Rattle.mpint.specs.Mpint.{zerosBefore, significant, remaining}
+use Rattle.mpint.specs.Zeros.{zeros-le, zeros-zero}
 use Rattle.format.specs.Laws.{keypair-then}
+use Rattle.format.specs.Scalars.{standing-again, significant-length, significant-first}
 use Rattle.rsa.specs.declared.Six.{Six}
 use Rattle.rsa.specs.declared.RsaPair.{RsaPair}
 use Rattle.rsa.specs.declared.RsaPair.the-variants as rsa-pair
@@ -32,7 +35,8 @@ use Rattle.keys.specs.declared.Public.{Public}
 use Rattle.pairs.specs.declared.Private.{Private}
 use Rattle.pairs.specs.declared.Keypair.the-variants as keypair
 use Rattle.keys.specs.Keys.{onAlgorithm, ecdsaPublicAt, pointPlace, modulusPlace, publicBytes}
-use Rattle.pairs.specs.Pairs.{scalarAt, scalarPlace, numbersPlace, privateBytes, ed25519PairAt, ecdsaPairAt, ellipticPairAt, rsaKeypairAt, keypairAt, afterZero}
+use Rattle.pairs.specs.Pairs.{isScalar, significantPart, scalarAt, scalarPlace, numbersPlace, privateBytes, ed25519PairAt, ecdsaPairAt, ellipticPairAt, rsaKeypairAt, keypairAt, beginsBefore}
+use Rattle.pairs.specs.Scalar.{scalar-some, scalar-short}
 use Rattle.key_laws.specs.RsaRead.{RsaPairRead, rsa-pair-read}
 use Rattle.key_laws.specs.Read.{by-algorithm, by-ecdsa, ecdsa-public-read, named-text}
 
@@ -40,102 +44,165 @@ pub by-rsa-pair : {P : Type 0} (w : RsaPair) → ((f : Fault) → w ≡ rsa-pair
 by-rsa-pair (rsa-pair.Refused f) refused numbers = refused f refl
 by-rsa-pair (rsa-pair.Numbers x k c) refused numbers = numbers x k c refl
 
--- what is said of a scalar or a seed; RSA has none
+-- what is said of a scalar: a seed is none, and RSA has none
 abbrev pub IfScalar : Algorithm → Type 0 → Type 0
-IfScalar (OnCurve e) said = said
+IfScalar (OnCurve Ed25519) said = Unit {0}
+IfScalar (OnCurve (Ecdsa k)) said = said
 IfScalar Rsa said = Unit {0}
+
+-- whether the string that holds a part begins no or one byte before it tells whether so many zeros stand there
+abbrev pub Begins : List ℕ → Part → ℕ → Type 0
+Begins s p zeros = (k : ℕ) → k < 2 → beginsBefore s p k ≡ eqb k zeros
+
+-- the byte before the last of a short string's length is zero
+number-high : (a b c d n : ℕ) → number4 a b c d ≡ n → n < 256 → c ≡ 0
+number-high a b c d n e h = omega arith
+
+length-high : (s : List ℕ) (c : Cursor) (p : Part) (d : Cursor) → stringAt s c ≡ field.Part p d → p .length < 256 → getD s (p .start - 2) 0 ≡ 0
+length-high s c p d e h =
+    let k = string-place s c p d e in
+    let u = uint32-place s c (p .length) (k .body) (k .length) in
+    let i : p .start - 2 ≡ c .at + 2 = omega (arith, k .placed .start) in
+    ap (λ (j : ℕ). getD s j 0) i ∙ number-high (getD s (c .at) 0) (getD s (c .at + 1) 0) (getD s (c .at + 2) 0) (getD s (c .at + 3) 0) (p .length) (u .number) h
 
 module _ (s : List ℕ) (all : AllBytes s) where
   -- a scalar, in the form that it has
   pub record ScalarRead (c : Cursor) (size : ℕ) (p : Part) (d : Cursor) : Type 0 where
-    pub zero : Bool
-    pub text : rest s c ≡ string (standing zero (viewOf s p)) ++ rest s d
-    pub long : length (viewOf s p) ≡ size
-    pub after : afterZero s p ≡ zero
+    pub zeros : ℕ
+    pub text : rest s c ≡ string (standing zeros (viewOf s p)) ++ rest s d
+    pub long : length (viewOf s p) ≤ size
+    pub first : 0 < getD (viewOf s p) 0 0
+    pub may : zeros + length (viewOf s p) ≤ size + 1
+    pub begins : Begins s p zeros
     pub end : d .end ≡ c .end
 
-  scalar-read :
-      (c : Cursor) (size : ℕ) → 0 < size → size < 256 → (p : Part) (d : Cursor) → scalarAt s c size ≡ field.Part p d → ScalarRead c size p d
-  unfolding scalarAt afterZero
-  scalar-read c size some small p d e =
+  -- a scalar in its string, which stands in the image as the part q
+  module _ (c : Cursor) (size : ℕ) (small : size < 100) (q : Part) (d : Cursor) (w : stringAt s c ≡ field.Part q d) where
+    abbrev stored : List ℕ
+    stored = viewOf s q
+
+    read-string : StringRead s c q d
+    read-string = string-read s all c q d w
+
+    significant-seen : viewOf s (significantPart s q) ≡ significant stored
+    unfolding significantPart
+    significant-seen =
+        let r = read-string in
+        let l = zeros-le stored in
+        view-two s q (zerosBefore stored) (remaining stored) (replicate (zerosBefore stored) 0) (significant stored) (omega (arith, r .place .placed))
+        (omega (arith, r .size)) (length-replicate (zerosBefore stored) 0) (sym (standing-again stored)) .1
+
+    -- before it stand its zeros, and before these the string's length
+    begins-there : q .length ≤ size + 1 → zerosBefore stored < length stored → Begins s (significantPart s q) (zerosBefore stored)
+    unfolding beginsBefore significantPart
+    begins-there l some k two =
+        let r = read-string in
+        let z = zerosBefore stored in
+        let start = r .place .placed .start in
+        rw (lt-ltb k (q .start + z) (omega (arith, start)))
+        (by-bool (eqb k z)
+        (λ v.
+        let same = eqb-true k z v in
+        let at : q .start + z - (k + 1) ≡ q .start - 1 = omega (arith, start) in
+        let whole : q .length ≡ remaining stored + k = omega (arith, r .size) in
+        rw v (eq-eqb (getD s (q .start + z - (k + 1)) 0) (remaining stored + k) (ap (λ (i : ℕ). getD s i 0) at ∙ length-byte s c q d w (omega arith) ∙ whole)))
+        (λ v.
+        let other = eqb-false k z v in
+        rw v
+        (by-bool (ltb k z)
+        (λ u.
+        let less = ltb-true k z u in
+        let at : q .start + z - (k + 1) ≡ q .start + (z - (k + 1)) = omega arith in
+        let byte = view-byte s q (z - (k + 1)) (omega (arith, r .place .placed)) (omega (arith, r .size)) in
+        let none : getD s (q .start + z - (k + 1)) 0 ≡ 0 = ap (λ (i : ℕ). getD s i 0) at ∙ sym byte ∙ zeros-zero stored (z - (k + 1)) (omega arith) in
+        ne-eqb (getD s (q .start + z - (k + 1)) 0) (remaining stored + k) (λ e. omega (arith, none, e)))
+        (λ u.
+        let more = ltb-false k z u in
+        let at : q .start + z - (k + 1) ≡ q .start - 2 = omega (arith, start, other) in
+        let none : getD s (q .start + z - (k + 1)) 0 ≡ 0 = ap (λ (i : ℕ). getD s i 0) at ∙ length-high s c q d w (omega arith) in
+        ne-eqb (getD s (q .start + z - (k + 1)) 0) (remaining stored + k) (λ e. omega (arith, none, e))))))
+
+    scalar-text : rest s c ≡ string (standing (zerosBefore stored) (viewOf s (significantPart s q))) ++ rest s d
+    scalar-text =
+        read-string .text
+        ∙ ap (λ (l : List ℕ). string l ++ rest s d) (sym (standing-again stored) ∙ ap (standing (zerosBefore stored)) (sym significant-seen))
+
+  scalar-read : (c : Cursor) (size : ℕ) → size < 100 → (p : Part) (d : Cursor) → scalarAt s c size ≡ field.Part p d → ScalarRead c size p d
+  unfolding scalarAt
+  scalar-read c size small p d e =
       by-field (stringAt s c)
       (λ f w. let g : field.Refused f ≡ field.Part p d = rw w at e in clash cc)
       (λ q x w.
       let g = rw w at e in
-      by-bool (eqb (q .length) (size + 1))
+      by-bool (eqb (q .length) 0)
+      (λ v. let h = rw v at g in clash cc)
       (λ v.
       let h = rw v at g in
-      by-bool (eqb (getD s (q .start) 0) 0)
+      by-bool (ltb (size + 1) (q .length))
+      (λ u. let i = rw u at h in clash cc)
       (λ u.
-      let i : field.Part (part (q .start + 1) size) x ≡ field.Part p d = rw u at h in
-      let o : part (q .start + 1) size ≡ p = cc in
+      let i = rw u at h in
+      by-bool (isScalar size (viewOf s q))
+      (λ t.
+      let j : field.Part (significantPart s q) x ≡ field.Part p d = rw t at i in
+      let o : significantPart s q ≡ p = cc in
       let m : x ≡ d = cc in
-      let l = eqb-true (q .length) (size + 1) v in
-      let z = eqb-true (getD s (q .start) 0) 0 u in
+      let b = viewOf s q in
       let r = string-read s all c q x w in
-      let inside : q .start + (size + 1) ≤ length s = omega (arith, r .place .placed) in
-      let cut : viewOf s q ≡ 0 ∷ viewOf s p =
-      ap (λ (n : ℕ). viewOf s (part (q .start) n)) l ∙ view-cons s (q .start) size inside
-      ∙ ap (λ (b : ℕ). b ∷ viewOf s (part (q .start + 1) size)) z ∙ ap (λ (y : Part). 0 ∷ viewOf s y) o in
-      let before : q .start + 1 - 1 ≡ q .start = omega arith in
-      record {
-        zero = true;
-        text = rw (cut, m) at (r .text);
-        long = ap (λ (y : Part). length (viewOf s y)) (sym o) ∙ view-length s (part (q .start + 1) size) (omega arith);
-        after = rw (← o) (eq-eqb _ _ (ap (λ (n : ℕ). getD s n 0) before ∙ z));
-        end = rw m at (r .place .placed .end);
-      })
-      (λ u. let i = rw u at h in clash cc))
-      (λ v.
-      let h : fixedAt s c size ≡ field.Part p d = rw v at g in
-      let f = fixed-place s c size p d h in
-      let r = string-read s all c p d (f .0) in
-      let b = length-byte s c p d (f .0) (omega (arith, f .1)) in
-      record {
-        zero = false;
-        text = r .text;
-        long = r .size ∙ f .1;
-        after = ne-eqb (getD s (p .start - 1) 0) 0 (λ z. omega (arith, f .1));
+      let l : q .length ≤ size + 1 = ltb-false (size + 1) (q .length) u in
+      let some = scalar-some size b t in
+      let short = scalar-short size b t (omega (arith, r .size)) in
+      let seen = significant-seen c size small q x w in
+      let long = ap length seen ∙ significant-length b in
+      rw (← o, ← m)
+      (record {
+        zeros = zerosBefore b;
+        text = scalar-text c size small q x w;
+        long = omega (arith, long);
+        first = rw seen (significant-first b some);
+        may = omega (arith, long, r .size);
+        begins = begins-there c size small q x w l some;
         end = r .place .placed .end;
       }))
+      (λ t. let j = rw t at i in clash cc))))
 
   -- an accepted keypair: its public and its private bytes, a scalar in the form that it has
   pub record PairRead (c : Cursor) (a : Algorithm) (p : Public) (x : Private) (d : Cursor) : Type 0 where
-    pub zero : Bool
-    pub text : rest s c ≡ pair a zero (publicBytes s p) (privateBytes s x) ++ rest s d
+    pub zeros : ℕ
+    pub text : rest s c ≡ pair a zeros (publicBytes s p) (privateBytes s x) ++ rest s d
     pub fits : PublicFits a (publicBytes s p)
     pub private : PrivateFits a (publicBytes s p) (privateBytes s x)
-    pub may : mayStand a zero ≡ true
-    pub after : IfScalar a (afterZero s (x .scalar) ≡ zero)
+    pub may : MayStand a zeros (privateBytes s x)
+    pub begins : IfScalar a (Begins s (x .scalar) zeros)
     pub end : d .end ≡ c .end
 
   -- the fields that a name asks for
   record PairFieldsRead (c : Cursor) (named a : Algorithm) (p : Public) (x : Private) (d : Cursor) : Type 0 where
     pub kind : named ≡ a
-    pub zero : Bool
-    pub text : rest s c ≡ join (pairFields named zero (publicBytes s p) (privateBytes s x)) ++ rest s d
+    pub zeros : ℕ
+    pub text : rest s c ≡ join (pairFields named zeros (publicBytes s p) (privateBytes s x)) ++ rest s d
     pub fits : PublicFits named (publicBytes s p)
     pub private : PrivateFits named (publicBytes s p) (privateBytes s x)
-    pub may : mayStand named zero ≡ true
-    pub after : IfScalar named (afterZero s (x .scalar) ≡ zero)
+    pub may : MayStand named zeros (privateBytes s x)
+    pub begins : IfScalar named (Begins s (x .scalar) zeros)
     pub end : d .end ≡ c .end
 
   -- the parts of a key over a curve, at their places
   elliptic-fields :
-      (c : Cursor) (e : Elliptic) (zero : Bool) (q y : Part) (d : Cursor)
-      → rest s c ≡ curveField e ++ (string (viewOf s q) ++ (privateField e (viewOf s q) (standing zero (viewOf s y)) ++ rest s d))
-      → length (viewOf s q) ≡ publicLength e → pointTag e (viewOf s q) ≡ true → length (viewOf s y) ≡ privateLength e → mayStand (OnCurve e) zero ≡ true
-      → afterZero s y ≡ zero → d .end ≡ c .end → PairFieldsRead c (OnCurve e) (OnCurve e) (pointPlace q) (scalarPlace y) d
+      (c : Cursor) (e : Elliptic) (zeros : ℕ) (q y : Part) (d : Cursor)
+      → rest s c ≡ curveField e ++ (string (viewOf s q) ++ (privateField e (viewOf s q) (standing zeros (viewOf s y)) ++ rest s d))
+      → length (viewOf s q) ≡ publicLength e → pointTag e (viewOf s q) ≡ true → ScalarFits e (viewOf s y) → MayStand (OnCurve e) zeros (ofScalar (viewOf s y))
+      → IfScalar (OnCurve e) (Begins s y zeros) → d .end ≡ c .end → PairFieldsRead c (OnCurve e) (OnCurve e) (pointPlace q) (scalarPlace y) d
   unfolding publicBytes pointPlace privateBytes scalarPlace
-  elliptic-fields c e zero q y d text long tag private may after end =
+  elliptic-fields c e zeros q y d text long tag private may begins end =
       record {
         kind = refl;
-        zero = zero;
+        zeros = zeros;
         text = text ∙ simp append-assoc;
         fits = (long, tag, rw (view-absent s));
         private = (private, rw (view-absent s));
-        may = may;
-        after = after;
+        may = rw (view-absent s) may;
+        begins = begins;
         end = end;
       }
 
@@ -144,7 +211,6 @@ module _ (s : List ℕ) (all : AllBytes s) where
       (c : Cursor) (q : Part) (b : Cursor) (y : Part) (m : Cursor) → fixedAt s c 32 ≡ field.Part q b → fixedAt s b 64 ≡ field.Part y m
       → viewOf s (part (y .start + 32) 32) ≡ viewOf s q
       → PairFieldsRead c (OnCurve Ed25519) (OnCurve Ed25519) (pointPlace q) (scalarPlace (part (y .start) 32)) m
-  unfolding afterZero
   seed-fields c q b y m w v same =
       let f₁ = fixed-place s c 32 q b w in
       let r₁ = string-read s all c q b (f₁ .0) in
@@ -155,9 +221,8 @@ module _ (s : List ℕ) (all : AllBytes s) where
       ap (λ (j : ℕ). viewOf s (part (y .start) j)) (f₂ .1) ∙ view-split s (y .start) 32 32 inside
       ∙ ap (λ (z : List ℕ). viewOf s (part (y .start) 32) ++ z) same in
       let both : rest s b ≡ string (viewOf s (part (y .start) 32) ++ viewOf s q) ++ rest s m = rw halves at (r₂ .text) in
-      let before = length-byte s b y m (f₂ .0) (omega (arith, f₂ .1)) in
-      elliptic-fields c Ed25519 false q (part (y .start) 32) m (r₁ .text ∙ ap (λ (z : List ℕ). string (viewOf s q) ++ z) both) (r₁ .size ∙ f₁ .1) refl
-      (view-length s (part (y .start) 32) (omega arith)) refl (ne-eqb (getD s (y .start - 1) 0) 0 (λ z. omega (arith, f₂ .1)))
+      elliptic-fields c Ed25519 0 q (part (y .start) 32) m (r₁ .text ∙ ap (λ (z : List ℕ). string (viewOf s q) ++ z) both) (r₁ .size ∙ f₁ .1) refl
+      (view-length s (part (y .start) 32) (omega arith)) refl tt
       (r₂ .place .placed .end ∙ r₁ .place .placed .end)
 
   ed25519-pair-read :
@@ -208,10 +273,10 @@ module _ (s : List ℕ) (all : AllBytes s) where
       let n : m ≡ d = cc in
       let r₁ = ecdsa-public-read s all c named q b (rw j at w) in
       let small = size-small named in
-      let r₂ = scalar-read b (sizeOf named) (small .0) (omega arith) y d (rw (j, n) at v) in
+      let r₂ = scalar-read b (sizeOf named) (small .1) y d (rw (j, n) at v) in
       rw (← t, ← o, ← l)
-      (elliptic-fields c (Ecdsa named) (r₂ .zero) q y d (r₁ .0 ∙ ap (λ (z : List ℕ). string (curveName named) ++ (string (viewOf s q) ++ z)) (r₂ .text)) (r₁ .1)
-      (r₁ .2) (r₂ .long) refl (r₂ .after) (r₂ .end ∙ r₁ .3)))
+      (elliptic-fields c (Ecdsa named) (r₂ .zeros) q y d (r₁ .0 ∙ ap (λ (z : List ℕ). string (curveName named) ++ (string (viewOf s q) ++ z)) (r₂ .text)) (r₁ .1)
+      (r₁ .2) (r₂ .long, r₂ .first) (r₂ .may) (r₂ .begins) (r₂ .end ∙ r₁ .3)))
       (λ u. let i = rw u at h in clash cc)))
 
   -- n, e, d, iqmp, p, q
@@ -221,12 +286,12 @@ module _ (s : List ℕ) (all : AllBytes s) where
   numbers-fields c y k d r =
       record {
         kind = refl;
-        zero = false;
+        zeros = 0;
         text = r .numbers .text ∙ simp append-assoc;
         fits = (r .fits, rw (view-absent s));
         private = (r .others, rw (view-absent s));
         may = refl;
-        after = tt;
+        begins = tt;
         end = r .numbers .end;
       }
 
@@ -268,13 +333,13 @@ module _ (s : List ℕ) (all : AllBytes s) where
       let private = privateBytes s x in
       rw (← r .kind)
       (record {
-        zero = r .zero;
+        zeros = r .zeros;
         text =
             named-text s all c n b j w v ∙ ap (λ (y : List ℕ). string (algorithmName j) ++ y) (r .text)
-            ∙ sym (keypair-then j (r .zero) key private (rest s d));
+            ∙ sym (keypair-then j (r .zeros) key private (rest s d));
         fits = r .fits;
         private = r .private;
         may = r .may;
-        after = r .after;
+        begins = r .begins;
         end = r .end ∙ string-read s all c n b w .place .placed .end;
       })))

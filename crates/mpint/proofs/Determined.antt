@@ -5,6 +5,8 @@ use Rattle.mpint.proofs.is_mpint.Reads as is-mpint
 use Rattle.mpint.proofs.is_mpint.Kinds as is-mpint-kinds
 use Rattle.mpint.proofs.read_mpint.Reads as read-mpint
 use Rattle.mpint.proofs.read_mpint.Kinds as read-mpint-kinds
+use Rattle.mpint.proofs.zeros_before.Reads as zeros-before
+use Rattle.mpint.proofs.zeros_before.Kinds as zeros-before-kinds
 use Rattle.mpint.proofs.at_most.Reads as at-most
 use Rattle.mpint.proofs.at_most.Kinds as at-most-kinds
 use Rattle.mpint.proofs.modulus_size.Reads as modulus-size
@@ -15,6 +17,9 @@ is-mpint-determined κs a r₁ r₂ s₁ s₂ p q = cc
 
 pub read-mpint-determined : Determined 1 read-mpint-kinds.ps read-mpint-kinds.r read-mpint.Post
 read-mpint-determined κs a r₁ r₂ s₁ s₂ p q = cc
+
+pub zeros-before-determined : Determined 1 zeros-before-kinds.ps zeros-before-kinds.r zeros-before.Post
+zeros-before-determined κs a r₁ r₂ s₁ s₂ p q = cc
 
 pub at-most-determined : Determined 2 at-most-kinds.ps at-most-kinds.r at-most.Post
 at-most-determined κs a r₁ r₂ s₁ s₂ p q = cc

@@ -5,12 +5,14 @@
 --
 -- Document 02, request Two: an mpint here must be positive and minimal; an empty, negative or non-minimal one is 2 where it is read. The
 -- modulus has 1,024 to 8,192 bits, every other number at most as many as that modulus; bits of a number are those without leading zero bits.
+--
+-- Document 02, request Five, has a scalar's bytes without leading zeros.
 use Prim.Native.Nat.{ℕ, zero, suc, _+_, _-_, _*_}
 use mathlib.Core.Bool.{Bool, false, cond, _&&_, not}
 use mathlib.Core.List.{List, [], _∷_}
 use lib.Count.{leadingZeros}
 use lib.Dec.{eqb, ltb, leb}
-use lib.ListN.{length, getD}
+use lib.ListN.{length, drop, getD}
 use Rattle.fields.specs.Fields.{fault, onField, stringAt, viewOf}
 use Rattle.fields.specs.declared.Cursor.{Cursor}
 use Rattle.fields.specs.declared.Field.{Field}
@@ -45,7 +47,10 @@ zerosBefore [] = 0
 zerosBefore (zero ∷ b) = suc (zerosBefore b)
 zerosBefore (suc x ∷ b) = 0
 
--- how many bytes remain from there on
+-- the bytes from there on, and how many they are
+unfoldable pub significant : List ℕ → List ℕ
+significant b = drop (zerosBefore b) b
+
 abbrev pub remaining : List ℕ → ℕ
 remaining b = length b - zerosBefore b
 

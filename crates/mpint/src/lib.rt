@@ -38,7 +38,7 @@ pub fn read_mpint(c: Cursor, image: &[u8]) -> Field
 }
 
 // How many zeros stand before the first byte that isn't zero.
-fn zeros_before(bytes: &[u8]) -> usize
+pub fn zeros_before(bytes: &[u8]) -> usize
     ensures { λ r. ⌜ r ≡ zerosBefore (now (bytes .entry)) ⌝ }
 {
     let mut i: usize = 0;

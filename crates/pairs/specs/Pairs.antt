@@ -1,9 +1,9 @@
--- Document 01, 'Keys', in a section, and document 02, request Two: what reading a scalar and a keypair finds, in its order.
+-- Document 01, 'Keys', in a section, and document 02, requests Two and Five: what reading a scalar and a keypair finds, in its order.
 use Prim.Native.Nat.{ℕ, _+_, _-_}
 use mathlib.Core.List.{List}
-use mathlib.Core.Bool.{Bool, cond}
-use lib.ListN.{getD}
-use lib.Dec.{eqb}
+use mathlib.Core.Bool.{Bool, cond, _&&_, _||_}
+use lib.ListN.{length, getD}
+use lib.Dec.{eqb, ltb, leb}
 use Rattle.fields.specs.Bytes.{sameBytes}
 use Rattle.fields.specs.Fields.{fault, part, absent, onField, stringAt, fixedAt, viewOf}
 use Rattle.fields.specs.declared.Cursor.{Cursor}
@@ -11,13 +11,14 @@ use Rattle.fields.specs.declared.Fault.{Fault}
 use Rattle.fields.specs.declared.Part.{Part}
 use Rattle.fields.specs.declared.Field.{Field}
 use Rattle.fields.specs.declared.Field.the-variants as field
-use Rattle.fields.specs.declared.Refusal.the-variants.{FormatEncoding, Crypto, AlgorithmUnknown}
+use Rattle.fields.specs.declared.Refusal.the-variants.{Length, FormatEncoding, Crypto, AlgorithmUnknown, TrailingData}
 use Rattle.names.specs.declared.Elliptic.{Elliptic}
 use Rattle.names.specs.declared.Elliptic.the-variants.{Ed25519, Ecdsa}
 use Rattle.names.specs.declared.Algorithm.{Algorithm}
 use Rattle.names.specs.declared.Algorithm.the-variants.{Elliptic as OnCurve, Rsa}
 use Rattle.names.specs.declared.Curve.{Curve}
 use Rattle.names.specs.Algorithms.{algorithmNamed, sizeOf, sameAlgorithm}
+use Rattle.mpint.specs.Mpint.{zerosBefore, remaining}
 use Rattle.format.specs.Format.{PrivateBytes}
 use Rattle.rsa.specs.declared.Six.{Six}
 use Rattle.rsa.specs.Rsa.{onRsaPair, rsaPairAt}
@@ -32,13 +33,23 @@ abbrev pub onKeypair : {R : Type 0} → Keypair → (Fault → R) → (Algorithm
 onKeypair (keypair.Refused f) refused pair = refused f
 onKeypair (keypair.Pair a p x c) refused pair = pair a p x c
 
--- a scalar string of size + 1 bytes must begin with 0 (else 2), which is dropped; any other length is a fixed field of size
+-- what bytes a scalar's string may have: not zeros alone, and of more than size the first is a zero
+unfoldable pub isScalar : ℕ → List ℕ → Bool
+isScalar size b = ltb (zerosBefore b) (length b) && (leb (length b) size || eqb (getD b 0 0) 0)
+
+-- a part without its leading zeros
+unfoldable pub significantPart : List ℕ → Part → Part
+significantPart s p = part (p .start + zerosBefore (viewOf s p)) (remaining (viewOf s p))
+
+-- a scalar's string has 1 to size bytes, or size + 1 with a zero first. An empty one: 1. A longer one: 6, with the bytes above size, at the
+-- first of them. One of zeros, or of size + 1 without a zero first: 2. What is read is the stored part without leading zeros.
 unfoldable pub scalarAt : List ℕ → Cursor → ℕ → Field
 scalarAt s c size =
     onField (stringAt s c) field.Refused (λ p d.
-    cond (eqb (p .length) (size + 1))
-    (cond (eqb (getD s (p .start) 0) 0) (field.Part (part (p .start + 1) size) d) (field.Refused (fault FormatEncoding (c .at))))
-    (fixedAt s c size))
+    cond (eqb (p .length) 0) (field.Refused (fault Length (c .at)))
+    (cond (ltb (size + 1) (p .length)) (field.Refused (fault (TrailingData (p .length - size)) (c .at + 4 + size)))
+    (cond (isScalar size (viewOf s p)) (field.Part (significantPart s p) d)
+    (field.Refused (fault FormatEncoding (c .at))))))
 
 -- the places of the private parts: what its kind lacks is absent
 unfoldable pub scalarPlace : Part → Private
@@ -92,6 +103,6 @@ keypairAt s c =
     onAlgorithmName (algorithmNamed (viewOf s name)) (keypair.Refused (fault AlgorithmUnknown (c .at))) (λ a.
     onAlgorithm a (ellipticPairAt s d) (rsaKeypairAt s d)))
 
--- the byte before a part is zero
-unfoldable pub afterZero : List ℕ → Part → Bool
-afterZero s p = eqb (getD s (p .start - 1) 0) 0
+-- the string that holds a part begins so many bytes before it: its length's last byte stands there
+unfoldable pub beginsBefore : List ℕ → Part → ℕ → Bool
+beginsBefore s p zeros = ltb zeros (p .start) && eqb (getD s (p .start - (zeros + 1)) 0) (p .length + zeros)

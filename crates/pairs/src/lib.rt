@@ -1,7 +1,10 @@
 // Scalars and keypairs, as a plain section has them.
 ghost use mathlib.Core.Path.{_≡_};
-ghost use Rattle.fields.specs.Fields.{absent};
-ghost use Rattle.pairs.specs.Pairs.{scalarAt, scalarPlace, numbersPlace, ed25519PairAt, ecdsaPairAt, ellipticPairAt, rsaKeypairAt, keypairAt};
+ghost use mathlib.Core.Bool.{cond};
+ghost use Rattle.fields.specs.Fields.{fault, absent, viewOf};
+ghost use Rattle.fields.specs.declared.Field.the-variants as field;
+ghost use Rattle.fields.specs.declared.Refusal.the-variants.{FormatEncoding};
+ghost use Rattle.pairs.specs.Pairs.{isScalar, significantPart, scalarAt, scalarPlace, numbersPlace, ed25519PairAt, ecdsaPairAt, ellipticPairAt, rsaKeypairAt, keypairAt};
 use fields::Cursor;
 use fields::Fault;
 use fields::Field;
@@ -18,7 +21,40 @@ use names::Elliptic;
 use rsa::RsaPair;
 use rsa::Six;
 
-// A scalar of any size: size + 1 bytes begin with a zero, which is left off; any other is a fixed field.
+// May a scalar's string have these bytes? Not zeros alone, and of more than size the first is a zero.
+fn is_scalar(bytes: &[u8], size: usize) -> bool
+    ensures { λ r. ⌜ r ≡ isScalar size (now (bytes .entry)) ⌝ }
+{
+    if mpint::zeros_before(bytes) == bytes.len() {
+        return false;
+    }
+    if bytes.len() <= size {
+        return true;
+    }
+    fields::byte(bytes, 0) == 0
+}
+
+// A scalar in its string, without leading zeros. The string's field begins at `at`.
+fn scalar_in(image: &[u8], stored: Part, next: Cursor, size: usize, at: usize) -> Field
+    ensures { λ r. ⌜ r ≡ cond (isScalar size (viewOf (now (image .entry)) stored)) (field.Part (significantPart (now (image .entry)) stored) next) (field.Refused (fault FormatEncoding at)) ⌝ }
+{
+    let start = stored.start;
+    let bytes = fields::view(image, stored);
+    if is_scalar(bytes, size) {
+        let zeros = mpint::zeros_before(bytes);
+        let scalar = Part {
+            start: start + zeros,
+            length: bytes.len() - zeros,
+        };
+        return Field::Part(scalar, next);
+    }
+    Field::Refused(Fault {
+        why: Refusal::FormatEncoding,
+        at: at,
+    })
+}
+
+// A scalar of any size: 1 to size bytes, or size + 1 that begin with a zero. What is read has no leading zeros.
 pub fn read_scalar(c: Cursor, image: &[u8], size: usize) -> Field
     ensures { λ r. ⌜ r ≡ scalarAt (now (image .entry)) c size ⌝ }
 {
@@ -26,31 +62,26 @@ pub fn read_scalar(c: Cursor, image: &[u8], size: usize) -> Field
     match c.string(image) {
         Field::Refused(f) => Field::Refused(f),
         Field::Part(p, d) => {
-            let start = p.start;
             let length = p.length;
+            if length == 0 {
+                return Field::Refused(Fault {
+                    why: Refusal::Length,
+                    at: at,
+                });
+            }
             if length <= size {
-                return c.fixed(image, size);
+                return scalar_in(image, p, d, size, at);
             }
-            if length - size != 1 {
-                return c.fixed(image, size);
+            if length - size == 1 {
+                return scalar_in(image, p, d, size, at);
             }
-            if image[start] == 0 {
-                let scalar = Part {
-                    start: start + 1,
-                    length: size,
-                };
-                return Field::Part(scalar, d);
-            }
-            Field::Refused(Fault {
-                why: Refusal::FormatEncoding,
-                at: at,
-            })
+            c.fixed(image, size)
         }
     }
 }
 
-// Where a keypair's private parts are: the scalar, or Ed25519's seed; or RSA's d, iqmp, p and q. What its kind
-// lacks is absent.
+// Where a keypair's private parts are: the scalar without leading zeros, or Ed25519's seed; or RSA's d, iqmp, p
+// and q. What its kind lacks is absent.
 pub struct Private {
     pub scalar: Part,
     pub d: Part,

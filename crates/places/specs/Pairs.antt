@@ -2,11 +2,11 @@
 use Prim.Native.Nat.{ℕ, _+_}
 use native.Mathlib.Omega.{arith}
 use mathlib.Core.List.{List}
-use lib.Dec.{eqb}
-use lib.ListN.{getD}
+use borrow.Author.Tests.{ltb-true}
+use lib.Dec.{eqb, ltb}
 use Rattle.fields.specs.Bytes.{sameBytes}
 use Rattle.fields.specs.Fields.{part, stringAt, fixedAt, viewOf}
-use Rattle.fields.specs.Place.{by-field, by-bool}
+use Rattle.fields.specs.Place.{by-field, by-bool, string-place}
 use Rattle.fields.specs.Rest.{Good}
 use Rattle.fields.specs.declared.Cursor.{Cursor}
 use Rattle.names.specs.declared.Elliptic.the-variants.{Ed25519, Ecdsa}
@@ -18,7 +18,7 @@ use Rattle.rsa.specs.Rsa.{rsaPairAt}
 use Rattle.keys.specs.Keys.{onAlgorithm, ecdsaPublicAt}
 use Rattle.pairs.specs.declared.Keypair.{Keypair}
 use Rattle.pairs.specs.declared.Keypair.the-variants as keypair
-use Rattle.pairs.specs.Pairs.{scalarAt, ed25519PairAt, ecdsaPairAt, ellipticPairAt, rsaKeypairAt, keypairAt}
+use Rattle.pairs.specs.Pairs.{isScalar, scalarAt, ed25519PairAt, ecdsaPairAt, ellipticPairAt, rsaKeypairAt, keypairAt}
 use Rattle.key_laws.specs.Read.{by-algorithm, by-ecdsa}
 use Rattle.key_laws.specs.ReadPair.{by-rsa-pair}
 use Rattle.places.specs.Fields.{Lies, After, FieldLies, lies-after, after-after, good-after, string-lies, fixed-lies}
@@ -37,13 +37,17 @@ scalar-lies s c size good =
     (λ f w. rw w (rw w at (string-lies s c good)))
     (λ p d w.
     rw w
-    (by-bool (eqb (p .length) (size + 1))
+    (by-bool (eqb (p .length) 0)
+    (λ v. rw v (omega (arith, good)))
     (λ v.
     rw v
-    (by-bool (eqb (getD s (p .start) 0) 0)
-    (λ u. rw u (rw w at (string-lies s c good)))
-    (λ u. rw u (omega (arith, good)))))
-    (λ v. rw v (fixed-lies s c size good))))
+    (by-bool (ltb (size + 1) (p .length))
+    (λ u. rw u (omega (arith, ltb-true (size + 1) (p .length) u, string-place s c p d w .placed)))
+    (λ u.
+    rw u
+    (by-bool (isScalar size (viewOf s p))
+    (λ t. rw t (rw w at (string-lies s c good)))
+    (λ t. rw t (omega (arith, good)))))))))
 
 ed25519-pair-lies : (s : List ℕ) (c : Cursor) → Good s c → PairLies c (ed25519PairAt s c)
 unfolding ed25519PairAt

@@ -6,15 +6,24 @@ use Rattle.fields.specs.Bytes.{both-true}
 use Rattle.names.specs.declared.Algorithm.{Algorithm}
 use Rattle.names.specs.declared.Algorithm.the-variants.{Elliptic as OnCurve, Rsa}
 use Rattle.mpint.specs.Mpint.{isMpint, modulusFits, atMost}
-use Rattle.format.specs.Format.{PublicBytes, PrivateBytes, ModulusFits, NumbersFit, PublicFits, PrivateFits}
+use Rattle.format.specs.Format.{PublicBytes, PrivateBytes, filled, ModulusFits, NumbersFit, PublicFits, PrivateFits}
+use Rattle.format.specs.Scalars.{filled-private, filled-zero, fits-allowed, fits-some}
 use Rattle.reply.specs.declared.Written.{Written}
 use Rattle.plain.specs.Plain.{allMpints, sizesFit, keyChecked}
 
--- a key that fits passes the plain writer's first tests
+-- a key that fits passes the plain writer's first tests, its scalar filled
 pub checks-pass :
-    (a : Algorithm) (key : PublicBytes) (x : PrivateBytes) (next : Written) → PublicFits a key → PrivateFits a key x → keyChecked a key x next ≡ next
+    (a : Algorithm) (key : PublicBytes) (x : PrivateBytes) (next : Written) → PublicFits a key → PrivateFits a key x
+    → keyChecked a key (filled a x) next ≡ next
 unfolding keyChecked allMpints sizesFit
-checks-pass (OnCurve e) key x next fits fit = rw (eq-eqb _ _ (fits .0), eq-eqb _ _ (fit .0), fits .1)
+checks-pass (OnCurve e) key x next fits fit =
+    rw (
+      eq-eqb _ _ (fits .0),
+      eq-eqb _ _ (filled-private e (x .scalar) (fits-allowed e (x .scalar) (fit .0))),
+      fits .1,
+      filled-zero e (x .scalar),
+      fits-some e (x .scalar) (fit .0),
+    )
 checks-pass Rsa key x next fits fit =
     let n = fits .0 in
     let m = fit .0 in

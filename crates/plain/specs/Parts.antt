@@ -1,7 +1,6 @@
 -- The fields of a plain image, as they are put, and that they join to it.
 use Prim.Native.Nat.{ℕ, _+_}
 use mathlib.Core.Path.{_≡_, sym, _∙_, ap}
-use mathlib.Core.Bool.{Bool}
 use mathlib.Core.List.{List, [], _∷_, _++_, append-assoc, append-nil}
 use lib.ListN.{length, take}
 use Rattle.fields.specs.Bytes.{uint32, string, join}
@@ -16,8 +15,8 @@ use Rattle.format.specs.Laws.{content-then}
 use Rattle.format.specs.Lengths.{LengthsFit, blobLength, keypairLength, written-length}
 
 -- the fields of a keypair over a curve, as they are put
-abbrev pub keypairFields : Elliptic → Bool → PublicBytes → PrivateBytes → List (List ℕ)
-keypairFields e zero key x = blob (OnCurve e) key ∷ privateField e (key .point) (standing zero (x .scalar)) ∷ []
+abbrev pub keypairFields : Elliptic → ℕ → PublicBytes → PrivateBytes → List (List ℕ)
+keypairFields e zeros key x = blob (OnCurve e) key ∷ privateField e (key .point) (standing zeros (x .scalar)) ∷ []
 
 -- the fields of a section, as they are put
 unfoldable pub sectionFields : ℕ → List ℕ → List ℕ → List (List ℕ)
@@ -36,9 +35,9 @@ plainFields n key pair comment =
 -- ---- they join to what the format writes
 
 pub keypair-joined :
-    (e : Elliptic) (zero : Bool) (key : PublicBytes) (x : PrivateBytes) → join (keypairFields e zero key x) ≡ keypair (OnCurve e) zero key x
+    (e : Elliptic) (zeros : ℕ) (key : PublicBytes) (x : PrivateBytes) → join (keypairFields e zeros key x) ≡ keypair (OnCurve e) zeros key x
 unfolding blob keypair
-keypair-joined e zero key x = simp (append-assoc, append-nil)
+keypair-joined e zeros key x = simp (append-assoc, append-nil)
 
 pub section-joined : (n : ℕ) (pair comment : List ℕ) → join (sectionFields n pair comment) ≡ section n pair comment
 unfolding sectionFields section

@@ -1,5 +1,6 @@
 -- Document 01, 'Writing'. Order, plain: a length wrong for the kind 1; point tag 2; comment 7; size 11; room 9.
--- Document 02, request Two: the writer takes the six mpints and refuses 2, then 1, before the comment's 7.
+-- Document 02, request Two: the writer takes the six mpints and refuses 2, then 1, before the comment's 7. Request Five: a scalar of zeros
+-- is 2, beside the point tag.
 use Prim.Native.Nat.{ℕ}
 use mathlib.Core.Bool.{Bool, _&&_}
 use mathlib.Core.List.{List}
@@ -10,7 +11,7 @@ use Rattle.names.specs.declared.Algorithm.{Algorithm}
 use Rattle.names.specs.declared.Algorithm.the-variants.{Elliptic as OnCurve, Rsa}
 use Rattle.utf8.specs.Utf8.{utf8}
 use Rattle.mpint.specs.Mpint.{isMpint, modulusFits, atMost}
-use Rattle.format.specs.Format.{PublicBytes, PrivateBytes, publicLength, privateLength, pointTag, writtenImage}
+use Rattle.format.specs.Format.{PublicBytes, PrivateBytes, publicLength, privateLength, pointTag, notZero, writtenImage}
 use Rattle.reply.specs.declared.Written.{Written}
 use Rattle.reply.specs.Reply.{unless, left, sized, answers}
 
@@ -35,7 +36,8 @@ keyChecked (OnCurve e) key x next =
     unless (eqb (length (key .point)) (publicLength e)) Length
     (unless (eqb (length (x .scalar)) (privateLength e)) Length
     (unless (pointTag e (key .point)) FormatEncoding
-    next))
+    (unless (notZero e (x .scalar)) FormatEncoding
+    next)))
 keyChecked Rsa key x next = unless (allMpints key x) FormatEncoding (unless (sizesFit key x) Length next)
 
 unfoldable pub plainReply : Algorithm → PublicBytes → PrivateBytes → ℕ → List ℕ → ℕ → Written

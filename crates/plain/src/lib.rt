@@ -5,12 +5,12 @@ ghost use mathlib.Core.List.{_++_};
 ghost use Prim.Native.Nat.{_+_, _<_};
 ghost use lib.ListN.{length};
 ghost use Rattle.fields.specs.Bytes.{string};
-ghost use Rattle.names.specs.declared.Elliptic.the-variants.{Ecdsa};
 ghost use Rattle.names.specs.declared.Algorithm.the-variants.{Elliptic as OnCurve};
-ghost use Rattle.format.specs.Format.{ofPoint, ofScalar, curveField, publicLength, privateLength, pointTag, blob, privateField, standing, leadingZero, scalarZero, keypair, paddingLength, section, writtenImage};
+ghost use Rattle.format.specs.Format.{ofPoint, ofScalar, curveField, publicLength, pointTag, notZero, blob, privateField, minimal, leadingZero, zeroLength, scalarFilled, LengthAllowed, writtenScalar, writtenPair, paddingLength, section, writtenImage};
 ghost use Rattle.format.specs.Lengths.{pointBlobLength, privateFieldLength, contentLength};
 ghost use Rattle.buffer.specs.Puts.{isPut};
 ghost use Rattle.buffer.specs.Runs.{isRun};
+ghost use Rattle.mpint.specs.Mpint.{significant};
 ghost use Rattle.material.specs.Material.{publicOf, privateOf, checkintOf};
 ghost use Rattle.reply.specs.Reply.{isSized};
 ghost use Rattle.plain.specs.Plain.{isPlain};
@@ -55,21 +55,35 @@ fn put_two(out: &mut [u8], at: usize, first: &[u8], second: &[u8]) -> usize
     buffer::put(out, b, second)
 }
 
-// A scalar of any size, after a zero where its first byte asks for one.
+// A scalar of any size without its leading zeros.
+fn trimmed(scalar: &[u8]) -> &[u8]
+    ensures { λ r. ⌜ now r ≡ significant (now (scalar .entry)) ⌝ }
+{
+    let zeros = mpint::zeros_before(scalar);
+    let part = Part {
+        start: zeros,
+        length: scalar.len() - zeros,
+    };
+    fields::view(scalar, part)
+}
+
+// A scalar of any size as the minimal mpint: without its leading zeros, after a zero where the first byte that
+// is left asks for one.
 fn put_scalar(out: &mut [u8], at: usize, scalar: &[u8]) -> usize
     requires { ⌜ length (now scalar) < 255 ⌝ }
-    ensures { λ r. ⌜ isRun (now (out .entry)) at (string (standing (leadingZero (now (scalar .entry))) (now (scalar .entry)))) r (now (out .exit)) ⌝ }
+    ensures { λ r. ⌜ isRun (now (out .entry)) at (string (minimal (now (scalar .entry)))) r (now (out .exit)) ⌝ }
 {
-    if keys::needs_leading_zero(scalar) {
-        return put_two(out, at, b"\0", scalar);
+    let bytes = trimmed(scalar);
+    if keys::needs_leading_zero(bytes) {
+        return put_two(out, at, b"\0", bytes);
     }
-    buffer::put_string(out, at, scalar)
+    buffer::put_string(out, at, bytes)
 }
 
 // The private bytes: seed and public string in one string, or the scalar.
 fn put_private(out: &mut [u8], at: usize, algorithm: Elliptic, point: &[u8], scalar: &[u8]) -> usize
     requires { ⌜ (length (now point) < 134) × (length (now scalar) < 67) ⌝ }
-    ensures { λ r. ⌜ isRun (now (out .entry)) at (privateField algorithm (now (point .entry)) (standing (scalarZero algorithm (now (scalar .entry))) (now (scalar .entry)))) r (now (out .exit)) ⌝ }
+    ensures { λ r. ⌜ isRun (now (out .entry)) at (privateField algorithm (now (point .entry)) (writtenScalar algorithm (now (scalar .entry)))) r (now (out .exit)) ⌝ }
 {
     match algorithm {
         Elliptic::Ed25519 => put_two(out, at, scalar, point),
@@ -92,29 +106,31 @@ fn blob_length(algorithm: Elliptic) -> usize
     }
 }
 
-fn scalar_length(curve: Curve, scalar: &[u8]) -> usize
-    ensures { λ r. ⌜ (r ≡ privateFieldLength (Ecdsa curve) (now (scalar .entry))) × (r < 256) ⌝ }
+fn scalar_length(scalar: &[u8]) -> usize
+    requires { ⌜ length (now scalar) < 67 ⌝ }
+    ensures { λ r. ⌜ (r ≡ 4 + zeroLength (leadingZero (significant (now (scalar .entry)))) + length (significant (now (scalar .entry)))) × (r < 256) ⌝ }
 {
-    let size = curve.size();
-    if keys::needs_leading_zero(scalar) {
-        return 5 + size;
+    let bytes = trimmed(scalar);
+    if keys::needs_leading_zero(bytes) {
+        return 5 + bytes.len();
     }
-    4 + size
+    4 + bytes.len()
 }
 
 fn private_length(algorithm: Elliptic, scalar: &[u8]) -> usize
+    requires { ⌜ length (now scalar) < 67 ⌝ }
     ensures { λ r. ⌜ (r ≡ privateFieldLength algorithm (now (scalar .entry))) × (r < 256) ⌝ }
 {
     match algorithm {
         Elliptic::Ed25519 => 68,
-        Elliptic::Ecdsa(curve) => scalar_length(curve, scalar),
+        Elliptic::Ecdsa(_) => scalar_length(scalar),
     }
 }
 
 // A keypair: the public key and the private bytes.
 fn put_pair(out: &mut [u8], at: usize, algorithm: Elliptic, point: &[u8], scalar: &[u8]) -> usize
-    requires { ⌜ (length (now point) ≡ publicLength algorithm) × (length (now scalar) ≡ privateLength algorithm) ⌝ }
-    ensures { λ r. ⌜ isRun (now (out .entry)) at (keypair (OnCurve algorithm) (scalarZero algorithm (now (scalar .entry))) (ofPoint (now (point .entry))) (ofScalar (now (scalar .entry)))) r (now (out .exit)) ⌝ }
+    requires { ⌜ (length (now point) ≡ publicLength algorithm) × LengthAllowed algorithm (now scalar) ⌝ }
+    ensures { λ r. ⌜ isRun (now (out .entry)) at (writtenPair (OnCurve algorithm) (ofPoint (now (point .entry))) (ofScalar (now (scalar .entry)))) r (now (out .exit)) ⌝ }
 {
     let a = put_key(out, at, algorithm, point);
     put_private(out, a, algorithm, point, scalar)
@@ -131,9 +147,9 @@ fn put_section(
     comment: &[u8],
     padding: usize,
 ) -> usize
-    requires { ⌜ (length (now point) ≡ publicLength algorithm) × (length (now scalar) ≡ privateLength algorithm) ⌝ }
+    requires { ⌜ (length (now point) ≡ publicLength algorithm) × LengthAllowed algorithm (now scalar) ⌝ }
     requires { ⌜ padding ≡ paddingLength (contentLength (OnCurve algorithm) (ofPoint (now point)) (ofScalar (now scalar)) (length (now comment))) ⌝ }
-    ensures { λ r. ⌜ isRun (now (out .entry)) at (section checkint (keypair (OnCurve algorithm) (scalarZero algorithm (now (scalar .entry))) (ofPoint (now (point .entry))) (ofScalar (now (scalar .entry)))) (now (comment .entry))) r (now (out .exit)) ⌝ }
+    ensures { λ r. ⌜ isRun (now (out .entry)) at (section checkint (writtenPair (OnCurve algorithm) (ofPoint (now (point .entry))) (ofScalar (now (scalar .entry)))) (now (comment .entry))) r (now (out .exit)) ⌝ }
 {
     let a = buffer::put_uint32(out, at, checkint as usize);
     let b = buffer::put_uint32(out, a, checkint as usize);
@@ -152,7 +168,7 @@ fn put_plain(
     comment: &[u8],
     content: usize,
 ) -> usize
-    requires { ⌜ (length (now point) ≡ publicLength algorithm) × (length (now scalar) ≡ privateLength algorithm) ⌝ }
+    requires { ⌜ (length (now point) ≡ publicLength algorithm) × LengthAllowed algorithm (now scalar) ⌝ }
     requires { ⌜ (content ≡ contentLength (OnCurve algorithm) (ofPoint (now point)) (ofScalar (now scalar)) (length (now comment))) × (content < 65536) ⌝ }
     ensures { λ r. ⌜ isRun (now (out .entry)) 0 (writtenImage checkint (OnCurve algorithm) (ofPoint (now (point .entry))) (ofScalar (now (scalar .entry))) (now (comment .entry))) r (now (out .exit)) ⌝ }
 {
@@ -174,7 +190,7 @@ fn write_sized(
     comment: &[u8],
     out: &mut [u8],
 ) -> Written
-    requires { ⌜ (length (now point) ≡ publicLength algorithm) × (length (now scalar) ≡ privateLength algorithm) ⌝ }
+    requires { ⌜ (length (now point) ≡ publicLength algorithm) × LengthAllowed algorithm (now scalar) ⌝ }
     ensures { λ r. ⌜ isSized (writtenImage checkint (OnCurve algorithm) (ofPoint (now (point .entry))) (ofScalar (now (scalar .entry))) (now (comment .entry))) (now (out .entry)) r (now (out .exit)) ⌝ }
 {
     if 65535 < comment.len() {
@@ -203,7 +219,64 @@ fn tagged(algorithm: Elliptic, point: &[u8]) -> bool
     }
 }
 
-// A plain image of lent parts: the public string or point, the seed or scalar.
+// Is a scalar above zero? A seed may be zero.
+fn not_zero(algorithm: Elliptic, scalar: &[u8]) -> bool
+    ensures { λ r. ⌜ r ≡ notZero algorithm (now (scalar .entry)) ⌝ }
+{
+    match algorithm {
+        Elliptic::Ed25519 => true,
+        Elliptic::Ecdsa(_) => mpint::zeros_before(scalar) < scalar.len(),
+    }
+}
+
+// How long private bytes are with zeros filled in front of a scalar.
+fn filled_length(algorithm: Elliptic, scalar: &[u8]) -> usize
+    ensures { λ r. ⌜ r ≡ length (scalarFilled algorithm (now (scalar .entry))) ⌝ }
+{
+    let length = scalar.len();
+    match algorithm {
+        Elliptic::Ed25519 => length,
+        Elliptic::Ecdsa(curve) => {
+            let size = curve.size();
+            if length < size {
+                return size;
+            }
+            length
+        }
+    }
+}
+
+// A plain image of lent parts: the public string or point; the seed, or a scalar of at most its size, which is
+// filled with zeros in front. A record's scalar is written again so.
+pub fn write_filled(
+    algorithm: Elliptic,
+    point: &[u8],
+    scalar: &[u8],
+    checkint: u32,
+    comment: &[u8],
+    out: &mut [u8],
+) -> Written
+    ensures { λ r. ⌜ isPlain (OnCurve algorithm) (ofPoint (now (point .entry))) (ofScalar (scalarFilled algorithm (now (scalar .entry)))) checkint (now (comment .entry)) (now (out .entry)) r (now (out .exit)) ⌝ }
+{
+    if point.len() != keys::public_length(algorithm) {
+        return reply::refused(Refusal::Length);
+    }
+    if filled_length(algorithm, scalar) != keys::private_length(algorithm) {
+        return reply::refused(Refusal::Length);
+    }
+    if !tagged(algorithm, point) {
+        return reply::refused(Refusal::FormatEncoding);
+    }
+    if !not_zero(algorithm, scalar) {
+        return reply::refused(Refusal::FormatEncoding);
+    }
+    if !utf8::is_utf8(comment) {
+        return reply::refused(Refusal::CharacterEncoding);
+    }
+    write_sized(algorithm, point, scalar, checkint, comment, out)
+}
+
+// A plain image of lent parts: the public string or point, the seed or scalar of exactly its length.
 pub fn write_parts(
     algorithm: Elliptic,
     point: &[u8],
@@ -214,19 +287,10 @@ pub fn write_parts(
 ) -> Written
     ensures { λ r. ⌜ isPlain (OnCurve algorithm) (ofPoint (now (point .entry))) (ofScalar (now (scalar .entry))) checkint (now (comment .entry)) (now (out .entry)) r (now (out .exit)) ⌝ }
 {
-    if point.len() != keys::public_length(algorithm) {
-        return reply::refused(Refusal::Length);
-    }
     if scalar.len() != keys::private_length(algorithm) {
         return reply::refused(Refusal::Length);
     }
-    if !tagged(algorithm, point) {
-        return reply::refused(Refusal::FormatEncoding);
-    }
-    if !utf8::is_utf8(comment) {
-        return reply::refused(Refusal::CharacterEncoding);
-    }
-    write_sized(algorithm, point, scalar, checkint, comment, out)
+    write_filled(algorithm, point, scalar, checkint, comment, out)
 }
 
 // A plain image of key material, with the given checkint or the derived one.

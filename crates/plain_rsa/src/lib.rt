@@ -6,7 +6,6 @@ ghost use lib.ListN.{length};
 ghost use Rattle.names.specs.declared.Algorithm.the-variants.{Rsa};
 ghost use Rattle.mpint.specs.Mpint.{modulusFits};
 ghost use Rattle.format.specs.Format.{ofModulus, ofNumbers, blob, keypair, paddingLength, section, writtenImage};
-ghost use mathlib.Core.Bool.{false};
 ghost use Rattle.format.specs.Lengths.{contentLength};
 ghost use Rattle.buffer.specs.Runs.{isRun};
 ghost use Rattle.material.specs.Material.{checkintOf};
@@ -69,7 +68,7 @@ fn put_pair(
     p: &[u8],
     q: &[u8],
 ) -> usize
-    ensures { λ r. ⌜ isRun (now (out .entry)) at (keypair Rsa false (ofModulus (now (n .entry)) (now (e .entry))) (ofNumbers (now (d .entry)) (now (iqmp .entry)) (now (p .entry)) (now (q .entry)))) r (now (out .exit)) ⌝ }
+    ensures { λ r. ⌜ isRun (now (out .entry)) at (keypair Rsa 0 (ofModulus (now (n .entry)) (now (e .entry))) (ofNumbers (now (d .entry)) (now (iqmp .entry)) (now (p .entry)) (now (q .entry)))) r (now (out .exit)) ⌝ }
 {
     let at_n = spelling::put_name_string(out, at, spelling::algorithm_name(Algorithm::Rsa));
     let at_e = buffer::put_string(out, at_n, n);
@@ -95,7 +94,7 @@ fn put_section(
     padding: usize,
 ) -> usize
     requires { ⌜ padding ≡ paddingLength (contentLength Rsa (ofModulus (now n) (now e)) (ofNumbers (now d) (now iqmp) (now p) (now q)) (length (now comment))) ⌝ }
-    ensures { λ r. ⌜ isRun (now (out .entry)) at (section checkint (keypair Rsa false (ofModulus (now (n .entry)) (now (e .entry))) (ofNumbers (now (d .entry)) (now (iqmp .entry)) (now (p .entry)) (now (q .entry)))) (now (comment .entry))) r (now (out .exit)) ⌝ }
+    ensures { λ r. ⌜ isRun (now (out .entry)) at (section checkint (keypair Rsa 0 (ofModulus (now (n .entry)) (now (e .entry))) (ofNumbers (now (d .entry)) (now (iqmp .entry)) (now (p .entry)) (now (q .entry)))) (now (comment .entry))) r (now (out .exit)) ⌝ }
 {
     let first = buffer::put_uint32(out, at, checkint as usize);
     let second = buffer::put_uint32(out, first, checkint as usize);

@@ -2,7 +2,7 @@
 use Prim.Native.Nat.{ℕ, _+_, _-_, _%_, _<_, _^_}
 use native.Mathlib.Omega.{arith}
 use mathlib.Core.Path.{_≡_, refl, sym, _∙_, ap}
-use mathlib.Core.Bool.{Bool, true}
+use mathlib.Core.Bool.{true}
 use mathlib.Core.List.{List, [], _++_, append-nil}
 use borrow.Author.Tests.{eq-eqb, eqb-true, lt-ltb}
 use lib.Dec.{eqb}
@@ -22,7 +22,7 @@ use Rattle.names.specs.declared.Cipher.{Cipher}
 use Rattle.names.specs.Algorithms.{algorithm-self}
 use Rattle.names.specs.Ciphers.{blockSize, tagLength}
 use Rattle.utf8.specs.Utf8.{utf8}
-use Rattle.format.specs.Format.{PublicBytes, PrivateBytes, PublicFits, PrivateFits, mayStand, keypair, content, section, paddingLength, paddingBytes}
+use Rattle.format.specs.Format.{PublicBytes, PrivateBytes, PublicFits, PrivateFits, MayStand, keypair, content, section, paddingLength, paddingBytes}
 use Rattle.keys.specs.declared.Public.{Public}
 use Rattle.keys.specs.Keys.{publicBytes}
 use Rattle.pairs.specs.declared.Private.{Private}
@@ -64,10 +64,10 @@ padding-back s c good n e =
     (rw (seen, left, lt-ltb (paddingLength n) 8 (omega arith), same-self (take (paddingLength n) paddingBytes)), left)
 
 -- a key that fits the format, a scalar in a form that it may have, and a comment that is UTF-8
-pub record KeyFits (a : Algorithm) (zero : Bool) (key : PublicBytes) (x : PrivateBytes) (comment : List ℕ) : Type 0 where
+pub record KeyFits (a : Algorithm) (zeros : ℕ) (key : PublicBytes) (x : PrivateBytes) (comment : List ℕ) : Type 0 where
   pub public : PublicFits a key
   pub private : PrivateFits a key x
-  pub may : mayStand a zero ≡ true
+  pub may : MayStand a zeros x
   pub text : utf8 comment ≡ true
 
 record EntryBack (s : List ℕ) (w : Entry) (x : PrivateBytes) (comment t : List ℕ) : Type 0 where
@@ -99,12 +99,12 @@ key-self s a p q e =
     )
 
 entry-back :
-    (s : List ℕ) (c : Cursor) → Good s c → length s < 2 ^ 32 → (a : Algorithm) (q : Public) (zero : Bool) (x : PrivateBytes) (comment t : List ℕ)
-    → KeyFits a zero (publicBytes s q) x comment → rest s c ≡ keypair a zero (publicBytes s q) x ++ (string comment ++ t)
+    (s : List ℕ) (c : Cursor) → Good s c → length s < 2 ^ 32 → (a : Algorithm) (q : Public) (zeros : ℕ) (x : PrivateBytes) (comment t : List ℕ)
+    → KeyFits a zeros (publicBytes s q) x comment → rest s c ≡ keypair a zeros (publicBytes s q) x ++ (string comment ++ t)
     → EntryBack s (entryAt s c a q) x comment t
 unfolding entryAt
-entry-back s c good small a q zero x comment t fits e =
-    let p = keypair-back s c good small a zero (publicBytes s q) x (string comment ++ t) (fits .public) (fits .private) (fits .may) e in
+entry-back s c good small a q zeros x comment t fits e =
+    let p = keypair-back s c good small a zeros (publicBytes s q) x (string comment ++ t) (fits .public) (fits .private) (fits .may) e in
     let m = string-back s (p .next) (p .good) comment t (short-of s (p .next) (p .good) small comment t (p .more)) (p .more) in
     record {
       private = p .private;
@@ -130,19 +130,19 @@ pub record PlainBack (s : List ℕ) (w : SectionRead) (n : ℕ) (x : PrivateByte
   pub same-padding : fields .padding ≡ padding
 
 content-back :
-    (s : List ℕ) (c : Cursor) → Good s c → length s < 2 ^ 32 → (a : Algorithm) (q : Public) (zero : Bool) (n : ℕ) (x : PrivateBytes) (comment : List ℕ)
-    → n < 2 ^ 32 → KeyFits a zero (publicBytes s q) x comment
-    → rest s c ≡ section n (keypair a zero (publicBytes s q) x) comment
-    → PlainBack s (contentAt s c a q) n x comment (paddingLength (length (content n (keypair a zero (publicBytes s q) x) comment)))
+    (s : List ℕ) (c : Cursor) → Good s c → length s < 2 ^ 32 → (a : Algorithm) (q : Public) (zeros : ℕ) (n : ℕ) (x : PrivateBytes) (comment : List ℕ)
+    → n < 2 ^ 32 → KeyFits a zeros (publicBytes s q) x comment
+    → rest s c ≡ section n (keypair a zeros (publicBytes s q) x) comment
+    → PlainBack s (contentAt s c a q) n x comment (paddingLength (length (content n (keypair a zeros (publicBytes s q) x) comment)))
 unfolding contentAt section
-content-back s c good small a q zero n x comment fit fits e =
-    let pair = keypair a zero (publicBytes s q) x in
+content-back s c good small a q zeros n x comment fit fits e =
+    let pair = keypair a zeros (publicBytes s q) x in
     let size = length (content n pair comment) in
     let padding = take (paddingLength size) paddingBytes in
     let long : c .end - c .at ≡ size + paddingLength size =
     sym (length-slice (c .at) (c .end) s (good .1)) ∙ ap length e ∙ section-length n pair comment in
     let k = checkints-back s c good n (pair ++ (string comment ++ padding)) fit (e ∙ content-then n pair comment padding) in
-    let m = entry-back s (k .next) (k .good) small a q zero x comment padding fits (k .more) in
+    let m = entry-back s (k .next) (k .good) small a q zeros x comment padding fits (k .more) in
     let p = padding-back s (m .next) (m .good) size (m .more) in
     let whole : (c .end - c .at) % 8 ≡ 0 = omega arith in
     record {
@@ -166,16 +166,16 @@ content-back s c good small a q zero n x comment fit fits e =
     }
 
 pub plain-back :
-    (s : List ℕ) (c : Cursor) → Good s c → length s < 2 ^ 32 → (a : Algorithm) (q : Public) (zero : Bool) (n : ℕ) (x : PrivateBytes) (comment : List ℕ)
-    → n < 2 ^ 32 → KeyFits a zero (publicBytes s q) x comment
-    → rest s c ≡ string (section n (keypair a zero (publicBytes s q) x) comment)
-    → PlainBack s (plainAt s c a q) n x comment (paddingLength (length (content n (keypair a zero (publicBytes s q) x) comment)))
+    (s : List ℕ) (c : Cursor) → Good s c → length s < 2 ^ 32 → (a : Algorithm) (q : Public) (zeros : ℕ) (n : ℕ) (x : PrivateBytes) (comment : List ℕ)
+    → n < 2 ^ 32 → KeyFits a zeros (publicBytes s q) x comment
+    → rest s c ≡ string (section n (keypair a zeros (publicBytes s q) x) comment)
+    → PlainBack s (plainAt s c a q) n x comment (paddingLength (length (content n (keypair a zeros (publicBytes s q) x) comment)))
 unfolding plainAt
-plain-back s c good small a q zero n x comment fit fits e =
-    let b = section n (keypair a zero (publicBytes s q) x) comment in
+plain-back s c good small a q zeros n x comment fit fits e =
+    let b = section n (keypair a zeros (publicBytes s q) x) comment in
     let e′ = e ∙ sym (append-nil (string b)) in
     let p = string-back s c good b [] (short-of s c good small b [] e′) e′ in
-    let k = content-back s (within (p .place)) (omega (arith, p .inside)) small a q zero n x comment fit fits (rest-within s (p .place) (p .inside) ∙ p .seen) in
+    let k = content-back s (within (p .place)) (omega (arith, p .inside)) small a q zeros n x comment fit fits (rest-within s (p .place) (p .inside) ∙ p .seen) in
     record {
       fields = k .fields;
       read = rw (p .read, k .read, end-back s (p .next) (p .good) (p .more));

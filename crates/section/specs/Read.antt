@@ -2,7 +2,7 @@
 use Prim.Native.Nat.{ℕ, _+_, _-_, _%_, _≤_, _<_, _^_}
 use native.Mathlib.Omega.{arith}
 use mathlib.Core.Path.{_≡_, refl, sym, _∙_, ap}
-use mathlib.Core.Bool.{Bool, true}
+use mathlib.Core.Bool.{true}
 use mathlib.Core.List.{List, _++_, append-nil}
 use borrow.Author.Tests.{eqb-true, ltb-true}
 use lib.Dec.{eqb, ltb}
@@ -28,8 +28,8 @@ use Rattle.pairs.specs.declared.Private.{Private}
 use Rattle.format.specs.Laws.{content-then}
 use Rattle.pairs.specs.declared.Keypair.{Keypair}
 use Rattle.pairs.specs.declared.Keypair.the-variants as keypair
-use Rattle.pairs.specs.Pairs.{privateBytes, keypairAt, afterZero}
-use Rattle.key_laws.specs.ReadPair.{IfScalar, PairRead, keypair-read}
+use Rattle.pairs.specs.Pairs.{privateBytes, keypairAt}
+use Rattle.key_laws.specs.ReadPair.{IfScalar, Begins, PairRead, keypair-read}
 use Rattle.section.specs.declared.Entry.{Entry}
 use Rattle.section.specs.declared.Entry.the-variants as entry
 use Rattle.section.specs.declared.Kind.the-variants.{Plain}
@@ -100,12 +100,12 @@ module _ (s : List ℕ) (all : AllBytes s) where
 
   -- an accepted key: its keypair, which has the blob's public key, and its comment
   record EntryRead (c : Cursor) (a : Algorithm) (q : Public) (x : Private) (m : Part) (d : Cursor) : Type 0 where
-    pub zero : Bool
-    pub text : rest s c ≡ pair a zero (publicBytes s q) (privateBytes s x) ++ (string (viewOf s m) ++ rest s d)
-    pub fits : KeyFits a zero (publicBytes s q) (privateBytes s x) (viewOf s m)
-    pub after : IfScalar a (afterZero s (x .scalar) ≡ zero)
+    pub zeros : ℕ
+    pub text : rest s c ≡ pair a zeros (publicBytes s q) (privateBytes s x) ++ (string (viewOf s m) ++ rest s d)
+    pub fits : KeyFits a zeros (publicBytes s q) (privateBytes s x) (viewOf s m)
+    pub begins : IfScalar a (Begins s (x .scalar) zeros)
     pub good : Good s d
-    pub place : m .start ≡ c .at + length (pair a zero (publicBytes s q) (privateBytes s x)) + 4
+    pub place : m .start ≡ c .at + length (pair a zeros (publicBytes s q) (privateBytes s x)) + 4
 
   -- where the comment of an accepted key begins
   comment-starts :
@@ -122,11 +122,11 @@ module _ (s : List ℕ) (all : AllBytes s) where
       (c : Cursor) (a : Algorithm) (p q : Public) (x : Private) (m : Part) (b d : Cursor) → PairRead s all c a p x b → publicBytes s p ≡ publicBytes s q
       → StringRead s b m d → utf8 (viewOf s m) ≡ true → EntryRead c a q x m d
   entry-joined c a p q x m b d read public comment text =
-      let before = pair a (read .zero) (publicBytes s q) (privateBytes s x) in
+      let before = pair a (read .zeros) (publicBytes s q) (privateBytes s x) in
       let joined : rest s c ≡ before ++ (string (viewOf s m) ++ rest s d) =
       rw public at (read .text) ∙ ap (λ (l : List ℕ). before ++ l) (comment .text) in
       record {
-        zero = read .zero;
+        zeros = read .zeros;
         text = joined;
         place = comment-starts c b d before m (read .end) comment joined;
         fits =
@@ -136,7 +136,7 @@ module _ (s : List ℕ) (all : AllBytes s) where
               may = read .may;
               text = text;
             };
-        after = read .after;
+        begins = read .begins;
         good = omega (arith, comment .place .placed);
       }
 
@@ -179,13 +179,13 @@ module _ (s : List ℕ) (all : AllBytes s) where
 
   -- an accepted plain section
   pub record PlainRead (c : Cursor) (a : Algorithm) (q : Public) (x : Section) : Type 0 where
-    pub zero : Bool
+    pub zeros : ℕ
     pub plain : x .kind ≡ Plain
-    pub text : rest s c ≡ string (section (x .checkint) (pair a zero (publicBytes s q) (privateBytes s (x .private))) (viewOf s (x .comment)))
-    pub fits : KeyFits a zero (publicBytes s q) (privateBytes s (x .private)) (viewOf s (x .comment))
+    pub text : rest s c ≡ string (section (x .checkint) (pair a zeros (publicBytes s q) (privateBytes s (x .private))) (viewOf s (x .comment)))
+    pub fits : KeyFits a zeros (publicBytes s q) (privateBytes s (x .private)) (viewOf s (x .comment))
     pub checkint : x .checkint < 2 ^ 32
-    pub after : IfScalar a (afterZero s (x .private .scalar) ≡ zero)
-    pub place : x .comment .start ≡ c .at + 4 + beforeComment (pair a zero (publicBytes s q) (privateBytes s (x .private))) + 4
+    pub begins : IfScalar a (Begins s (x .private .scalar) zeros)
+    pub place : x .comment .start ≡ c .at + 4 + beforeComment (pair a zeros (publicBytes s q) (privateBytes s (x .private))) + 4
 
   -- how long the padding is follows from the multiple of 8
   padding-is : (n p : ℕ) → (n + p) % 8 ≡ 0 → p < 8 → p ≡ paddingLength n
@@ -195,10 +195,10 @@ module _ (s : List ℕ) (all : AllBytes s) where
   content-joined :
       (c : Cursor) (a : Algorithm) (q : Public) (n : ℕ) (d : Cursor) (x : Private) (m : Part) (b : Cursor) → c .end ≤ length s → (c .end - c .at) % 8 ≡ 0
       → checkintsAt s c ≡ answer.Value n d → (r : EntryRead d a q x m b) → paddingAt s b ≡ ending.Clean
-      → rest s c ≡ section n (pair a (r .zero) (publicBytes s q) (privateBytes s x)) (viewOf s m)
+      → rest s c ≡ section n (pair a (r .zeros) (publicBytes s q) (privateBytes s x)) (viewOf s m)
   unfolding section
   content-joined c a q n d x m b inside whole w r u =
-      let keys = pair a (r .zero) (publicBytes s q) (privateBytes s x) in
+      let keys = pair a (r .zeros) (publicBytes s q) (privateBytes s x) in
       let body = content n keys (viewOf s m) in
       let k = checkints-read c n d w in
       let p = padding-read s b (r .good) u in
@@ -215,13 +215,13 @@ module _ (s : List ℕ) (all : AllBytes s) where
 
   -- what reading the content found
   record ContentRead (c : Cursor) (a : Algorithm) (q : Public) (x : Section) : Type 0 where
-    pub zero : Bool
+    pub zeros : ℕ
     pub plain : x .kind ≡ Plain
-    pub text : rest s c ≡ section (x .checkint) (pair a zero (publicBytes s q) (privateBytes s (x .private))) (viewOf s (x .comment))
-    pub fits : KeyFits a zero (publicBytes s q) (privateBytes s (x .private)) (viewOf s (x .comment))
+    pub text : rest s c ≡ section (x .checkint) (pair a zeros (publicBytes s q) (privateBytes s (x .private))) (viewOf s (x .comment))
+    pub fits : KeyFits a zeros (publicBytes s q) (privateBytes s (x .private)) (viewOf s (x .comment))
     pub checkint : x .checkint < 2 ^ 32
-    pub after : IfScalar a (afterZero s (x .private .scalar) ≡ zero)
-    pub place : x .comment .start ≡ c .at + beforeComment (pair a zero (publicBytes s q) (privateBytes s (x .private))) + 4
+    pub begins : IfScalar a (Begins s (x .private .scalar) zeros)
+    pub place : x .comment .start ≡ c .at + beforeComment (pair a zeros (publicBytes s q) (privateBytes s (x .private))) + 4
 
   content-read : (c : Cursor) (a : Algorithm) (q : Public) (x : Section) → c .end ≤ length s → contentAt s c a q ≡ section-read.Section x → ContentRead c a q x
   unfolding contentAt
@@ -250,12 +250,12 @@ module _ (s : List ℕ) (all : AllBytes s) where
       let r = entry-read d a q y m b u in
       rw (← o)
       (record {
-        zero = r .zero;
+        zeros = r .zeros;
         plain = refl;
         text = content-joined c a q n d y m b inside (eqb-true _ _ w) v r t;
         fits = r .fits;
         checkint = checkints-read c n d v .1;
-        after = r .after;
+        begins = r .begins;
         place = r .place ∙ omega (arith, checkints-read c n d v .2);
       })))))
       (λ w. let g = rw w at e in clash cc)
@@ -279,15 +279,15 @@ module _ (s : List ℕ) (all : AllBytes s) where
       let r = string-read s all c p d w in
       let inside : p .start + p .length ≤ length s = omega (arith, r .place .placed) in
       let k = content-read (within p) a q x inside (v ∙ ap section-read.Section o) in
-      let body : viewOf s p ≡ section (x .checkint) (pair a (k .zero) (publicBytes s q) (privateBytes s (x .private))) (viewOf s (x .comment)) =
+      let body : viewOf s p ≡ section (x .checkint) (pair a (k .zeros) (publicBytes s q) (privateBytes s (x .private))) (viewOf s (x .comment)) =
       sym (rest-within s p inside) ∙ k .text in
       record {
-        zero = k .zero;
+        zeros = k .zeros;
         plain = k .plain;
         text =
             r .text ∙ ap (λ (l : List ℕ). string (viewOf s p) ++ l) (end-read s d u .0) ∙ append-nil (string (viewOf s p)) ∙ ap string body;
         fits = k .fits;
         checkint = k .checkint;
-        after = k .after;
+        begins = k .begins;
         place = k .place ∙ omega (arith, r .place .placed .start);
       })))

@@ -6,26 +6,26 @@ use mathlib.Core.List.{List}
 use lib.ListN.{length}
 use Rattle.fields.specs.Fields.{viewOf}
 use Rattle.fields.specs.declared.Refusal.the-variants.{Length}
-use Rattle.container.specs.Container.{publicIn, privateIn, onRead, readAt}
+use Rattle.container.specs.Container.{publicIn, materialIn, onRead, readAt}
 use Rattle.container.specs.Form.{onKind}
 use Rattle.container.specs.declared.Fields.{Fields}
 use Rattle.judge.specs.Judge.{isRead}
 use Rattle.reply.specs.Reply.{unless, answers}
 use Rattle.reply.specs.declared.Written.{Written}
 use Rattle.reply.specs.declared.Written.the-variants as written
-use Rattle.format.specs.Format.{PublicBytes, PrivateBytes, ofPoint, ofScalar, ofModulus, ofNumbers, blob, keypair, writtenImage}
+use Rattle.format.specs.Format.{PublicBytes, PrivateBytes, ofPoint, ofScalar, ofModulus, ofNumbers, scalarFilled, filled, blob, keypair, writtenImage}
 use Rattle.plain.specs.Plain.{allMpints, sizesFit, keyChecked, plainReply, plainLeft}
 use Rattle.names.specs.declared.Elliptic.{Elliptic}
 use Rattle.names.specs.declared.Algorithm.the-variants.{Elliptic as OnCurve, Rsa}
 use mathlib.Core.Path.{_≡_, refl}
 use Rattle.encrypted.specs.Encrypted.{encryptedReply, encryptedLeft}
 
--- a plain record's key, checkint and comment, written again
+-- a plain record's key, its scalar filled to SIZE, checkint and comment, written again
 unfoldable pub plainAgain : List ℕ → Fields → ℕ → Written
-plainAgain s f room = plainReply (f .header .algorithm) (publicIn s f) (privateIn s f) (f .section .checkint) (viewOf s (f .section .comment)) room
+plainAgain s f room = plainReply (f .header .algorithm) (publicIn s f) (materialIn s f) (f .section .checkint) (viewOf s (f .section .comment)) room
 
 unfoldable pub plainAgainLeft : List ℕ → Fields → List ℕ → List ℕ
-plainAgainLeft s f old = plainLeft (f .header .algorithm) (publicIn s f) (privateIn s f) (f .section .checkint) (viewOf s (f .section .comment)) old
+plainAgainLeft s f old = plainLeft (f .header .algorithm) (publicIn s f) (materialIn s f) (f .section .checkint) (viewOf s (f .section .comment)) old
 
 abbrev pub isPlainAgain : List ℕ → Fields → List ℕ → Written → List ℕ → Type 0
 isPlainAgain s f old r out = answers (plainAgain s f (length old)) (plainAgainLeft s f old) r out
@@ -71,8 +71,10 @@ isHanded s f old r out = answers (handedReply s f (length old)) (handedLeft s f 
 
 pub elliptic-only :
     (e : Elliptic) (key : PublicBytes) (x : PrivateBytes) (n : ℕ) (comment : List ℕ)
-    → ((room : ℕ) → plainReply (OnCurve e) (ofPoint (key .point)) (ofScalar (x .scalar)) n comment room ≡ plainReply (OnCurve e) key x n comment room)
-    × ((old : List ℕ) → plainLeft (OnCurve e) (ofPoint (key .point)) (ofScalar (x .scalar)) n comment old ≡ plainLeft (OnCurve e) key x n comment old)
+    → ((room : ℕ)
+    → plainReply (OnCurve e) (ofPoint (key .point)) (ofScalar (scalarFilled e (x .scalar))) n comment room ≡ plainReply (OnCurve e) key (filled (OnCurve e) x) n comment room)
+    × ((old : List ℕ)
+    → plainLeft (OnCurve e) (ofPoint (key .point)) (ofScalar (scalarFilled e (x .scalar))) n comment old ≡ plainLeft (OnCurve e) key (filled (OnCurve e) x) n comment old)
 unfolding plainReply plainLeft keyChecked writtenImage blob keypair
 elliptic-only e key x n comment = (λ room. refl, λ old. refl)
 

@@ -15,7 +15,7 @@ fn write_plain(image: &[u8], f: Fields, out: &mut [u8]) -> Written
     let algorithm = header.algorithm;
     let checkint = section.checkint;
     match algorithm {
-        Algorithm::Elliptic(e) => plain::write_parts(
+        Algorithm::Elliptic(e) => plain::write_filled(
             e,
             parts::point(image, f),
             parts::scalar(image, f),

@@ -252,6 +252,19 @@ fn is_mpint(bytes: &[u8]) -> bool {
     }
 }
 
+fn leading_zeros(number: &[u8]) -> usize {
+    number.iter().take_while(|byte| **byte == 0).count()
+}
+
+/// A number above zero as an mpint: without leading zeros, but with one before a first byte of 0x80 or more.
+fn as_mpint(number: &[u8]) -> Vec<u8> {
+    let mut fewest = number[leading_zeros(number)..].to_vec();
+    if fewest[0] >= 0x80 {
+        fewest.insert(0, 0);
+    }
+    fewest
+}
+
 /// The bits of a number without its leading zero bits.
 fn bits(number: &[u8]) -> usize {
     match number.iter().position(|byte| *byte != 0) {
@@ -390,19 +403,24 @@ fn read_seed(reader: &mut Reader, public: &[u8]) -> Result<Part, Refusal> {
     Ok(both)
 }
 
+/// A scalar of 1 to `size` bytes, or of one more with a zero first; the part is without its leading zeros.
 fn read_scalar(reader: &mut Reader, size: usize) -> Result<Part, Refusal> {
     let words = "the scalar's string";
     let field = reader.at;
     let mut string = reader.string(words)?;
-    if string.left() == size + 1 {
-        if string.bytes()[0] != 0 {
-            return refuse(2, field, words);
-        }
-        string.at += 1;
-        return Ok(string.part());
+    let (length, zeros) = (string.left(), leading_zeros(string.bytes()));
+    if length == 0 {
+        return refuse(1, field, words);
     }
-    reader.at = field;
-    Ok(reader.fixed(size, words)?.part())
+    if length > size + 1 {
+        return left_over(length - size, field + 4 + size, words);
+    }
+    let no_zero_first = length == size + 1 && zeros == 0;
+    if no_zero_first || zeros == length {
+        return refuse(2, field, words);
+    }
+    string.at += zeros;
+    Ok(string.part())
 }
 
 fn read_plain_section(section: &mut Reader, record: &mut Record) -> Result<(), Refusal> {
@@ -575,14 +593,12 @@ fn image_of(blob: &[u8], pair: &[u8], checkint: u32, comment: &[u8]) -> Vec<u8> 
     image
 }
 
-/// The image of a plain Ed25519 or ECDSA key of the right lengths.
+/// The image of a plain Ed25519 or ECDSA key; a scalar is above zero, with any zeros in front.
 fn plain_image(algorithm: u8, public: &[u8], private: &[u8], checkint: u32, comment: &[u8]) -> Vec<u8> {
-    let mut field = private.to_vec();
-    if algorithm == ED25519 {
-        field.extend_from_slice(public);
-    } else if private[0] >= 0x80 {
-        field.insert(0, 0);
-    }
+    let field = match algorithm {
+        ED25519 => [private, public].concat(),
+        _ => as_mpint(private),
+    };
     let blob = public_bytes(algorithm, public);
     let mut pair = blob.clone();
     put_string(&mut pair, &field);
@@ -680,7 +696,7 @@ pub fn write_plain(
     if (public.len(), private.len()) != lengths(algorithm) {
         return refuse(1, 0, HANDED_IN);
     }
-    if algorithm != ED25519 && public[0] != 4 {
+    if algorithm != ED25519 && (public[0] != 4 || leading_zeros(private) == private.len()) {
         return refuse(2, 0, HANDED_IN);
     }
     if std::str::from_utf8(comment).is_err() {

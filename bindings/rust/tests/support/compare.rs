@@ -3,6 +3,7 @@
 
 use std::collections::BTreeSet;
 
+use super::images::SIZES;
 use super::model::{self, Numbers, Part, Record, Refusal};
 use super::pairs::pairs;
 use super::{hex, seed};
@@ -209,6 +210,13 @@ fn header_unlike(header: &Header, record: &Record, bytes: &[u8]) -> Option<&'sta
     accessor_unlike!(header, record).or_else(|| view_unlike(&views, bytes))
 }
 
+/// The scalar with zeros in front to its curve's size.
+fn full_scalar(record: &Record) -> Vec<u8> {
+    let scalar = &record.scalar;
+    let size = if scalar.present { SIZES[usize::from(record.algorithm)] } else { 0 };
+    [&vec![0; size - scalar.bytes.len()][..], &scalar.bytes].concat()
+}
+
 fn image_unlike(image: &Image, record: &Record, bytes: &[u8]) -> Option<&'static str> {
     let checkint = if record.kind == model::ENCRYPTED { None } else { Some(record.checkint) };
     let of_the_section = [
@@ -216,6 +224,7 @@ fn image_unlike(image: &Image, record: &Record, bytes: &[u8]) -> Option<&'static
         ("checkint", image.checkint() == checkint),
         ("padding_len", image.padding_len() as u64 == record.padding),
         ("is_in_form", image.is_in_form() == record.form),
+        ("full_scalar", image.full_scalar(&mut [0xa5; EcdsaCurve::MAX_SIZE]) == full_scalar(record)),
     ];
     let views = [
         ("public_blob", image.public_blob(), &record.blob),

@@ -62,7 +62,9 @@ fn key_string(place: usize, old: &[u8], rng: &mut Rng) -> Vec<u8> {
         0 | 1 => name(rng),
         2 => {
             let length = *rng.pick(&[0, 31, 32, 33, 34, 48, 49, 64, 65, 66, 67, 97, 133]);
-            rng.bytes(length)
+            let mut zeros = vec![0; *rng.pick(&[0, 0, 0, length / 2, length])];
+            zeros.extend(rng.bytes(length - zeros.len()));
+            zeros
         }
         3 => {
             new.insert(0, *rng.pick(&[0, 1, 0x7f, 0x80]));
@@ -135,7 +137,7 @@ fn other_key(draft: &mut Draft, rng: &mut Rng) {
     }
 }
 
-/// The strings of a key of any kind, one in two scalars not in the form.
+/// The strings of a key of any kind, one in two scalars with a zero before all its bytes.
 fn any_key(rng: &mut Rng) -> (Vec<Vec<u8>>, Vec<Vec<u8>>) {
     let algorithm = rng.below(5) as u8;
     if algorithm == 4 {
@@ -150,7 +152,7 @@ fn any_key(rng: &mut Rng) -> (Vec<Vec<u8>>, Vec<Vec<u8>>) {
 fn other_curve(draft: &mut Draft, rng: &mut Rng) {
     let (named, curved) = (1 + rng.below(3), 1 + rng.below(3));
     let key = Key::new(curved as u8, rng);
-    let (mut blob, mut pair) = (key.blob(), key.pair(key.needs_zero()));
+    let (mut blob, mut pair) = (key.blob(), key.pair_in_form());
     if rng.one_in(2) {
         blob[0] = ALGORITHMS[named].into();
         draft.blob = blob;
@@ -196,11 +198,15 @@ fn part(draft: &mut Draft, rng: &mut Rng) {
 }
 
 fn shorten(bytes: &mut Vec<u8>) {
-    bytes.truncate(bytes.len() - 1);
+    bytes.pop();
+}
+
+fn flip_first(bytes: &mut [u8]) {
+    bytes.iter_mut().take(1).for_each(|byte| *byte ^= 1);
 }
 
 fn flip_last(bytes: &mut [u8]) {
-    bytes[bytes.len() - 1] ^= 1;
+    bytes.iter_mut().rev().take(1).for_each(|byte| *byte ^= 1);
 }
 
 /// The string that stands `place` places before the last.
@@ -235,7 +241,7 @@ fn other_kdf(draft: &mut Draft) {
 }
 
 /// A fault for each rule of the reader, the padding's last.
-const FAULTS: [fn(&mut Draft); 35] = [
+const FAULTS: [fn(&mut Draft); 38] = [
     |draft| draft.magic[14] = 1,
     |draft| draft.cipher.push(b'x'),
     |draft| draft.kdf.push(b'x'),
@@ -265,8 +271,11 @@ const FAULTS: [fn(&mut Draft); 35] = [
     |draft| back(&mut draft.pair, 1)[0] = 5,
     |draft| shorten(back(&mut draft.pair, 0)),
     |draft| back(&mut draft.pair, 0).extend([1; 6]),
-    |draft| back(&mut draft.pair, 0)[0] ^= 1,
+    |draft| flip_first(back(&mut draft.pair, 0)),
     |draft| flip_last(back(&mut draft.pair, 0)),
+    |draft| back(&mut draft.pair, 0).insert(0, 0),
+    |draft| back(&mut draft.pair, 0).fill(0),
+    |draft| back(&mut draft.pair, 0).clear(),
     |draft| draft.comment = b"oven\xff".to_vec(),
     |draft| draft.padding.extend(draft.padding.len() as u8 + 1..draft.padding.len() as u8 + 9),
     |draft| draft.padding.iter_mut().for_each(|byte| *byte += 1),
@@ -315,13 +324,22 @@ fn put_fault(draft: &mut Draft, faults: &[fn(&mut Draft)], place: usize) {
     }
 }
 
+/// The image with each fault.
+pub fn with_a_fault(draft: &Draft) -> Vec<Draft> {
+    let faults = faults(draft);
+    let with_fault = |place| {
+        let mut one = draft.clone();
+        put_fault(&mut one, &faults, place);
+        one
+    };
+    (0..faults.len()).map(with_fault).collect()
+}
+
 /// The image with each fault, and with every two of them.
 pub fn with_two_faults(draft: &Draft) -> Vec<Vec<u8>> {
     let faults = faults(draft);
     let mut images = Vec::new();
-    for first in 0..faults.len() {
-        let mut one = draft.clone();
-        put_fault(&mut one, &faults, first);
+    for (first, one) in with_a_fault(draft).into_iter().enumerate() {
         images.push(one.bytes());
         for second in first + 1..faults.len() {
             let mut two = one.clone();

@@ -54,22 +54,55 @@ impl Key {
         strings
     }
 
-    /// The strings of the section's keypair, with a zero before the scalar or without one.
-    pub fn pair(&self, zero: bool) -> Vec<Vec<u8>> {
-        let mut last = self.private.clone();
-        if self.algorithm == 0 {
-            last.extend_from_slice(&self.public);
-        } else if zero {
-            last.insert(0, 0);
-        }
+    /// The same key with that many zeros at the beginning of its private half, then `first`.
+    pub fn short(mut self, zeros: usize, first: u8) -> Self {
+        self.private[..zeros].fill(0);
+        self.private[zeros] = first;
+        self
+    }
+
+    /// The private half without leading zeros.
+    pub fn significant(&self) -> &[u8] {
+        let zeros = self.private.iter().take_while(|byte| **byte == 0).count();
+        &self.private[zeros..]
+    }
+
+    /// The strings of the section's keypair, the last of them as it is stored.
+    pub fn pair_of(&self, stored: Vec<u8>) -> Vec<Vec<u8>> {
         let mut strings = self.blob();
-        strings.push(last);
+        strings.push(stored);
         strings
     }
 
-    pub fn needs_zero(&self) -> bool {
-        self.private[0] >= 0x80
+    /// The strings of the section's keypair, with all bytes of the scalar and with a zero before them or without one.
+    pub fn pair(&self, zero: bool) -> Vec<Vec<u8>> {
+        let before: &[u8] = if zero { &[0] } else { &[] };
+        self.pair_of(match self.algorithm {
+            0 => [&self.private[..], &self.public].concat(),
+            _ => [before, &self.private].concat(),
+        })
     }
+
+    /// The strings of the section's keypair as the writer stores them: the scalar in the fewest bytes.
+    pub fn pair_in_form(&self) -> Vec<Vec<u8>> {
+        match self.algorithm {
+            0 => self.pair(false),
+            _ => self.pair_of(self.fewest_bytes()),
+        }
+    }
+
+    fn fewest_bytes(&self) -> Vec<u8> {
+        let number = self.significant();
+        match number[0] {
+            0x80.. => [&[0], number].concat(),
+            _ => number.to_vec(),
+        }
+    }
+}
+
+/// A made-up scalar as it may be stored: zeros, then `times` times the same byte.
+pub fn after_zeros(zeros: usize, byte: u8, times: usize) -> Vec<u8> {
+    [vec![0; zeros], vec![byte; times]].concat()
 }
 
 /// A made-up number of that many bits, as an mpint.
@@ -189,6 +222,7 @@ impl Draft {
         draft
     }
 
+    /// A plain image with all bytes of the scalar, and with a zero before them or without one.
     pub fn plain(key: &Key, zero: bool, checkint: u32, comment: &[u8]) -> Self {
         Self::of(key.blob(), key.pair(zero), checkint, comment)
     }
@@ -197,9 +231,14 @@ impl Draft {
         Self::of(key.blob(), key.pair(), checkint, comment)
     }
 
+    /// A plain image whose last string of the keypair is stored so.
+    pub fn stored(key: &Key, stored: Vec<u8>, checkint: u32, comment: &[u8]) -> Self {
+        Self::of(key.blob(), key.pair_of(stored), checkint, comment)
+    }
+
     /// A plain image in the writer's form.
     pub fn in_form(key: &Key, checkint: u32, comment: &[u8]) -> Self {
-        Self::plain(key, key.needs_zero(), checkint, comment)
+        Self::of(key.blob(), key.pair_in_form(), checkint, comment)
     }
 
     /// The plain image's header, then a made-up ciphertext of that many blocks; with KDF bcrypt or none.
@@ -292,17 +331,27 @@ pub fn sealed(algorithm: u8, cipher: u8, bcrypt: bool, blocks: usize, rng: &mut 
     Draft::plain(&Key::new(algorithm, rng), false, 0, b"").sealed(cipher, bcrypt, blocks, rng)
 }
 
-/// Plain images of every kind but RSA: comments of several lengths, scalars in the form and out of it.
+/// Beginnings of a stored scalar that is shorter than its curve's size: two in the form, one that lacks its zero, one with zeros too
+/// many.
+const SHORT: [&[u8]; 4] = [&[0x7f], &[0, 0x80], &[0x80], &[0, 0, 0x01]];
+
+/// How many plain images there are for each comment.
+pub const PLAIN_DRAFTS: usize = 16;
+
+/// Plain images of every kind but RSA: comments of several lengths, scalars in the form and out of it, long and short.
 pub fn plain_drafts(rng: &mut Rng) -> Vec<Draft> {
     let comments: [&[u8]; 4] = [b"", b"oven7", b"oven 7", "Bäckerei Süd, Ofen 7".as_bytes()];
     let mut drafts = Vec::new();
-    for comment in comments {
+    for (comment, short) in comments.into_iter().zip(SHORT) {
         drafts.push(Draft::plain(&Key::new(0, rng), false, rng.uint32(), comment));
         for algorithm in 1..4 {
             for (first, zero) in [(0x7f, false), (0x80, true), (0x7f, true), (0x80, false)] {
                 let key = Key::new(algorithm, rng).beginning(first);
                 drafts.push(Draft::plain(&key, zero, rng.uint32(), comment));
             }
+            let rest = rng.below(SIZES[usize::from(algorithm)] - short.len());
+            let stored = [short, &rng.bytes(rest)].concat();
+            drafts.push(Draft::stored(&Key::new(algorithm, rng), stored, rng.uint32(), comment));
         }
     }
     drafts
@@ -332,7 +381,7 @@ pub fn rsa_drafts(rng: &mut Rng) -> Vec<Draft> {
 }
 
 /// How many images [`drafts`] gives.
-pub const DRAFTS: u64 = 92;
+pub const DRAFTS: u64 = 104;
 
 pub fn drafts(rng: &mut Rng) -> Vec<Draft> {
     let mut all = plain_drafts(rng);

@@ -1,4 +1,4 @@
--- `container::scalar_stands` meets its contract: the kind and the two tests pick the case of `scalarStands`. Assumes nothing.
+-- `container::scalar_stands` meets its contract: the kind and the test of the first byte pick the case of `scalarStands`. Assumes nothing.
 use Rattle.container.specs.Form.{scalarStands}
 use borrow.Author.Needs.{needs}
 use Rattle.container.proofs.scalar_stands.Statement.{statement}
@@ -16,27 +16,23 @@ view-requires c κs = search needs
 needs-leading-zero-requires : tie.Need-needs-leading-zero-requires
 needs-leading-zero-requires c κs = search needs
 
-after-zero-requires : tie.Need-after-zero-requires
-after-zero-requires c κs = search needs
+begins-before-requires : tie.Need-begins-before-requires
+begins-before-requires c κs = search needs
 
 returns : tie.Need-returns
 unfolding scalarStands
-returns c = rw (c .before .before .before .before .enum-told2 .given .1, ← c .before .before .before .view .ensures .0, ← c .before .before .needs-leading-zero .ensures, c .before .if1 .taken, ← c .after-zero .ensures)
+returns c = rw (c .before .before .before .before .enum-told2 .given .1, ← c .before .before .before .view .ensures .0, ← c .before .before .needs-leading-zero .ensures, c .before .if1 .taken) (c .begins-before .ensures)
 
-after-zero-requires-2 : tie.Need-after-zero-requires-2
-after-zero-requires-2 c κs = search needs
+begins-before-requires-2 : tie.Need-begins-before-requires-2
+begins-before-requires-2 c κs = search needs
 
 returns-2 : tie.Need-returns-2
 unfolding scalarStands
-returns-2 c = rw (c .before .before .before .before .before .enum-told2 .given .1, ← c .before .before .before .before .view .ensures .0, ← c .before .before .before .needs-leading-zero .ensures, c .before .before .if1 .left, ← c .before .after-zero2 .ensures, c .if2 .taken)
+returns-2 c = rw (c .enum-told .given .1)
 
 returns-3 : tie.Need-returns-3
 unfolding scalarStands
-returns-3 c = rw (c .enum-told .given .1)
-
-returns-4 : tie.Need-returns-4
-unfolding scalarStands
-returns-4 c = rw (c .before .before .before .before .before .enum-told2 .given .1, ← c .before .before .before .before .view .ensures .0, ← c .before .before .before .needs-leading-zero .ensures, c .before .before .if1 .left, ← c .before .after-zero2 .ensures, c .if2 .left)
+returns-3 c = rw (c .before .before .before .before .enum-told2 .given .1, ← c .before .before .before .view .ensures .0, ← c .before .before .needs-leading-zero .ensures, c .before .if1 .left) (c .begins-before2 .ensures)
 
 pub scalar-stands-spec : {M : Type 1} → statement M
 scalar-stands-spec =
@@ -46,9 +42,8 @@ scalar-stands-spec =
     enum-told-2
     view-requires
     needs-leading-zero-requires
-    after-zero-requires
+    begins-before-requires
     returns
-    after-zero-requires-2
+    begins-before-requires-2
     returns-2
-    returns-3
-    returns-4)
+    returns-3)

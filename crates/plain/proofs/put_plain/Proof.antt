@@ -5,7 +5,7 @@ use Prim.Native.Nat.{_+_}
 use lib.ListN.{length}
 use Rattle.fields.specs.Bytes.{uint32, string}
 use Rattle.names.specs.declared.Algorithm.the-variants.{Elliptic as OnCurve}
-use Rattle.format.specs.Format.{ofPoint, ofScalar, magic, scalarZero, keypair, section, writtenImage, blob}
+use Rattle.format.specs.Format.{ofPoint, ofScalar, magic, writtenPair, section, writtenImage, blob}
 use Rattle.format.specs.Laws.{section-length}
 use Rattle.format.specs.Lengths.{blob-length, written-content-length}
 use Rattle.buffer.specs.Puts.{isPut}
@@ -54,7 +54,7 @@ returns c room =
     let h = b .pre .0 in
     let key = ofPoint (a .point .now) in
     let x = ofScalar (a .scalar .now) in
-    let pair = keypair (OnCurve (a .algorithm)) (scalarZero (a .algorithm) (a .scalar .now)) key x in
+    let pair = writtenPair (OnCurve (a .algorithm)) key x in
     let joined = plain-joined (a .checkint) (blob (OnCurve (a .algorithm)) key) pair (a .comment .now) in
     let long = written-content-length (a .checkint) (OnCurve (a .algorithm)) key x (a .comment .now) h in
     let size : c .before .before .before .before .before .before .before .before .before .before .before .before .before .before .before .blob-length .result ≡ length (blob (OnCurve (a .algorithm)) key) =

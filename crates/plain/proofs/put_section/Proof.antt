@@ -3,7 +3,7 @@
 use mathlib.Core.Path.{_≡_, sym, _∙_, ap}
 use lib.ListN.{length}
 use Rattle.names.specs.declared.Algorithm.the-variants.{Elliptic as OnCurve}
-use Rattle.format.specs.Format.{ofPoint, ofScalar, scalarZero, keypair, paddingLength, content}
+use Rattle.format.specs.Format.{ofPoint, ofScalar, writtenPair, paddingLength, content}
 use Rattle.format.specs.Lengths.{written-content-length}
 use Rattle.buffer.specs.Runs.{start-as, step, run, finish-as}
 use Rattle.plain.specs.Parts.{sectionFields, section-joined}
@@ -36,7 +36,7 @@ returns c room =
     let a = b .args in
     let key = ofPoint (a .point .now) in
     let x = ofScalar (a .scalar .now) in
-    let pair = keypair (OnCurve (a .algorithm)) (scalarZero (a .algorithm) (a .scalar .now)) key x in
+    let pair = writtenPair (OnCurve (a .algorithm)) key x in
     let joined = section-joined (a .checkint) pair (a .comment .now) in
     let long = written-content-length (a .checkint) (OnCurve (a .algorithm)) key x (a .comment .now) (b .pre .0) in
     let fewest : a .padding ≡ paddingLength (length (content (a .checkint) pair (a .comment .now))) = b .pre .1 ∙ ap paddingLength (sym long) in

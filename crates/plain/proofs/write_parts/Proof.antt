@@ -1,86 +1,56 @@
--- `plain::write_parts` meets its contract: each test is the definition's, in its order. Rests on the callees' contracts.
-use borrow.Author.Tests.{eq-eqb, ne-eqb, not-true, not-false}
-use mathlib.Core.Path.{refl, sym, _∙_}
+-- `plain::write_parts` meets its contract: bytes of exactly their length are filled already. Rests on the callees' contracts and
+-- on `filled-own`.
+use native.Mathlib.Omega.{arith}
+use borrow.Author.Tests.{ne-eqb}
+use mathlib.Core.Path.{_≡_, refl}
+use mathlib.Core.Bool.{Bool, true, false}
+use lib.ListN.{length}
+use Rattle.fields.specs.declared.Refusal.{Refusal}
+use Rattle.fields.specs.declared.Refusal.the-variants.{Length}
+use Rattle.format.specs.Format.{privateLength}
+use Rattle.format.specs.Scalars.{filled-own}
+use Rattle.reply.specs.Reply.{unless, refused}
 use Rattle.plain.specs.Plain.{keyChecked, plainReply, plainLeft}
 use borrow.Author.Needs.{needs}
-use Rattle.reply.specs.Reply.{answered}
 use Rattle.plain.proofs.write_parts.Statement.{statement}
 use Rattle.plain.proofs.write_parts.Tie as tie
 
-public-length-requires : tie.Need-public-length-requires
-public-length-requires c κs = search needs
+-- whichever of two lengths is wrong, it is refused alike
+either : (b : Bool) (why : Refusal) → unless b why (refused why) ≡ refused why
+either true why = refl
+either false why = refl
+
+private-length-requires : tie.Need-private-length-requires
+private-length-requires c κs = search needs
 
 refused-requires : tie.Need-refused-requires
 refused-requires c κs = search needs
 
 returns : tie.Need-returns
 unfolding plainReply plainLeft keyChecked
-returns c = rw (c .refused .ensures, ne-eqb _ _ (λ e. c .before .if1 .taken (e ∙ sym (c .before .before .public-length .ensures)))) (refl, refl, refl)
+returns c =
+    let a = c .before .before .before .before .before .before .before .args in
+    let other = ne-eqb (length (a .scalar .now)) (privateLength (a .algorithm)) (λ e. omega (arith, c .before .if1 .taken, c .before .before .private-length .ensures)) in
+    rw (c .refused .ensures, other, either _ Length) (refl, refl, refl)
 
-private-length-requires : tie.Need-private-length-requires
-private-length-requires c κs = search needs
-
-refused-requires-2 : tie.Need-refused-requires-2
-refused-requires-2 c κs = search needs
-
-returns-2 : tie.Need-returns-2
-unfolding plainReply plainLeft keyChecked
-returns-2 c = rw
-    (c .refused2 .ensures, eq-eqb _ _ (c .before .before .before .if1 .left ∙ c .before .before .before .before .public-length .ensures), ne-eqb _ _ (λ e. c .before .if2 .taken (e ∙ sym (c .before .before .private-length .ensures))))
-    (refl, refl, refl)
-
-tagged-requires : tie.Need-tagged-requires
-tagged-requires c κs = search needs
-
-refused-requires-3 : tie.Need-refused-requires-3
-refused-requires-3 c κs = search needs
-
-returns-3 : tie.Need-returns-3
-unfolding plainReply plainLeft keyChecked
-returns-3 c = rw
-    (c .refused3 .ensures, eq-eqb _ _ (c .before .before .before .before .before .if1 .left ∙ c .before .before .before .before .before .before .public-length .ensures), eq-eqb _ _ (c .before .before .before .if2 .left ∙ c .before .before .before .before .private-length .ensures), ← c .before .before .tagged .ensures, not-true (c .before .before .tagged .result) (c .before .if3 .taken))
-    (refl, refl, refl)
-
-is-utf8-requires : tie.Need-is-utf8-requires
-is-utf8-requires c κs = search needs
-
-refused-requires-4 : tie.Need-refused-requires-4
-refused-requires-4 c κs = search needs
-
-returns-4 : tie.Need-returns-4
-unfolding plainReply plainLeft keyChecked
-returns-4 c = rw
-    (c .refused4 .ensures, eq-eqb _ _ (c .before .before .before .before .before .before .before .if1 .left ∙ c .before .before .before .before .before .before .before .before .public-length .ensures), eq-eqb _ _ (c .before .before .before .before .before .if2 .left ∙ c .before .before .before .before .before .before .private-length .ensures), ← c .before .before .before .before .tagged .ensures, not-false (c .before .before .before .before .tagged .result) (c .before .before .before .if3 .left), ← c .before .before .is-utf8 .ensures, not-true (c .before .before .is-utf8 .result) (c .before .if4 .taken))
-    (refl, refl, refl)
-
-write-sized-requires : tie.Need-write-sized-requires
-write-sized-requires c κs = search needs
+write-filled-requires : tie.Need-write-filled-requires
+write-filled-requires c κs = search needs
 
 same-length : tie.Need-same-length
 same-length c = search needs
 
-returns-5 : tie.Need-returns-5
-unfolding plainReply plainLeft keyChecked
-returns-5 c = rw
-    (eq-eqb _ _ (c .before .before .before .before .before .before .before .before .before .before .if1 .left ∙ c .before .before .before .before .before .before .before .before .before .before .before .public-length .ensures), eq-eqb _ _ (c .before .before .before .before .before .before .before .before .if2 .left ∙ c .before .before .before .before .before .before .before .before .before .private-length .ensures), ← c .before .before .before .before .before .before .before .tagged .ensures, not-false (c .before .before .before .before .before .before .before .tagged .result) (c .before .before .before .before .before .before .if3 .left), ← c .before .before .before .before .before .is-utf8 .ensures, not-false (c .before .before .before .before .before .is-utf8 .result) (c .before .before .before .before .if4 .left))
-    (answered _ _ _ _ (c .before .before .write-sized .ensures))
+returns-2 : tie.Need-returns-2
+returns-2 c =
+    let a = c .before .before .before .before .before .before .before .before .before .before .args in
+    rw (filled-own (a .algorithm) (a .scalar .now) (omega (arith, c .before .before .before .before .if1 .left, c .before .before .before .before .before .private-length .ensures))) at (c .before .before .write-filled .ensures)
 
 pub write-parts-spec : {M : Type 1} → statement M
 write-parts-spec =
     tie.close
     (tie.spec
-    public-length-requires
+    private-length-requires
     refused-requires
     returns
-    private-length-requires
-    refused-requires-2
-    returns-2
-    tagged-requires
-    refused-requires-3
-    returns-3
-    is-utf8-requires
-    refused-requires-4
-    returns-4
-    write-sized-requires
+    write-filled-requires
     same-length
-    returns-5)
+    returns-2)

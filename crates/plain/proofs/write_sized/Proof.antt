@@ -5,6 +5,7 @@ use lib.ListN.{length}
 use Prim.Native.Nat.{ℕ, _+_}
 use Rattle.names.specs.declared.Algorithm.the-variants.{Elliptic as OnCurve}
 use Rattle.format.specs.Format.{ofPoint, ofScalar, writtenImage}
+use Rattle.format.specs.Laws.{allowed-small}
 use Rattle.format.specs.Lengths.{written-length}
 use Rattle.reply.specs.Sized.{too-large, no-room, done}
 use Rattle.plain.specs.Parts.{plain-size}
@@ -36,7 +37,9 @@ blob-length-requires : tie.Need-blob-length-requires
 blob-length-requires c κs = search needs
 
 private-length-requires : tie.Need-private-length-requires
-private-length-requires c κs = search needs
+private-length-requires c κs =
+    let a = c .before .before .before .before .before .before in
+    allowed-small (a .args .algorithm) (a .args .scalar .now) (a .pre .1)
 
 add-pair : tie.Need-add-pair
 add-pair c = search needs

@@ -1,7 +1,6 @@
 -- `plain_rsa::put_plain` meets its contract: front, blob, the section's length and the section, put one after the other. Rests on the
 -- laws of runs and on the lengths of blob and content.
 use mathlib.Core.Path.{_≡_, sym}
-use mathlib.Core.Bool.{false}
 use Prim.Native.Nat.{_+_}
 use lib.ListN.{length}
 use Rattle.fields.specs.Bytes.{uint32, string}
@@ -57,7 +56,7 @@ returns c room =
     let a = b .args in
     let key = ofModulus (a .n .now) (a .e .now) in
     let x = ofNumbers (a .d .now) (a .iqmp .now) (a .p .now) (a .q .now) in
-    let pair = keypair Rsa false key x in
+    let pair = keypair Rsa 0 key x in
     let joined = plain-joined (a .checkint) (blob Rsa key) pair (a .comment .now) in
     let long = written-content-length (a .checkint) Rsa key x (a .comment .now) tt in
     let size : 19 + length (a .e .now) + length (a .n .now) ≡ length (blob Rsa key) = sym (blob-length key x Rsa tt) in

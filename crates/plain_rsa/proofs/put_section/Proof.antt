@@ -1,7 +1,6 @@
 -- `plain_rsa::put_section` meets its contract: five fields, put one after the other, are the section. Rests on the laws of runs and on
 -- the content's length.
 use mathlib.Core.Path.{_≡_, sym, _∙_, ap}
-use mathlib.Core.Bool.{false}
 use lib.ListN.{length}
 use Rattle.names.specs.declared.Algorithm.the-variants.{Rsa}
 use Rattle.format.specs.Format.{ofModulus, ofNumbers, keypair, paddingLength, content}
@@ -37,7 +36,7 @@ returns c room =
     let a = b .args in
     let key = ofModulus (a .n .now) (a .e .now) in
     let x = ofNumbers (a .d .now) (a .iqmp .now) (a .p .now) (a .q .now) in
-    let pair = keypair Rsa false key x in
+    let pair = keypair Rsa 0 key x in
     let joined = section-joined (a .checkint) pair (a .comment .now) in
     let long = written-content-length (a .checkint) Rsa key x (a .comment .now) tt in
     let fewest : a .padding ≡ paddingLength (length (content (a .checkint) pair (a .comment .now))) = b .pre ∙ ap paddingLength (sym long) in

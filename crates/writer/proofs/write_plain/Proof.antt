@@ -21,8 +21,8 @@ scalar-requires c κs = search needs
 comment-requires : tie.Need-comment-requires
 comment-requires c κs = search needs
 
-write-parts-requires : tie.Need-write-parts-requires
-write-parts-requires c κs = search needs
+write-filled-requires : tie.Need-write-filled-requires
+write-filled-requires c κs = search needs
 
 enum-told : tie.Need-enum-told
 enum-told c = search needs
@@ -48,8 +48,8 @@ q-requires c κs = search needs
 comment-requires-2 : tie.Need-comment-requires-2
 comment-requires-2 c κs = search needs
 
-write-parts-requires-2 : tie.Need-write-parts-requires-2
-write-parts-requires-2 c κs = search needs
+write-parts-requires : tie.Need-write-parts-requires
+write-parts-requires c κs = search needs
 
 same-length : tie.Need-same-length
 same-length c = search needs
@@ -61,7 +61,7 @@ returns c =
     let s = c .before .before .before .before .before .before .before .before .before .before .before .before .before .before .args .image .now in
     let same = elliptic-only (c .before .before .before .before .before .before .before .before .algorithm .given .0 .0) (publicIn s f) (privateIn s f) (f .section .checkint) (viewOf s (f .section .comment)) in
     rw (c .before .before .before .before .before .before .before .before .algorithm .given .1, ← same .0, ← same .1, ← c .before .before .before .before .before .before .point .ensures .0, ← c .before .before .before .before .before .scalar .ensures .0, ← c .before .before .before .before .comment .ensures .0)
-    (c .before .before .write-parts .ensures)
+    (c .before .before .write-filled .ensures)
 
 same-length-2 : tie.Need-same-length-2
 same-length-2 c = search needs
@@ -73,7 +73,7 @@ returns-2 c =
     let s = c .before .before .before .before .before .before .before .before .before .before .before .before .before .before .before .before .before .args .image .now in
     let same = rsa-only (publicIn s f) (privateIn s f) (f .section .checkint) (viewOf s (f .section .comment)) in
     rw (c .before .before .before .before .before .before .before .before .before .before .before .enum-told .given .1, ← same .0, ← same .1, ← c .before .before .before .before .before .before .before .before .before .before .modulus .ensures .0, ← c .before .before .before .before .before .before .before .before .before .exponent .ensures .0, ← c .before .before .before .before .before .before .before .before .d .ensures .0, ← c .before .before .before .before .before .before .before .iqmp .ensures .0, ← c .before .before .before .before .before .before .p .ensures .0, ← c .before .before .before .before .before .q .ensures .0, ← c .before .before .before .before .comment2 .ensures .0)
-    (c .before .before .write-parts2 .ensures)
+    (c .before .before .write-parts .ensures)
 
 pub write-plain-spec : {M : Type 1} → statement M
 write-plain-spec =
@@ -83,7 +83,7 @@ write-plain-spec =
     point-requires
     scalar-requires
     comment-requires
-    write-parts-requires
+    write-filled-requires
     enum-told
     modulus-requires
     exponent-requires
@@ -92,7 +92,7 @@ write-plain-spec =
     p-requires
     q-requires
     comment-requires-2
-    write-parts-requires-2
+    write-parts-requires
     same-length
     returns
     same-length-2

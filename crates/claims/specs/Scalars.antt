@@ -1,0 +1,168 @@
+-- Document 02, request Five: short scalars, on every curve by one proof for any SIZE. Which bytes may be a scalar's string, what is read of
+-- them and which are in the form; what the writer makes of a scalar; that files of the old writer, which kept leading zeros, are read.
+use Prim.Native.Nat.{ℕ, zero, suc, _+_, _≤_, _<_, _^_}
+use native.Mathlib.Omega.{arith}
+use mathlib.Core.Path.{_≡_, refl, sym, _∙_, ap}
+use mathlib.Core.Bool.{Bool, true}
+use mathlib.Core.List.{List}
+use borrow.Author.Tests.{le-leb, leb-true, ltb-true}
+use lib.ListN.{length, getD}
+use lib.Seq.{getD-drop}
+use Rattle.fields.specs.Bytes.{AllBytes}
+use Rattle.fields.specs.Fields.{viewOf}
+use Rattle.fields.specs.Place.{by-bool}
+use Rattle.names.specs.declared.Elliptic.the-variants.{Ecdsa}
+use Rattle.names.specs.declared.Algorithm.the-variants.{Elliptic as OnCurve}
+use Rattle.names.specs.declared.Curve.{Curve}
+use Rattle.names.specs.Algorithms.{sizeOf}
+use Rattle.utf8.specs.Utf8.{utf8}
+use Rattle.mpint.specs.Mpint.{value, isMpint, zerosBefore, significant}
+use Rattle.mpint.specs.Laws.{mpint-same}
+use Rattle.format.specs.Format.{PublicBytes, PrivateBytes, ofPoint, ofScalar, standing, minimal, leadingZero, zeroLength, notZero, PublicFits, blob, keypair, plainImage, writtenImage}
+use Rattle.format.specs.Scalars.{standing-again, significant-length, significant-first, value-standing, mpint-standing, minimal-mpint, minimal-value}
+use Rattle.pairs.specs.Pairs.{privateBytes, isScalar}
+use Rattle.pairs.specs.Scalar.{scalar-some, scalar-short, scalar-stands}
+use Rattle.section.specs.Back.{KeyFits}
+use Rattle.section.specs.declared.Kind.the-variants.{Plain}
+use Rattle.container.specs.declared.Fields.{Fields}
+use Rattle.container.specs.declared.ImageRead.the-variants as read
+use Rattle.container.specs.Container.{readAt}
+use Rattle.container.specs.Form.{formOf}
+use Rattle.container.specs.Back.{plain-image-back}
+use Rattle.container.specs.FormLaws.{form-back, plain-of}
+use Rattle.reply.specs.declared.Written.the-variants as written
+use Rattle.plain.specs.Plain.{plainReply}
+use Rattle.claims.specs.Reading.{elliptic-held}
+use Rattle.claims.specs.Form.{Stands, scalarIn, ecdsa-fits}
+
+-- ---- what is read
+
+-- an image of an ECDSA key in which these bytes stand as the scalar's string
+abbrev pub storedImage : Curve → ℕ → List ℕ → List ℕ → List ℕ → List ℕ
+storedImage k n point stored comment =
+    plainImage n (blob (OnCurve (Ecdsa k)) (ofPoint point)) (keypair (OnCurve (Ecdsa k)) 0 (ofPoint point) (ofScalar stored)) comment
+
+-- it is read, the scalar without its leading zeros, and is in the form or not
+pub record ReadAs (stored s : List ℕ) (form : Bool) : Type 0 where
+  pub fields : Fields
+  pub read : readAt s ≡ read.Record fields
+  pub scalar : viewOf s (fields .section .private .scalar) ≡ significant stored
+  pub form-is : formOf s fields ≡ form
+
+pair-stored :
+    (k : Curve) (key : PublicBytes) (stored : List ℕ)
+    → keypair (OnCurve (Ecdsa k)) 0 key (ofScalar stored) ≡ keypair (OnCurve (Ecdsa k)) (zerosBefore stored) key (ofScalar (significant stored))
+unfolding keypair
+pair-stored k key stored = rw (standing-again stored)
+
+-- every string that may be a scalar's is read, and is in the form exactly if it is RFC 4251's mpint
+pub reads-stored :
+    (k : Curve) (n : ℕ) (point stored comment : List ℕ) → n < 2 ^ 32 → PublicFits (OnCurve (Ecdsa k)) (ofPoint point) → isScalar (sizeOf k) stored ≡ true
+    → length stored ≤ sizeOf k + 1 → utf8 comment ≡ true → length (storedImage k n point stored comment) ≤ 65535
+    → ReadAs stored (storedImage k n point stored comment) (isMpint stored)
+unfolding privateBytes
+reads-stored k n point stored comment fit public is long text small =
+    let a = OnCurve (Ecdsa k) in
+    let key = ofPoint point in
+    let x = ofScalar (significant stored) in
+    let zeros = zerosBefore stored in
+    let some = scalar-some (sizeOf k) stored is in
+    let first = significant-first stored some in
+    let left = significant-length stored in
+    let short : length (significant stored) ≤ sizeOf k = omega (arith, left, scalar-short (sizeOf k) stored is long) in
+    let may : zeros + length (significant stored) ≤ sizeOf k + 1 = omega (arith, left) in
+    let s = storedImage k n point stored comment in
+    let fits : KeyFits a zeros key x comment = record { public = public; private = ((short, first), refl); may = may; text = text } in
+    let stands : s ≡ plainImage n (blob a key) (keypair a zeros key x) comment = ap (λ (pair : List ℕ). plainImage n (blob a key) pair comment) (pair-stored k key stored) in
+    let b = plain-image-back s n a zeros key x comment small fit fits stands in
+    record {
+      fields = b .fields;
+      read = b .read;
+      scalar = ap (λ (y : PrivateBytes). y .scalar) (b .same-private);
+      form-is =
+          form-back s n a zeros key x comment _ fits stands b ∙ sym (mpint-standing zeros (significant stored) first)
+          ∙ ap isMpint (standing-again stored);
+    }
+
+-- of every accepted plain image of an ECDSA key: its scalar has 1 to SIZE bytes and no leading zero, and stands for the number of the string
+-- in the image, zeros and scalar
+pub record ScalarTold (s : List ℕ) (f : Fields) (k : Curve) : Type 0 where
+  pub zeros : ℕ
+  pub stands : Stands s f zeros
+  pub short : length (scalarIn s f) ≤ sizeOf k
+  pub first : 0 < getD (scalarIn s f) 0 0
+  pub number : value (standing zeros (scalarIn s f)) ≡ value (scalarIn s f)
+
+pub scalar-told :
+    (s : List ℕ) (all : AllBytes s) (f : Fields) → readAt s ≡ read.Record f → f .section .kind ≡ Plain → (k : Curve) → f .header .algorithm ≡ OnCurve (Ecdsa k)
+    → ScalarTold s f k
+scalar-told s all f e plain k q =
+    let p = plain-of s all f e plain in
+    let fits = ecdsa-fits s f k q (p .key-fits .private) in
+    record {
+      zeros = p .zeros;
+      stands = (p .text, p .key-fits .may);
+      short = fits .0;
+      first = fits .1;
+      number = value-standing (p .zeros) (scalarIn s f);
+    }
+
+-- ---- what is written
+
+all-standing : (zeros : ℕ) (x : List ℕ) → AllBytes x → AllBytes (standing zeros x)
+all-standing zero x all i = all i
+all-standing (suc n) x all zero = omega arith
+all-standing (suc n) x all (suc i) = all-standing n x all i
+
+all-significant : (x : List ℕ) → AllBytes x → AllBytes (significant x)
+unfolding significant
+all-significant x all i = rw (getD-drop (zerosBefore x) x i 0) (all (zerosBefore x + i))
+
+-- the string that stands for a scalar that was written is RFC 4251's mpint of the scalar's number, and there is no other
+pub record Minimal (k : Curve) (n : ℕ) (key : PublicBytes) (x : PrivateBytes) (comment : List ℕ) : Type 0 where
+  pub image :
+      writtenImage n (OnCurve (Ecdsa k)) key x comment
+      ≡ plainImage n (blob (OnCurve (Ecdsa k)) key) (keypair (OnCurve (Ecdsa k)) 0 key (ofScalar (minimal (x .scalar)))) comment
+  pub mpint : isMpint (minimal (x .scalar)) ≡ true
+  pub number : value (minimal (x .scalar)) ≡ value (x .scalar)
+  pub only : (b : List ℕ) → AllBytes b → isMpint b ≡ true → value b ≡ value (x .scalar) → b ≡ minimal (x .scalar)
+
+pub written-minimal :
+    (k : Curve) (n : ℕ) (key : PublicBytes) (x : PrivateBytes) (comment : List ℕ) (room size : ℕ) → AllBytes (x .scalar)
+    → plainReply (OnCurve (Ecdsa k)) key x n comment room ≡ written.Length size → Minimal k n key x comment
+unfolding plainReply writtenImage keypair
+written-minimal k n key x comment room size all e =
+    let scalar = x .scalar in
+    let some = ltb-true (zerosBefore scalar) (length scalar) (elliptic-held (Ecdsa k) key x _ size e .some) in
+    let mpint = minimal-mpint scalar some in
+    let bytes = all-standing (zeroLength (leadingZero (significant scalar))) (significant scalar) (all-significant scalar all) in
+    record {
+      image = refl;
+      mpint = mpint;
+      number = minimal-value scalar;
+      only = λ b bytes-b m v. mpint-same b (minimal scalar) bytes-b bytes m mpint (v ∙ sym (minimal-value scalar));
+    }
+
+-- ---- the old writer's files
+
+-- it wrote all SIZE bytes, after a zero where the first is 0x80 or more
+abbrev pub oldScalar : List ℕ → List ℕ
+oldScalar x = standing (zeroLength (leadingZero x)) x
+
+old-scalar : (k : Curve) (x : List ℕ) → length x ≡ sizeOf k → notZero (Ecdsa k) x ≡ true → (isScalar (sizeOf k) (oldScalar x) ≡ true) × (length (oldScalar x) ≤ sizeOf k + 1)
+unfolding isScalar
+old-scalar k x long some =
+    by-bool (leadingZero x)
+    (λ w.
+    let first : 0 < getD x 0 0 = omega (arith, leb-true 0x80 (getD x 0 0) w) in
+    rw w (scalar-stands (sizeOf k) 1 x first (omega arith) (omega arith), omega arith))
+    (λ w. rw w (rw (some, le-leb (length x) (sizeOf k) (omega arith)), omega arith))
+
+-- such a file is read, and is in the form exactly if what it has is an mpint
+pub old-read :
+    (k : Curve) (n : ℕ) (point x comment : List ℕ) → n < 2 ^ 32 → PublicFits (OnCurve (Ecdsa k)) (ofPoint point) → length x ≡ sizeOf k
+    → notZero (Ecdsa k) x ≡ true → utf8 comment ≡ true → length (storedImage k n point (oldScalar x) comment) ≤ 65535
+    → ReadAs (oldScalar x) (storedImage k n point (oldScalar x) comment) (isMpint (oldScalar x))
+old-read k n point x comment fit public long some text small =
+    let is = old-scalar k x long some in
+    reads-stored k n point (oldScalar x) comment fit public (is .0) (is .1) text small
