@@ -40,7 +40,7 @@ fn hand_out(written: Written, out: &[u8]) {
 
 fn write_elliptic(image: &[u8], f: Fields, kind: Elliptic) {
     let mut out = [0u8; 65536];
-    let m = Material::new(kind, parts::point(image, f), parts::scalar(image, f));
+    let m = Material::filled(kind, parts::point(image, f), parts::scalar(image, f));
     let comment = parts::comment(image, f);
     let written = plain::write_plain(m, Checkint::Derived, comment, &mut out);
     hand_out(written, &out);

@@ -5,6 +5,8 @@ use Rattle.material.proofs.derived_checkint.Reads as derived-checkint
 use Rattle.material.proofs.derived_checkint.Kinds as derived-checkint-kinds
 use Rattle.material.proofs.Material.new.Reads as new
 use Rattle.material.proofs.Material.new.Kinds as new-kinds
+use Rattle.material.proofs.Material.filled.Reads as filled
+use Rattle.material.proofs.Material.filled.Kinds as filled-kinds
 use Rattle.material.proofs.Material.checkint.Reads as checkint
 use Rattle.material.proofs.Material.checkint.Kinds as checkint-kinds
 
@@ -13,6 +15,9 @@ derived-checkint-determined κs a r₁ r₂ s₁ s₂ p q = cc
 
 pub new-determined : Determined 2 new-kinds.ps new-kinds.r new.Post
 new-determined κs a r₁ r₂ s₁ s₂ p q = cc
+
+pub filled-determined : Determined 2 filled-kinds.ps filled-kinds.r filled.Post
+filled-determined κs a r₁ r₂ s₁ s₂ p q = cc
 
 pub checkint-determined : Determined 0 checkint-kinds.ps checkint-kinds.r checkint.Post
 checkint-determined κs a r₁ r₂ s₁ s₂ p q = cc

@@ -1,14 +1,22 @@
--- Laws of key material: bytes that fit are held, others are not; the marked example M16.
-use Prim.Native.Nat.{ℕ, _+_, _≤_, _<_}
+-- Laws of key material: bytes that fit are held, others are not; a scalar is filled with zeros; the marked example M16.
+use Prim.Native.Nat.{ℕ, zero, suc, _+_, _≤_, _<_}
 use native.Mathlib.Omega.{arith}
 use mathlib.Core.Path.{_≡_, refl, sym, _∙_, ap}
 use mathlib.Core.List.{List, [], _∷_, _++_}
-use lib.ListN.{length, replicate}
+use mathlib.Core.Logic.{_⊎_, inl, inr}
+use borrow.Author.Tests.{ltb-true, ltb-false, leb-true}
+use lib.Dec.{ltb, leb}
+use lib.ListN.{length, take, replicate}
 use Rattle.fields.specs.Fields.{part, viewOf}
+use Rattle.fields.specs.Place.{by-bool}
 use Rattle.fields.specs.Room.{view-in, view-out}
-use Rattle.buffer.specs.Puts.{splice, placed, zeros, zeros-length, placed-fits, no-put, splice-length, take-splice}
+use Rattle.buffer.specs.Puts.{splice, fits, placed, zeros, zeros-length, placed-fits, no-put, splice-length, take-splice}
 use Rattle.names.specs.declared.Elliptic.{Elliptic}
-use Rattle.material.specs.Material.{publicOf, privateOf, mixed, derivedCheckint, padded, materialOf}
+use Rattle.names.specs.declared.Elliptic.the-variants.{Ed25519, Ecdsa}
+use Rattle.names.specs.Algorithms.{sizeOf, size-small}
+use Rattle.format.specs.Format.{standing, scalarFilled}
+use Rattle.format.specs.Scalars.{standing-length}
+use Rattle.material.specs.Material.{publicOf, privateOf, mixed, derivedCheckint, padded, zerosMissing, materialOf}
 
 -- ---- what a room of k bytes holds
 
@@ -47,6 +55,46 @@ module _ (a : Elliptic) (public private : List ℕ) where
   pub private-of-long : 66 < length private → privateOf (materialOf a public private) ≡ []
   unfolding privateOf materialOf
   private-of-long = not-held 66 private
+
+-- ---- filled with zeros in front
+
+pub filled-missing : (a : Elliptic) (private : List ℕ) → scalarFilled a private ≡ standing (zerosMissing a private) private
+unfolding zerosMissing
+filled-missing Ed25519 private = refl
+filled-missing (Ecdsa k) private = refl
+
+pub filled-size : (a : Elliptic) (private : List ℕ) → length (scalarFilled a private) ≡ zerosMissing a private + length private
+filled-size a private = ap length (filled-missing a private) ∙ standing-length (zerosMissing a private) private
+
+-- they are few, and none where the bytes are many
+pub missing-few : (a : Elliptic) (private : List ℕ) → (zerosMissing a private ≡ 0) ⊎ (zerosMissing a private + length private < 100)
+unfolding zerosMissing
+missing-few Ed25519 private = inl refl
+missing-few (Ecdsa k) private =
+    by-bool (ltb (length private) (sizeOf k))
+    (λ w. inr (omega (arith, ltb-true (length private) (sizeOf k) w, size-small k)))
+    (λ w. inl (omega (arith, ltb-false (length private) (sizeOf k) w)))
+
+take-zeros : (k n : ℕ) → n ≤ k → take n (zeros k) ≡ replicate n 0
+unfolding zeros
+take-zeros k zero h = refl
+take-zeros zero (suc n) h = absurd (omega arith)
+take-zeros (suc k) (suc n) h = ap (λ (l : List ℕ). 0 ∷ l) (take-zeros k n (omega arith))
+
+-- bytes put after the first n zeros of a room, or put at its start with n zeros before them
+splice-standing : (k n : ℕ) (bytes : List ℕ) → n + length bytes ≤ k → splice (zeros k) n bytes ≡ splice (zeros k) 0 (standing n bytes)
+unfolding splice
+splice-standing k n bytes fit =
+    let long : 0 + length (standing n bytes) ≡ n + length bytes = omega (arith, standing-length n bytes) in
+    rw (long, take-zeros k n (omega arith))
+
+pub padded-standing : (k n : ℕ) (bytes : List ℕ) → placed (zeros k) n bytes ≡ padded k (standing n bytes)
+unfolding padded placed fits
+padded-standing k n bytes =
+    let same : 0 + length (standing n bytes) ≡ n + length bytes = omega (arith, standing-length n bytes) in
+    by-bool (leb (n + length bytes) (length (zeros k)))
+    (λ w. rw (same, w) (splice-standing k n bytes (omega (arith, leb-true (n + length bytes) (length (zeros k)) w, zeros-length k))))
+    (λ w. rw (same, w))
 
 -- ---- M16: 66 private bytes, zero but the last two
 

@@ -3,13 +3,17 @@
 -- Key material for a new image is one value with room for 133 public and 66 private bytes and their lengths. The checkint is the
 -- given one, or, where none is given, the xor of the big-endian 4-byte groups of the private bytes (seed or SIZE bytes), a shorter
 -- rest ignored.
-use Prim.Native.Nat.{ℕ}
+--
+-- Document 02, request Five: the scalar of a record has no leading zeros, and is filled with zeros in front for its material.
+use Prim.Native.Nat.{ℕ, _-_}
 use mathlib.Core.List.{List, [], _∷_}
 use lib.Bits.{bitXor}
 use lib.ListN.{length}
 use Rattle.fields.specs.Fields.{part, number4, viewOf}
 use Rattle.buffer.specs.Puts.{placed, zeros}
 use Rattle.names.specs.declared.Elliptic.{Elliptic}
+use Rattle.names.specs.declared.Elliptic.the-variants.{Ed25519, Ecdsa}
+use Rattle.names.specs.Algorithms.{sizeOf}
 use Rattle.material.specs.declared.Material.{Material}
 use Rattle.material.specs.declared.Checkint.{Checkint}
 use Rattle.material.specs.declared.Checkint.the-variants.{Given, Derived}
@@ -40,6 +44,11 @@ checkintOf Derived private = derivedCheckint private
 -- the bytes and zeros up to k; only zeros where they don't fit
 unfoldable pub padded : ℕ → List ℕ → List ℕ
 padded k bytes = placed (zeros k) 0 bytes
+
+-- the zeros that a scalar lacks in front to have SIZE bytes; a seed lacks none
+unfoldable pub zerosMissing : Elliptic → List ℕ → ℕ
+zerosMissing Ed25519 seed = 0
+zerosMissing (Ecdsa curve) scalar = sizeOf curve - length scalar
 
 -- the value that holds an algorithm's public and private bytes
 unfoldable pub materialOf : Elliptic → List ℕ → List ℕ → Material

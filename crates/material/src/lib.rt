@@ -1,6 +1,7 @@
 // The material for a new key, and its checkint.
 ghost use mathlib.Core.Path.{_≡_};
-ghost use Rattle.material.specs.Material.{privateOf, derivedCheckint, checkintOf, materialOf};
+ghost use Rattle.format.specs.Format.{scalarFilled};
+ghost use Rattle.material.specs.Material.{privateOf, derivedCheckint, checkintOf, zerosMissing, materialOf};
 use fields::Cursor;
 use fields::Part;
 use fields::Uint32;
@@ -42,6 +43,23 @@ pub fn derived_checkint(private: &[u8]) -> u32
     }
 }
 
+// How many zeros a scalar lacks in front to have its size; a seed lacks none.
+fn zeros_missing(algorithm: Elliptic, private: &[u8]) -> usize
+    ensures { λ r. ⌜ r ≡ zerosMissing algorithm (now (private .entry)) ⌝ }
+{
+    let length = private.len();
+    match algorithm {
+        Elliptic::Ed25519 => 0,
+        Elliptic::Ecdsa(curve) => {
+            let size = curve.size();
+            if length < size {
+                return size - length;
+            }
+            0
+        }
+    }
+}
+
 impl Material {
     // Public and private bytes with their lengths, zeros after them; only zeros in a room that is too short.
     pub fn new(algorithm: Elliptic, public: &[u8], private: &[u8]) -> Material
@@ -57,6 +75,24 @@ impl Material {
             public_length: public.len(),
             private: private_room,
             private_length: private.len(),
+        }
+    }
+
+    // The material of a record's parts: a scalar without leading zeros is filled with zeros in front to its size.
+    pub fn filled(algorithm: Elliptic, public: &[u8], private: &[u8]) -> Material
+        ensures { λ r. ⌜ r ≡ materialOf algorithm (now (public .entry)) (scalarFilled algorithm (now (private .entry))) ⌝ }
+    {
+        let zeros = zeros_missing(algorithm, private);
+        let mut public_room = [0u8; 133];
+        buffer::put(&mut public_room, 0, public);
+        let mut private_room = [0u8; 66];
+        buffer::put(&mut private_room, zeros, private);
+        Material {
+            algorithm: algorithm,
+            public: public_room,
+            public_length: public.len(),
+            private: private_room,
+            private_length: zeros + private.len(),
         }
     }
 
