@@ -18,7 +18,8 @@ use Rattle.reply.specs.declared.Written.the-variants as written
 use Rattle.plain.specs.Plain.{plainReply, plainLeft}
 use Rattle.reply.specs.Reply.{onWritten, refused, unless, answers}
 
--- ---- written afresh: the plain writer, given the material that the record's views give, the record's checkint, and the new comment
+-- ---- written afresh: the plain writer, given the material that the record's views give, a scalar filled to SIZE, the record's checkint, and
+-- the new comment
 
 unfoldable pub afresh : List ℕ → Fields → List ℕ → List ℕ
 afresh s f comment =

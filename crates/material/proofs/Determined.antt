@@ -3,6 +3,8 @@
 use Rattle.fields.specs.Determined.{Determined}
 use Rattle.material.proofs.derived_checkint.Reads as derived-checkint
 use Rattle.material.proofs.derived_checkint.Kinds as derived-checkint-kinds
+use Rattle.material.proofs.zeros_missing.Reads as zeros-missing
+use Rattle.material.proofs.zeros_missing.Kinds as zeros-missing-kinds
 use Rattle.material.proofs.Material.new.Reads as new
 use Rattle.material.proofs.Material.new.Kinds as new-kinds
 use Rattle.material.proofs.Material.filled.Reads as filled
@@ -12,6 +14,9 @@ use Rattle.material.proofs.Material.checkint.Kinds as checkint-kinds
 
 pub derived-checkint-determined : Determined 1 derived-checkint-kinds.ps derived-checkint-kinds.r derived-checkint.Post
 derived-checkint-determined κs a r₁ r₂ s₁ s₂ p q = cc
+
+pub zeros-missing-determined : Determined 1 zeros-missing-kinds.ps zeros-missing-kinds.r zeros-missing.Post
+zeros-missing-determined κs a r₁ r₂ s₁ s₂ p q = cc
 
 pub new-determined : Determined 2 new-kinds.ps new-kinds.r new.Post
 new-determined κs a r₁ r₂ s₁ s₂ p q = cc

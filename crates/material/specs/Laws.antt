@@ -1,11 +1,10 @@
 -- Laws of key material: bytes that fit are held, others are not; a scalar is filled with zeros; the marked example M16.
-use Prim.Native.Nat.{ℕ, zero, suc, _+_, _≤_, _<_}
+use Prim.Native.Nat.{ℕ, zero, suc, _+_, _≤_, _<_, _^_}
 use native.Mathlib.Omega.{arith}
 use mathlib.Core.Path.{_≡_, refl, sym, _∙_, ap}
 use mathlib.Core.List.{List, [], _∷_, _++_}
-use mathlib.Core.Logic.{_⊎_, inl, inr}
-use borrow.Author.Tests.{ltb-true, ltb-false, leb-true}
-use lib.Dec.{ltb, leb}
+use borrow.Author.Tests.{leb-true}
+use lib.Dec.{leb}
 use lib.ListN.{length, take, replicate}
 use Rattle.fields.specs.Fields.{part, viewOf}
 use Rattle.fields.specs.Place.{by-bool}
@@ -66,14 +65,11 @@ filled-missing (Ecdsa k) private = refl
 pub filled-size : (a : Elliptic) (private : List ℕ) → length (scalarFilled a private) ≡ zerosMissing a private + length private
 filled-size a private = ap length (filled-missing a private) ∙ standing-length (zerosMissing a private) private
 
--- they are few, and none where the bytes are many
-pub missing-few : (a : Elliptic) (private : List ℕ) → (zerosMissing a private ≡ 0) ⊎ (zerosMissing a private + length private < 100)
+-- they are few, and none where the bytes are many: so a filled scalar is no longer than a slice can be
+pub filled-bounded : (a : Elliptic) (private : List ℕ) → length private < 2 ^ 64 → zerosMissing a private + length private < 2 ^ 64
 unfolding zerosMissing
-missing-few Ed25519 private = inl refl
-missing-few (Ecdsa k) private =
-    by-bool (ltb (length private) (sizeOf k))
-    (λ w. inr (omega (arith, ltb-true (length private) (sizeOf k) w, size-small k)))
-    (λ w. inl (omega (arith, ltb-false (length private) (sizeOf k) w)))
+filled-bounded Ed25519 private h = omega arith
+filled-bounded (Ecdsa k) private h = omega (arith, size-small k)
 
 take-zeros : (k n : ℕ) → n ≤ k → take n (zeros k) ≡ replicate n 0
 unfolding zeros

@@ -44,7 +44,7 @@ pub fn derived_checkint(private: &[u8]) -> u32
 }
 
 // How many zeros a scalar lacks in front to have its size; a seed lacks none.
-fn zeros_missing(algorithm: Elliptic, private: &[u8]) -> usize
+pub fn zeros_missing(algorithm: Elliptic, private: &[u8]) -> usize
     ensures { λ r. ⌜ r ≡ zerosMissing algorithm (now (private .entry)) ⌝ }
 {
     let length = private.len();

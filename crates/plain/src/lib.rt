@@ -233,17 +233,7 @@ fn not_zero(algorithm: Elliptic, scalar: &[u8]) -> bool
 fn filled_length(algorithm: Elliptic, scalar: &[u8]) -> usize
     ensures { λ r. ⌜ r ≡ length (scalarFilled algorithm (now (scalar .entry))) ⌝ }
 {
-    let length = scalar.len();
-    match algorithm {
-        Elliptic::Ed25519 => length,
-        Elliptic::Ecdsa(curve) => {
-            let size = curve.size();
-            if length < size {
-                return size;
-            }
-            length
-        }
-    }
+    material::zeros_missing(algorithm, scalar) + scalar.len()
 }
 
 // A plain image of lent parts: the public string or point; the seed, or a scalar of at most its size, which is

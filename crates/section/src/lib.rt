@@ -20,7 +20,7 @@ pub enum Kind {
 }
 
 // What the section adds to a header. A field that its kind doesn't have is absent, a number 0. A scalar's
-// place is that of its SIZE bytes, an extra zero left off; for Ed25519 the seed's.
+// place is that of its bytes without leading zeros; for Ed25519 the seed's.
 pub struct Section {
     pub kind: Kind,
     pub checkint: u32,

@@ -1,5 +1,5 @@
 -- Document 01, 'Writing': writing an image's record, with its own checkint where it is plain; and 'Views': a record handed in that isn't
--- what an accepted read of its image gives replies 1 before all else.
+-- what an accepted read of its image gives replies 1 before all else. Document 02, request Five: a record's scalar is filled to SIZE.
 use Prim.Native.Nat.{ℕ}
 use mathlib.Core.Bool.{cond}
 use mathlib.Core.List.{List}

@@ -3,20 +3,14 @@
 use Prim.Native.Nat.{ℕ, _+_, _<_, _^_}
 use native.Mathlib.Omega.{arith}
 use mathlib.Core.Path.{_≡_, sym, _∙_, ap}
-use mathlib.Core.Logic.{_⊎_, inl, inr}
 use lib.ListN.{length, replicate}
 use Rattle.format.specs.Format.{scalarFilled}
 use Rattle.buffer.specs.Puts.{placed, zeros}
 use Rattle.material.specs.Material.{padded, zerosMissing, materialOf}
-use Rattle.material.specs.Laws.{filled-missing, filled-size, missing-few, padded-standing}
+use Rattle.material.specs.Laws.{filled-missing, filled-size, filled-bounded, padded-standing}
 use borrow.Author.Needs.{needs}
 use Rattle.material.proofs.Material.filled.Statement.{statement}
 use Rattle.material.proofs.Material.filled.Tie as tie
-
--- the sum of zeros and bytes is small, or has no zeros
-in-bounds : (n m : ℕ) → (n ≡ 0) ⊎ (n + m < 100) → m < 2 ^ 64 → n + m < 2 ^ 64
-in-bounds n m (inl none) h = omega arith
-in-bounds n m (inr few) h = omega arith
 
 zeros-missing-requires : tie.Need-zeros-missing-requires
 zeros-missing-requires c κs = search needs
@@ -38,8 +32,7 @@ add-t15 c =
     let a = c .before .before .before .before .before .before .before .before .before .args in
     let missing = c .before .before .before .before .before .before .zeros-missing .ensures in
     let long : length (a .private .now) < 2 ^ 64 = omega arith in
-    let sum = in-bounds (zerosMissing (a .algorithm) (a .private .now)) (length (a .private .now)) (missing-few (a .algorithm) (a .private .now)) long in
-    omega (arith, missing, sum)
+    omega (arith, missing, filled-bounded (a .algorithm) (a .private .now) long)
 
 returns : tie.Need-returns
 unfolding materialOf padded zeros
