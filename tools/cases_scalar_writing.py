@@ -117,7 +117,8 @@ def slip_change_rows(algorithm):
 
 
 def largest_rows():
-    """Of 65,535 bytes, with needless zeros: smaller once written again. And one that would be above the limit without them."""
+    """Of 65,535 bytes, with needless zeros: smaller once written again. And one that lacks its zero, and would
+    be above the limit with it."""
     private = bytes(31) + b"\x7f"
     old = join(plain(1, b"c" * 65232, by_old_writer(private)))
     assert len(old) == LIMIT

@@ -118,6 +118,12 @@ pub ecdsa-fits :
 unfolding privateBytes
 ecdsa-fits s f k q fits = let fit : PrivateFits (OnCurve (Ecdsa k)) (publicIn s f) (privateIn s f) = rw q at fits in fit .0
 
+pub ecdsa-may :
+    (s : List ℕ) (f : Fields) (k : Curve) → f .header .algorithm ≡ OnCurve (Ecdsa k) → (zeros : ℕ) → MayStand (f .header .algorithm) zeros (privateIn s f)
+    → zeros + length (scalarIn s f) ≤ sizeOf k + 1
+unfolding privateBytes
+ecdsa-may s f k q zeros may = let fit : MayStand (OnCurve (Ecdsa k)) zeros (privateIn s f) = rw q at may in fit
+
 module _ (s : List ℕ) (all : AllBytes s) (f : Fields) (e : readAt s ≡ read.Record f) (plain : f .section .kind ≡ Plain) where
   text : PlainText s f
   text = plain-of s all f e plain

@@ -163,7 +163,7 @@ pub record Marked : Type 0 where
   pub m12 : Refuses (p256Image (1 ∷ replicate 32 9)) 2 0 263
   -- 34 bytes: 6, count 2
   pub m13 : Refuses (p256Image (replicate 34 9)) 6 2 299
-  -- 31 bytes: read if not all zero, and in the form if they are an mpint; all zero 2
+  -- 31 bytes: read if not all zero, and in the form exactly if they are an mpint; all zero 2
   pub m14 : P256Reads Short isMpint × Refuses (p256Image (replicate 31 0)) 2 0 263
   -- Ed25519, c = 65,301 and c = 65,302: 65,530 bytes; 11
   pub m15 : Ed25519Takes 65301 65530 0 × Ed25519TooLong 65302

@@ -1,4 +1,4 @@
--- Document 01, 'Writing', and document 02, request Two: the conditions of the writers and of the comment change, as lists in the paper's order, each with its
+-- Document 01, 'Writing', and document 02, requests Two and Five: the conditions of the writers and of the comment change, as lists in the paper's order, each with its
 -- number. The reply is the first that holds, for every input; where none does it is 0 0 0 and the length.
 use Prim.Native.Nat.{ℕ, _%_}
 use mathlib.Core.Path.{_≡_, refl, sym, _∙_, ap}

@@ -1,7 +1,7 @@
 -- Document 01, 'Views and the inspection program': the program prints no private byte. What it prints of every image: of an accepted one its
 -- kind, its names, its lengths and its form, of a refused one number, count and place. Images that are alike in these have the same report,
--- whatever their private bytes. (Length and form of an ECDSA image together tell how many bytes its scalar has without leading zeros, up to
--- the padding, and whether the first of them is 0x80 or more.)
+-- whatever their private bytes. (The lengths of a plain ECDSA image tell how many bytes its scalar's string has; in the form the scalar has as
+-- many, or one fewer and then a first byte of 0x80 or more.)
 use Prim.Native.Nat.{ℕ, _+_, _*_, _≤_, _<_, _^_}
 use native.Mathlib.Omega.{arith}
 use mathlib.Core.Path.{_≡_, refl, sym, _∙_, ap}
@@ -106,14 +106,14 @@ module _ (n : ℕ) (a : Algorithm) (zeros : ℕ) (key : PublicBytes) (x : Privat
 -- no private byte: two keys whose kind, lengths, bits of a modulus and form are the same have the same report, whatever their private
 -- bytes are, and whatever their points, numbers, checkints and comments
 pub no-private-byte :
-    (a : Algorithm) (zeros : ℕ) (n m : ℕ) (key : PublicBytes) (x : PrivateBytes) (comment : List ℕ) (key′ : PublicBytes) (x′ : PrivateBytes) (comment′ : List ℕ)
-    → n < 2 ^ 32 → m < 2 ^ 32 → KeyFits a zeros key x comment → KeyFits a zeros key′ x′ comment′
-    → shown a zeros key x (length comment) ≡ shown a zeros key′ x′ (length comment′)
+    (a : Algorithm) (zeros zeros′ n m : ℕ) (key : PublicBytes) (x : PrivateBytes) (comment : List ℕ) (key′ : PublicBytes) (x′ : PrivateBytes) (comment′ : List ℕ)
+    → n < 2 ^ 32 → m < 2 ^ 32 → KeyFits a zeros key x comment → KeyFits a zeros′ key′ x′ comment′
+    → shown a zeros key x (length comment) ≡ shown a zeros′ key′ x′ (length comment′)
     → length (plainImage n (blob a key) (keypair a zeros key x) comment) ≤ 65535
-    → length (plainImage m (blob a key′) (keypair a zeros key′ x′) comment′) ≤ 65535
-    → reportOf (plainImage n (blob a key) (keypair a zeros key x) comment) ≡ reportOf (plainImage m (blob a key′) (keypair a zeros key′ x′) comment′)
-no-private-byte a zeros n m key x comment key′ x′ comment′ hn hm fits also-fits alike limit also-limit =
-    report-plain n a zeros key x comment hn fits limit ∙ ap lines alike ∙ sym (report-plain m a zeros key′ x′ comment′ hm also-fits also-limit)
+    → length (plainImage m (blob a key′) (keypair a zeros′ key′ x′) comment′) ≤ 65535
+    → reportOf (plainImage n (blob a key) (keypair a zeros key x) comment) ≡ reportOf (plainImage m (blob a key′) (keypair a zeros′ key′ x′) comment′)
+no-private-byte a zeros zeros′ n m key x comment key′ x′ comment′ hn hm fits also-fits alike limit also-limit =
+    report-plain n a zeros key x comment hn fits limit ∙ ap lines alike ∙ sym (report-plain m a zeros′ key′ x′ comment′ hm also-fits also-limit)
 
 -- of a key over a curve that is its kind, its comment's length, and its scalar's length and first byte against 0x80; of an RSA key the numbers'
 -- lengths and the modulus's bits

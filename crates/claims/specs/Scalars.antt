@@ -5,12 +5,16 @@ use native.Mathlib.Omega.{arith}
 use mathlib.Core.Path.{_≡_, refl, sym, _∙_, ap}
 use mathlib.Core.Bool.{Bool, true}
 use mathlib.Core.List.{List}
-use borrow.Author.Tests.{le-leb, leb-true, ltb-true}
+use borrow.Author.Tests.{ne-eqb, le-ltb, le-leb, leb-true, ltb-true}
 use lib.ListN.{length, getD}
 use lib.Seq.{getD-drop}
 use Rattle.fields.specs.Bytes.{AllBytes}
-use Rattle.fields.specs.Fields.{viewOf}
+use Rattle.fields.specs.Fields.{fault, stringAt, viewOf}
 use Rattle.fields.specs.Place.{by-bool}
+use Rattle.fields.specs.declared.Cursor.{Cursor}
+use Rattle.fields.specs.declared.Part.{Part}
+use Rattle.fields.specs.declared.Field.the-variants as field
+use Rattle.fields.specs.declared.Refusal.the-variants.{FormatEncoding}
 use Rattle.names.specs.declared.Elliptic.the-variants.{Ecdsa}
 use Rattle.names.specs.declared.Algorithm.the-variants.{Elliptic as OnCurve}
 use Rattle.names.specs.declared.Curve.{Curve}
@@ -20,7 +24,7 @@ use Rattle.mpint.specs.Mpint.{value, isMpint, zerosBefore, significant}
 use Rattle.mpint.specs.Laws.{mpint-same}
 use Rattle.format.specs.Format.{PublicBytes, PrivateBytes, ofPoint, ofScalar, standing, minimal, leadingZero, zeroLength, notZero, PublicFits, blob, keypair, plainImage, writtenImage}
 use Rattle.format.specs.Scalars.{standing-again, significant-length, significant-first, value-standing, mpint-standing, minimal-mpint, minimal-value}
-use Rattle.pairs.specs.Pairs.{privateBytes, isScalar}
+use Rattle.pairs.specs.Pairs.{privateBytes, isScalar, scalarAt}
 use Rattle.pairs.specs.Scalar.{scalar-some, scalar-short, scalar-stands}
 use Rattle.section.specs.Back.{KeyFits}
 use Rattle.section.specs.declared.Kind.the-variants.{Plain}
@@ -33,7 +37,7 @@ use Rattle.container.specs.FormLaws.{form-back, plain-of}
 use Rattle.reply.specs.declared.Written.the-variants as written
 use Rattle.plain.specs.Plain.{plainReply}
 use Rattle.claims.specs.Reading.{elliptic-held}
-use Rattle.claims.specs.Form.{Stands, scalarIn, ecdsa-fits}
+use Rattle.claims.specs.Form.{Stands, scalarIn, ecdsa-fits, ecdsa-may}
 
 -- ---- what is read
 
@@ -84,13 +88,14 @@ reads-stored k n point stored comment fit public is long text small =
           ∙ ap isMpint (standing-again stored);
     }
 
--- of every accepted plain image of an ECDSA key: its scalar has 1 to SIZE bytes and no leading zero, and stands for the number of the string
--- in the image, zeros and scalar
+-- and no other: of every accepted plain image of an ECDSA key the string in the image, zeros and scalar, is one that may be a scalar's; the
+-- scalar has 1 to SIZE bytes and no leading zero, and stands for the string's number
 pub record ScalarTold (s : List ℕ) (f : Fields) (k : Curve) : Type 0 where
   pub zeros : ℕ
   pub stands : Stands s f zeros
   pub short : length (scalarIn s f) ≤ sizeOf k
   pub first : 0 < getD (scalarIn s f) 0 0
+  pub stored : isScalar (sizeOf k) (standing zeros (scalarIn s f)) ≡ true
   pub number : value (standing zeros (scalarIn s f)) ≡ value (scalarIn s f)
 
 pub scalar-told :
@@ -104,8 +109,22 @@ scalar-told s all f e plain k q =
       stands = (p .text, p .key-fits .may);
       short = fits .0;
       first = fits .1;
+      stored = scalar-stands (sizeOf k) (p .zeros) (scalarIn s f) (fits .1) (fits .0) (ecdsa-may s f k q (p .zeros) (p .key-fits .may));
       number = value-standing (p .zeros) (scalarIn s f);
     }
+
+-- zeros alone are 2, at the field, at any size and of any length up to size + 1
+pub zeros-refused :
+    (s : List ℕ) (c : Cursor) (size : ℕ) (p : Part) (d : Cursor) → stringAt s c ≡ field.Part p d → 0 < p .length → p .length ≤ size + 1
+    → zerosBefore (viewOf s p) ≡ length (viewOf s p) → scalarAt s c size ≡ field.Refused (fault FormatEncoding (c .at))
+unfolding scalarAt isScalar
+zeros-refused s c size p d read some short zeros =
+    rw (
+      read,
+      ne-eqb (p .length) 0 (λ e. omega arith),
+      le-ltb (size + 1) (p .length) short,
+      le-ltb (zerosBefore (viewOf s p)) (length (viewOf s p)) (omega arith),
+    )
 
 -- ---- what is written
 

@@ -1,5 +1,5 @@
 -- Document 01, 'Bytes of the container', steps 6 and 7: the section that goes on from a header. Document 02, request One: the full read
--- is the header read followed by the section's, and a section read of its own is handed a half.
+-- is the header read followed by the section's, and a section read of its own is handed a half. Request Five: a scalar is filled with zeros.
 use Prim.Native.Nat.{ℕ, _+_}
 use mathlib.Core.Path.{_≡_}
 use mathlib.Core.List.{List}

@@ -92,7 +92,7 @@ zero-small : (b : Bool) → zeroLength b < 2
 zero-small true = omega arith
 zero-small false = omega arith
 
--- the same, by the byte at which the scalar's string would begin
+-- the same, by the byte at which the length of the scalar's string would end
 scalar-agrees :
     (s : List ℕ) (f : Fields) (p : PlainText s f) → f .section .kind ≡ Plain
     → scalarInForm s f ≡ eqb (zerosAsked (f .header .algorithm) (privateIn s f)) (p .zeros)

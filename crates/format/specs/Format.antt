@@ -40,7 +40,7 @@ pub record PublicBytes : Type 0 where
   pub modulus : List ℕ
   pub exponent : List ℕ
 
--- the private bytes: a scalar, as a record has it without leading zeros, or Ed25519's seed; or RSA's d, iqmp, p and q
+-- the private bytes: a scalar, a record's without leading zeros, a writer's of SIZE bytes; or Ed25519's seed; or RSA's d, iqmp, p and q
 pub record PrivateBytes : Type 0 where
   pub scalar : List ℕ
   pub d : List ℕ

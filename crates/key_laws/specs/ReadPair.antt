@@ -77,7 +77,7 @@ module _ (s : List ℕ) (all : AllBytes s) where
     pub end : d .end ≡ c .end
 
   -- a scalar in its string, which stands in the image as the part q
-  module _ (c : Cursor) (size : ℕ) (small : size < 100) (q : Part) (d : Cursor) (w : stringAt s c ≡ field.Part q d) where
+  module _ (c : Cursor) (size : ℕ) (small : size < 255) (q : Part) (d : Cursor) (w : stringAt s c ≡ field.Part q d) where
     abbrev stored : List ℕ
     stored = viewOf s q
 
@@ -127,7 +127,7 @@ module _ (s : List ℕ) (all : AllBytes s) where
         read-string .text
         ∙ ap (λ (l : List ℕ). string l ++ rest s d) (sym (standing-again stored) ∙ ap (standing (zerosBefore stored)) (sym significant-seen))
 
-  scalar-read : (c : Cursor) (size : ℕ) → size < 100 → (p : Part) (d : Cursor) → scalarAt s c size ≡ field.Part p d → ScalarRead c size p d
+  scalar-read : (c : Cursor) (size : ℕ) → size < 255 → (p : Part) (d : Cursor) → scalarAt s c size ≡ field.Part p d → ScalarRead c size p d
   unfolding scalarAt
   scalar-read c size small p d e =
       by-field (stringAt s c)
@@ -273,7 +273,7 @@ module _ (s : List ℕ) (all : AllBytes s) where
       let n : m ≡ d = cc in
       let r₁ = ecdsa-public-read s all c named q b (rw j at w) in
       let small = size-small named in
-      let r₂ = scalar-read b (sizeOf named) (small .1) y d (rw (j, n) at v) in
+      let r₂ = scalar-read b (sizeOf named) (omega (arith, small .1)) y d (rw (j, n) at v) in
       rw (← t, ← o, ← l)
       (elliptic-fields c (Ecdsa named) (r₂ .zeros) q y d (r₁ .0 ∙ ap (λ (z : List ℕ). string (curveName named) ++ (string (viewOf s q) ++ z)) (r₂ .text)) (r₁ .1)
       (r₁ .2) (r₂ .long, r₂ .first) (r₂ .may) (r₂ .begins) (r₂ .end ∙ r₁ .3)))

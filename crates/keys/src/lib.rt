@@ -210,7 +210,7 @@ pub fn public_length(a: Elliptic) -> usize
     }
 }
 
-// The length of a seed or scalar.
+// The length of a seed, or of a scalar as a writer takes it.
 pub fn private_length(a: Elliptic) -> usize
     ensures { λ r. ⌜ r ≡ privateLength a ⌝ }
 {

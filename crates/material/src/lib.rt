@@ -1,6 +1,8 @@
 // The material for a new key, and its checkint.
 ghost use mathlib.Core.Path.{_≡_};
-ghost use Rattle.format.specs.Format.{scalarFilled};
+ghost use Prim.Native.Nat.{_+_, _<_, _^_};
+ghost use lib.ListN.{length};
+ghost use Rattle.format.specs.Format.{standing, scalarFilled};
 ghost use Rattle.material.specs.Material.{privateOf, derivedCheckint, checkintOf, zerosMissing, materialOf};
 use fields::Cursor;
 use fields::Part;
@@ -60,40 +62,43 @@ pub fn zeros_missing(algorithm: Elliptic, private: &[u8]) -> usize
     }
 }
 
+// The value of public and private bytes, so many zeros before the private ones. A room that is too short has
+// zeros only.
+fn laid_out(algorithm: Elliptic, public: &[u8], zeros: usize, private: &[u8]) -> Material
+    requires { ⌜ zeros + length (now private) < 2 ^ 64 ⌝ }
+    ensures { λ r. ⌜ r ≡ materialOf algorithm (now (public .entry)) (standing zeros (now (private .entry))) ⌝ }
+{
+    let mut public_room = [0u8; 133];
+    buffer::put(&mut public_room, 0, public);
+    let mut private_room = [0u8; 66];
+    buffer::put(&mut private_room, zeros, private);
+    Material {
+        algorithm: algorithm,
+        public: public_room,
+        public_length: public.len(),
+        private: private_room,
+        private_length: zeros + private.len(),
+    }
+}
+
 impl Material {
-    // Public and private bytes with their lengths, zeros after them; only zeros in a room that is too short.
+    // Public and private bytes with their lengths.
     pub fn new(algorithm: Elliptic, public: &[u8], private: &[u8]) -> Material
         ensures { λ r. ⌜ r ≡ materialOf algorithm (now (public .entry)) (now (private .entry)) ⌝ }
     {
-        let mut public_room = [0u8; 133];
-        buffer::put(&mut public_room, 0, public);
-        let mut private_room = [0u8; 66];
-        buffer::put(&mut private_room, 0, private);
-        Material {
-            algorithm: algorithm,
-            public: public_room,
-            public_length: public.len(),
-            private: private_room,
-            private_length: private.len(),
-        }
+        laid_out(algorithm, public, 0, private)
     }
 
     // The material of a record's parts: a scalar without leading zeros is filled with zeros in front to its size.
     pub fn filled(algorithm: Elliptic, public: &[u8], private: &[u8]) -> Material
         ensures { λ r. ⌜ r ≡ materialOf algorithm (now (public .entry)) (scalarFilled algorithm (now (private .entry))) ⌝ }
     {
-        let zeros = zeros_missing(algorithm, private);
-        let mut public_room = [0u8; 133];
-        buffer::put(&mut public_room, 0, public);
-        let mut private_room = [0u8; 66];
-        buffer::put(&mut private_room, zeros, private);
-        Material {
-            algorithm: algorithm,
-            public: public_room,
-            public_length: public.len(),
-            private: private_room,
-            private_length: zeros + private.len(),
-        }
+        laid_out(
+            algorithm,
+            public,
+            zeros_missing(algorithm, private),
+            private,
+        )
     }
 
     // The given checkint, or where none is given, that derived from the private bytes.

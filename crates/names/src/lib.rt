@@ -164,7 +164,7 @@ pub enum Curve {
 }
 
 impl Curve {
-    // SIZE, the length of a scalar and of a coordinate.
+    // SIZE, the length of a coordinate, and of a scalar as a writer takes it.
     pub fn size(self) -> usize
         ensures { λ r. ⌜ r ≡ sizeOf self ⌝ }
     {

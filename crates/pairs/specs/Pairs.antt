@@ -103,6 +103,7 @@ keypairAt s c =
     onAlgorithmName (algorithmNamed (viewOf s name)) (keypair.Refused (fault AlgorithmUnknown (c .at))) (λ a.
     onAlgorithm a (ellipticPairAt s d) (rsaKeypairAt s d)))
 
--- the string that holds a part begins so many bytes before it: its length's last byte stands there
+-- what the code of the form looks at: so many bytes before a part stands the last byte of the length of a string that has these bytes and
+-- the part. Of accepted images `form-scalar` (container/FormLaws) says what it tells
 unfoldable pub beginsBefore : List ℕ → Part → ℕ → Bool
 beginsBefore s p zeros = ltb zeros (p .start) && eqb (getD s (p .start - (zeros + 1)) 0) (p .length + zeros)

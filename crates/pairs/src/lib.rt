@@ -4,6 +4,7 @@ ghost use mathlib.Core.Bool.{cond};
 ghost use Rattle.fields.specs.Fields.{fault, absent, viewOf};
 ghost use Rattle.fields.specs.declared.Field.the-variants as field;
 ghost use Rattle.fields.specs.declared.Refusal.the-variants.{FormatEncoding};
+ghost use Rattle.mpint.specs.Mpint.{zerosBefore};
 ghost use Rattle.pairs.specs.Pairs.{isScalar, significantPart, scalarAt, scalarPlace, numbersPlace, ed25519PairAt, ecdsaPairAt, ellipticPairAt, rsaKeypairAt, keypairAt};
 use fields::Cursor;
 use fields::Fault;
@@ -21,11 +22,13 @@ use names::Elliptic;
 use rsa::RsaPair;
 use rsa::Six;
 
-// May a scalar's string have these bytes? Not zeros alone, and of more than size the first is a zero.
-fn is_scalar(bytes: &[u8], size: usize) -> bool
+// May a scalar's string have these bytes, so many of them leading zeros? Not zeros alone, and of more than size
+// the first is a zero.
+fn is_scalar(bytes: &[u8], zeros: usize, size: usize) -> bool
+    requires { ⌜ zeros ≡ zerosBefore (now bytes) ⌝ }
     ensures { λ r. ⌜ r ≡ isScalar size (now (bytes .entry)) ⌝ }
 {
-    if mpint::zeros_before(bytes) == bytes.len() {
+    if zeros == bytes.len() {
         return false;
     }
     if bytes.len() <= size {
@@ -40,8 +43,8 @@ fn scalar_in(image: &[u8], stored: Part, next: Cursor, size: usize, at: usize) -
 {
     let start = stored.start;
     let bytes = fields::view(image, stored);
-    if is_scalar(bytes, size) {
-        let zeros = mpint::zeros_before(bytes);
+    let zeros = mpint::zeros_before(bytes);
+    if is_scalar(bytes, zeros, size) {
         let scalar = Part {
             start: start + zeros,
             length: bytes.len() - zeros,
@@ -55,6 +58,7 @@ fn scalar_in(image: &[u8], stored: Part, next: Cursor, size: usize, at: usize) -
 }
 
 // A scalar of any size: 1 to size bytes, or size + 1 that begin with a zero. What is read has no leading zeros.
+// A longer string is refused like a fixed field of size.
 pub fn read_scalar(c: Cursor, image: &[u8], size: usize) -> Field
     ensures { λ r. ⌜ r ≡ scalarAt (now (image .entry)) c size ⌝ }
 {

@@ -9,20 +9,17 @@ use borrow.Author.Needs.{needs}
 use Rattle.pairs.proofs.is_scalar.Statement.{statement}
 use Rattle.pairs.proofs.is_scalar.Tie as tie
 
-zeros-before-requires : tie.Need-zeros-before-requires
-zeros-before-requires c κs = search needs
-
 returns : tie.Need-returns
 unfolding isScalar
 returns c =
-    let b = c .before .before .before .args .bytes .now in
-    rw (le-ltb (zerosBefore b) (length b) (omega (arith, c .before .zeros-before .ensures, c .if1 .taken)))
+    let b = c .before .before .args .bytes .now in
+    rw (le-ltb (zerosBefore b) (length b) (omega (arith, c .before .before .pre, c .if1 .taken)))
 
 returns-2 : tie.Need-returns-2
 unfolding isScalar
 returns-2 c =
-    let b = c .before .before .before .before .args .bytes .now in
-    rw (lt-ltb (zerosBefore b) (length b) (omega (arith, c .before .before .zeros-before .ensures, c .before .if1 .left, zeros-le b)), le-leb _ _ (c .if2 .taken))
+    let b = c .before .before .before .args .bytes .now in
+    rw (lt-ltb (zerosBefore b) (length b) (omega (arith, c .before .before .before .pre, c .before .if1 .left, zeros-le b)), le-leb _ _ (c .if2 .taken))
 
 byte-requires : tie.Need-byte-requires
 byte-requires c κs = search needs
@@ -30,10 +27,9 @@ byte-requires c κs = search needs
 returns-3 : tie.Need-returns-3
 unfolding isScalar
 returns-3 c =
-    let b = c .before .before .before .before .before .args .bytes .now in
+    let b = c .before .before .before .before .args .bytes .now in
     rw
-    (lt-ltb (zerosBefore b) (length b) (omega (arith, c .before .before .before .zeros-before .ensures, c .before .before .if1 .left, zeros-le b)), lt-leb _ _ (c .before .if2 .left), c .byte .ensures)
+    (lt-ltb (zerosBefore b) (length b) (omega (arith, c .before .before .before .before .pre, c .before .before .if1 .left, zeros-le b)), lt-leb _ _ (c .before .if2 .left), c .byte .ensures)
 
 pub is-scalar-spec : {M : Type 1} → statement M
-is-scalar-spec =
-    tie.close (tie.spec zeros-before-requires returns returns-2 byte-requires returns-3)
+is-scalar-spec = tie.close (tie.spec returns returns-2 byte-requires returns-3)
