@@ -5,8 +5,8 @@ import itertools
 from cases_header import FOREIGN_CURVES, FOREIGN_NAMES, near_misses, wrong_lengths
 from comments import comments
 from fields import ALGORITHMS, CURVES, ED25519, SIZES
-from images import Case, Field, accepted, changed, curve_name, inner, keypair_fields, longer, padded, plain
-from images import other_curves, other_kinds, point_of, put, put_all, refused, scalar_of, spot, stream
+from images import Case, Field, accepted, changed, curve_name, inner, join, keypair_fields, longer, other_curves, other_kinds, padded
+from images import place, plain, point_of, put, put_all, refused, scalar_of, spot, stream
 
 
 def length_cases(algorithm):
@@ -184,6 +184,18 @@ def unlike_curve_cases(algorithm, other):
     length = SIZES[algorithm]
     reply = (4, "section.curve") if length < size else (6, "section.scalar", 4 + size, length - size)
     yield refused(title + ", scalar of the name's length", mixed, *reply)
+
+
+def slipped_cases():
+    """A byte of the section's public key is lost and one stands at the section's end: the next length is read a byte late, so that its
+    last byte is the first private one. The count of 6 is what that length says, so it tells that byte."""
+    for algorithm, fixed in ((ED25519, 64), (1, SIZES[1])):
+        fields = plain(algorithm, b"c" * 20_000)
+        lost = place(fields, "section.point") + 4 + 1
+        image = join(fields)
+        length = (len(keypair_fields(algorithm)[-1].content) << 8) + scalar_of(algorithm)[0]
+        reply = (6, length - fixed, place(fields, "section.scalar") + 4 + fixed)
+        yield Case("a byte of the public key lost", image[:lost] + image[lost + 1 :] + b"\1", reply)
 
 
 def comment_cases():

@@ -11,7 +11,7 @@ import sys
 import check_places
 
 OUTSIDE = re.compile(r"\.\./shared|/work/|/opt/rattle|https?://[^\s)]*(debian|pypi|crates\.io)")
-CODE = (".rt", ".antt", ".py", ".sh", ".md", ".edit", ".txt", ".rs", ".c", ".h", ".toml")
+CODE = (".rt", ".antt", ".py", ".sh", ".md", ".edit", ".txt", ".rs", ".c", ".h", ".toml", ".awk")
 
 
 def without_comments(text):
@@ -82,6 +82,8 @@ def contracts_document():
     for crate, edit in named_edits(document):
         if not glob.glob(f"crates/{crate}/must-fail/{edit}.edit"):
             yield f"docs/CONTRACTS.md names the edit {crate}/{edit}, which isn't there"
+    if re.search(r"\bno edit\b", document, re.I):
+        yield "docs/CONTRACTS.md says that there is no edit: leave it at the edits that are named"
     for crate, name in re.findall(r"\((\w+)/([A-Z]\w+)\)", document):
         if not os.path.exists(f"crates/{crate}/specs/{name}.antt"):
             yield f"docs/CONTRACTS.md names {crate}/{name}, which isn't there"

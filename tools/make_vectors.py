@@ -46,7 +46,7 @@ from cases_rsa_records import rsa_record_cases
 from cases_rsa_writing import rsa_rows
 from cases_scalar import scalar_image_cases
 from cases_scalar_writing import scalar_rows
-from cases_section import section_cases
+from cases_section import section_cases, slipped_cases
 from damage import damages
 from fields import content
 from images import corpus
@@ -78,6 +78,7 @@ def all_cases():
     yield from corpus()
     yield from header_cases()
     yield from section_cases()
+    yield from slipped_cases()
     yield from scalar_image_cases()
     yield from damages()
     yield from half_cases()

@@ -1,8 +1,9 @@
 #!/bin/sh
 # tools/run_program.sh NAME: runs the built program target/bin/NAME, from standard input to standard output. Programs are for x86-64;
-# the kit brings their loader and, for another processor, an emulator.
+# the kit brings their loader and, for another processor, an emulator. Without the kit the system's own loader is taken.
 set -eu
 root=$(cd "$(dirname "$0")/.." && pwd)
+command -v rt >/dev/null 2>&1 || exec "$root/target/bin/$1"
 kit=$(dirname "$(dirname "$(rt doc)")")
 tools=$kit/on/$(uname -m)/toolchain
 [ -d "$tools" ] || tools=$kit/toolchain

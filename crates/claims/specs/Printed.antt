@@ -1,7 +1,8 @@
 -- Document 01, 'Views and the inspection program': the program prints no private byte. What it prints of every image: of an accepted one its
--- kind, its names, its lengths and its form, of a refused one number, count and place. Images that are alike in these have the same report,
--- whatever their private bytes. (The lengths of a plain ECDSA image tell how many bytes its scalar's string has; in the form the scalar has as
--- many, or one fewer and then a first byte of 0x80 or more.)
+-- kind, its names, its lengths and its form, of a refused one number, count and place. Accepted images that are alike in these have the same
+-- report, whatever their private bytes. (The lengths of a plain ECDSA image tell how many bytes its scalar's string has; in the form the
+-- scalar has as many, or one fewer and then a first byte of 0x80 or more.) Of a refused image no more is said than `report-refused`: its
+-- count and place are what length fields say, and in a damaged image such a field may lie where a private byte was.
 use Prim.Native.Nat.{ℕ, _+_, _*_, _≤_, _<_, _^_}
 use native.Mathlib.Omega.{arith}
 use mathlib.Core.Path.{_≡_, refl, sym, _∙_, ap}
@@ -103,7 +104,7 @@ module _ (n : ℕ) (a : Algorithm) (zeros : ℕ) (key : PublicBytes) (x : Privat
       let b = plain-image-back image n a zeros key x comment limit small fits refl in
       rw (b .read, b .plain, form-back image n a zeros key x comment _ fits refl b, b .same-algorithm, b .same-bits, b .no-cipher, b .no-kdf, b .comment-size, b .same-padding, size-is, length-is)
 
--- no private byte: two keys whose kind, lengths, bits of a modulus and form are the same have the same report, whatever their private
+-- no private byte of an accepted image: two keys whose kind, lengths, bits of a modulus and form are the same have the same report, whatever their private
 -- bytes are, and whatever their points, numbers, checkints and comments
 pub no-private-byte :
     (a : Algorithm) (zeros zeros′ n m : ℕ) (key : PublicBytes) (x : PrivateBytes) (comment : List ℕ) (key′ : PublicBytes) (x′ : PrivateBytes) (comment′ : List ℕ)
