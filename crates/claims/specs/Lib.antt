@@ -1,5 +1,5 @@
--- Demand 1: Refusals, Ordered. Demand 2: Reading, Sealed, Form. Demand 3: Change, Front, Sequence. The two halves of a read:
--- Halves, HeaderAlone. Scalars of any length: Scalars. Records handed in: Handed. What is printed: Printed. Where a refusal is: Places, PlacesWritten.
+-- Demand 1: Refusals, Ordered. Demand 2: Reading, Sealed, Form. Demand 3: Demand, from Change and Front; Sequence. The two halves
+-- of a read: Halves, HeaderAlone. Scalars of any length: Scalars. Records handed in: Handed. What is printed: Printed. Where a refusal is: Places, PlacesWritten.
 -- The marked examples: Marked. The paper's wrong programs: ShutOut. The others hold what these rest on.
 pub mod Reading
 pub mod Sealed
@@ -8,6 +8,7 @@ pub mod Scalars
 pub mod Laid
 pub mod Change
 pub mod Front
+pub mod Demand
 pub mod Bytes
 pub mod Again
 pub mod Kept
