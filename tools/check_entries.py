@@ -1,10 +1,9 @@
-#!/usr/bin/env python3
 """Holds the entries of claims/Refusals, `Entry` and `EntryC`, over which `refused-keeps` and `place-said` go, to the sources: they are exactly
 the public functions that take a lent buffer and can refuse, and claims/Entries has a theorem for each, from the contract that the
-checker made of that function to its line. That a theorem holds is the checker's to say; this reads text and proves nothing."""
+checker made of that function to its line. That a theorem holds is the checker's to say; this reads text and proves nothing.
+check_texts.py runs it."""
 import glob
 import re
-import sys
 
 LIST = "crates/claims/specs/Refusals.antt"
 THEOREMS = "crates/claims/specs/Entries.antt"
@@ -60,24 +59,10 @@ def tied():
 def faults():
     functions = {(crate, name) for crate, name, answer in lent_functions() if not is_put(crate, name, answer)}
     ties = {**dict(tied()), **BY_HAND}
-    listed = list(lines())
-    for line in sorted(set(listed) - set(ties)):
-        yield f"claims/Entries has no theorem for the entry {line}"
-    for line in sorted(set(ties) - set(listed)):
-        yield f"claims/Refusals has no entry {line}"
-    for crate, name in sorted(functions - set(ties.values())):
-        yield f"{crate}::{name} takes a lent buffer and is no entry of claims/Refusals"
-    for crate, name in sorted(set(ties.values()) - functions):
-        yield f"{crate}::{name} is an entry of claims/Refusals and takes no lent buffer"
-
-
-def main():
-    wrong = list(faults())
-    for line in wrong:
-        print(line)
-    print("entries: %s" % ("%d faults" % len(wrong) if wrong else "ok"))
-    return 1 if wrong else 0
-
-
-if __name__ == "__main__":
-    sys.exit(main())
+    named, listed = set(ties.values()), set(lines())
+    return [
+        *(f"claims/Entries has no theorem for the entry {line}" for line in sorted(listed - set(ties))),
+        *(f"claims/Refusals has no entry {line}" for line in sorted(set(ties) - listed)),
+        *(f"{crate}::{name} takes a lent buffer and is no entry of claims/Refusals" for crate, name in sorted(functions - named)),
+        *(f"{crate}::{name} is an entry of claims/Refusals and takes no lent buffer" for crate, name in sorted(named - functions)),
+    ]

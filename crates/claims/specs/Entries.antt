@@ -1,7 +1,7 @@
--- Demand 1: the entries' list is of the functions themselves. For each, its own contract, as the checker generated it from the source (`Reads.Post`),
--- gives its line's promise, of what it was handed, the buffer before and after and the answer. So `refused-keeps` and `place-said` hold of whatever
--- meets that contract. Of `recorded-rewrite` the checker makes no plain form; its contract cites the line's definition, `isHanded`, over the
--- record's image and fields.
+-- Demand 1: the entries' list is of the functions themselves. For each, its own contract, as the checker generated it from the source
+-- (`Reads.Post`), gives its line's promise, of what it was handed, the buffer before and after and the answer. So `refused-keeps` and
+-- `place-said` hold of whatever meets that contract. Of `recorded::rewrite` the checker makes no plain form; its contract cites its line's
+-- definition, `isHanded`, over the record's image and fields. Last, demand 3 of the function itself.
 use Prim.Native.Nat.{ℕ}
 use mathlib.Core.List.{List}
 use contract.Lifetimes.{Lfts}
@@ -38,11 +38,12 @@ use Rattle.saltorchard.proofs.saltorchard_rewrite.Reads as saltorchard-rewrite-
 use Rattle.saltorchard.proofs.saltorchard_rewrite.Kinds as saltorchard-rewrite-kinds
 use Rattle.saltorchard.proofs.saltorchard_change_comment.Reads as saltorchard-change-comment-reads
 use Rattle.saltorchard.proofs.saltorchard_change_comment.Kinds as saltorchard-change-comment-kinds
+use Rattle.container.specs.declared.Fields.{Fields}
+use Rattle.claims.specs.Demand.{Asked, Demanded, demand-three}
 use Rattle.claims.specs.Refusals.{write-parts, write-filled, write-numbers, write-rsa, write-plain, write-encrypted, rewrite, rewrite-record, change-comment, write-report, Promise, saltorchard-write-plain, saltorchard-write-rsa, saltorchard-write-encrypted, saltorchard-rewrite, saltorchard-change-comment, PromiseC}
 
 -- what meets the contract keeps the line: a are the arguments, in their order, r the answer, s what the lent places hold at the end
-abbrev Listed :
-    (n : ℕ) (ps : List (PK n)) (r : RK n) → Out n ps r → Out n ps r → Type 0
+abbrev pub Listed : (n : ℕ) (ps : List (PK n)) (r : RK n) → Out n ps r → Out n ps r → Type 0
 Listed n ps r Post Line =
     (κs : Lfts n) (a : Dens κs ps) (w : resT r κs .Denot) (s : AtExit (endedOf n ps r) κs) → Post κs a w s → Line κs a w s
 
@@ -151,3 +152,11 @@ pub saltorchard-change-comment-listed :
     Listed 2 saltorchard-change-comment-kinds.ps saltorchard-change-comment-kinds.r saltorchard-change-comment-reads.Post
     (λ κs a r s. PromiseC (saltorchard-change-comment (a .1 .0) (now (a .1 .1 .0))) (now (a .0)) r (now (s .0)))
 saltorchard-change-comment-listed κs a r s p = p
+
+-- demand 3 of whatever meets the comment change's own contract
+pub change-comment-demanded :
+    (f : Fields)
+    → Listed 2 change-comment-kinds.ps change-comment-kinds.r change-comment-reads.Post
+    (λ κs a r s.
+    Asked (now (a .0)) (a .1 .0) f (now (a .1 .1 .0)) → Demanded (now (a .0)) (a .1 .0) f (now (a .1 .1 .0)) r (now (s .0)))
+change-comment-demanded f κs a r s p asked = demand-three (now (a .0)) (a .1 .0) f (now (a .1 .1 .0)) asked r (now (s .0)) p

@@ -1,5 +1,5 @@
--- Demand 2, what a rewrite writes of an accepted image: it is in the form, and is read as the same record, a scalar in its form. That
--- the premise can be met: `rewrite-sized` (Form) says that a rewrite is refused for size and room only.
+-- Demand 2, what a rewrite writes of an accepted image: it is in the form, and is read as the same record, a scalar in its form. It does
+-- write: `rewrite-sized` (Form) says that a rewrite of an accepted image is refused for size and room only.
 use Prim.Native.Nat.{ℕ, _-_, _%_, _≤_}
 use mathlib.Core.Path.{_≡_, refl, sym, _∙_, ap}
 use mathlib.Core.Bool.{true}
@@ -35,8 +35,9 @@ use Rattle.container.specs.Form.{rewritten, formOf}
 use Rattle.container.specs.Read.{halves, PlainText, ImageText, plain-text, encrypted-text, image-text}
 use Rattle.container.specs.FormLaws.{form-encrypted}
 use Rattle.container.specs.Back.{plain-image-back}
+use Rattle.reply.specs.declared.Written.{Written}
 use Rattle.reply.specs.declared.Written.the-variants as written
-use Rattle.writer.specs.Rewrite.{rewriteReply, rewriteLeft}
+use Rattle.writer.specs.Rewrite.{isRewritten}
 use Rattle.claims.specs.Again.{back-form}
 use Rattle.claims.specs.Form.{Stands, rewrite-written}
 use Rattle.claims.specs.Kept.{one-record}
@@ -235,11 +236,13 @@ module _ (s : List ℕ) (all : AllBytes s) (f : Fields) (e : readAt s ≡ read.R
         stands = λ plain. clash (let o : Plain ≡ Encrypted = sym plain ∙ kind in cc);
       })
 
-  pub rewrite-read : (old : List ℕ) (k : ℕ) → rewriteReply s (length old) ≡ written.Length k → Rewritten s f (take k (rewriteLeft s old))
+  -- whatever meets the contract of a rewrite, and answers a length
+  pub rewrite-read :
+      (old : List ℕ) (r : Written) (out : List ℕ) (k : ℕ) → isRewritten s old r out → r ≡ written.Length k → Rewritten s f (take k out)
   unfolding formOf
-  rewrite-read old k w =
-      let h = rewrite-written s all f e old k w in
-      rw (h .1) (go (h .0) (image-text s all f e))
+  rewrite-read old r out k meets answered =
+      let h = rewrite-written s all f e old k (sym (meets .0) ∙ answered) in
+      rw (meets .1, h .1) (go (h .0) (image-text s all f e))
     where
       go : length (rewritten s f) ≤ 65535 → ImageText s all f e → Rewritten s f (rewritten s f)
       go small (plain-text kind p) = plain-read kind p small

@@ -116,8 +116,8 @@ scalar-told s all f e plain k q =
       number = value-standing (p .zeros) (scalarIn s f);
     }
 
--- why a string isn't a scalar's, at any size, and how far from its field's beginning that is: empty 1; above size + 1 bytes 6, with the bytes
--- above size, at the first of them; any other that isn't one, as zeros alone, 2
+-- why a string isn't a scalar's, at any size, and how far from its field's beginning that is: empty 1; above size + 1 bytes 6, with the
+-- bytes above size, at the first of them; any other that isn't one, as zeros alone, 2
 pub data NoScalar (size : ℕ) (stored : List ℕ) : Refusal → ℕ → Type 0 where
   no-bytes : length stored ≡ 0 → NoScalar size stored Length 0
   too-long : size + 1 < length stored → NoScalar size stored (TrailingData (length stored - size)) (4 + size)

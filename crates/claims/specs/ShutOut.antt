@@ -225,9 +225,9 @@ module _ (a : Algorithm) (key : PublicBytes) (x : PrivateBytes) (n : ℕ) (fit :
   changes-to : AllBytes s → (changeReply s k second ≡ written.Length k) × (changeLeft s k second ≡ writtenImage n a key x second)
   changes-to bytes =
       let will = plain-accepted a key x n second k k fits in
-      let d = demand-three s k (back .fields) second (asked bytes) in
+      let d = demand-three s k (back .fields) second (asked bytes) (changeReply s k second) (changeLeft s k second) (refl, refl, refl) in
       let size : length (afresh (take k s) (back .fields) second) ≡ k = ap length afresh-is ∙ sym (will .size) in
-      let long : length (changeLeft s k second) ≡ k = d .changed .same-length ∙ sym (was .size) in (
+      let long : length (changeLeft s k second) ≡ k = d .same-length ∙ sym (was .size) in (
         rw size at (d .answered),
         sym (take-length (changeLeft s k second)) ∙ ap (λ (i : ℕ). take i (changeLeft s k second)) (long ∙ sym size) ∙ d .image ∙ afresh-is,
       )
