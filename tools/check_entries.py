@@ -1,19 +1,19 @@
-"""Holds the entries of claims/Refusals, `Entry` and `EntryC`, over which `refused-keeps` and `place-said` go, to the sources: they are exactly
-the public functions that take a lent buffer and can refuse, and claims/Entries has a theorem for each, from the contract that the
-checker made of that function to its line. That a theorem holds is the checker's to say; this reads text and proves nothing.
+"""Holds the entries of claims/Refusals, `Entry` and `EntryC`, over which `refused-keeps` and `place-said` go, to the sources: they are
+exactly the public functions that take a lent buffer and can refuse, and claims/Entries has a theorem for each, from the contract that
+the checker made of that function to its line. That a theorem holds is the checker's to say; this reads text and proves nothing.
 check_texts.py runs it."""
 import glob
 import re
 
 LIST = "crates/claims/specs/Refusals.antt"
 THEOREMS = "crates/claims/specs/Entries.antt"
-# A struct that holds a reference: the checker makes no plain form of the contract.
-BY_HAND = {"recorded-rewrite": ("recorded", "rewrite")}
+# A struct that holds a reference: the checker makes no plain form of the contract, which cites the definition that the line has.
+BY_HAND = {"recorded-rewrite": (("recorded", "rewrite"), "isHanded")}
 # Their functions put bytes where they fit and answer a place: they refuse nothing.
 PUTS = ("buffer", "spelling")
 
 LENT = re.compile(r"&(?:'\w+ )?mut \[u8\]")
-FUNCTION = re.compile(r'\bpub (?:extern "C" )?fn (\w+)(?:<[^>]*>)?\(([^)]*)\)(?:\s*->\s*(\w+))?')
+FUNCTION = re.compile(r'\bpub (?:extern "C" )?fn (\w+)(?:<[^>]*>)?\(([^)]*)\)(?:\s*->\s*(\w+))?(?:\s*ensures \{ λ \w+\. ⌜ (\w+))?')
 THEOREM = re.compile(
     r"^pub (\S+)-listed :\s+Listed \d+ (\S+)-kinds\.ps (\S+)-kinds\.r (\S+)-reads\.Post\s+\(λ κs a r s\.\s+PromiseC? \((\S+) ", re.M
 )
@@ -25,16 +25,16 @@ def text_of(path):
 
 
 def lent_functions():
-    """Crate, name and answer of each public function that takes a lent buffer."""
+    """Each public function that takes a lent buffer: its crate and name, its answer, and the definition that its contract begins with."""
     for path in sorted(glob.glob("crates/*/src/*.rt")):
         source = re.sub(r"//[^\n]*", "", text_of(path))
-        for name, parameters, answer in FUNCTION.findall(source):
+        for name, parameters, answer, definition in FUNCTION.findall(source):
             if LENT.search(parameters):
-                yield path.split("/")[1], name, answer
+                yield (path.split("/")[1], name), answer, definition
 
 
-def is_put(crate, name, answer):
-    return crate in PUTS and name.startswith("put") and answer == "usize"
+def is_put(function, answer):
+    return function[0] in PUTS and function[1].startswith("put") and answer == "usize"
 
 
 def lines():
@@ -46,23 +46,27 @@ def lines():
 def tied():
     """The function whose contract a line's theorem begins with."""
     text = text_of(THEOREMS)
-    modules = {}
-    for crate, name, module, line in re.findall(r"^use Rattle·(\w+)\.proofs\.(\w+)\.(Reads|Kinds) as (\S+)$", text, re.M):
-        modules[line] = (crate, name, module)
+    uses = re.findall(r"^use Rattle·(\w+)\.proofs\.(\w+)\.Reads as (\S+)-reads$", text, re.M)
+    functions = {line: (crate, name) for crate, name, line in uses}
     for names in THEOREM.findall(text):
-        line = names[0]
-        reads, kinds = modules.get(f"{line}-reads"), modules.get(f"{line}-kinds")
-        if len(set(names)) == 1 and reads and kinds and reads[:2] == kinds[:2]:
-            yield line, reads[:2]
+        if len(set(names)) == 1 and names[0] in functions:
+            yield names[0], functions[names[0]]
+
+
+def cited_faults(functions):
+    for function, definition in BY_HAND.values():
+        if functions.get(function) != definition:
+            yield f"{'::'.join(function)} has no contract over {definition}"
 
 
 def faults():
-    functions = {(crate, name) for crate, name, answer in lent_functions() if not is_put(crate, name, answer)}
-    ties = {**dict(tied()), **BY_HAND}
+    functions = {function: definition for function, answer, definition in lent_functions() if not is_put(function, answer)}
+    ties = {**dict(tied()), **{line: function for line, (function, _) in BY_HAND.items()}}
     named, listed = set(ties.values()), set(lines())
     return [
         *(f"claims/Entries has no theorem for the entry {line}" for line in sorted(listed - set(ties))),
         *(f"claims/Refusals has no entry {line}" for line in sorted(set(ties) - listed)),
-        *(f"{crate}::{name} takes a lent buffer and is no entry of claims/Refusals" for crate, name in sorted(functions - named)),
-        *(f"{crate}::{name} is an entry of claims/Refusals and takes no lent buffer" for crate, name in sorted(named - functions)),
+        *(f"{crate}::{name} takes a lent buffer and is no entry of claims/Refusals" for crate, name in sorted(set(functions) - named)),
+        *(f"{crate}::{name} is an entry of claims/Refusals and takes no lent buffer" for crate, name in sorted(named - set(functions))),
+        *cited_faults(functions),
     ]
