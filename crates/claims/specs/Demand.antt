@@ -1,7 +1,8 @@
 -- Demand 3, one change of the comment, whole and with the demand's own premises. A buffer begins with an accepted plain image in the form;
 -- the new comment is valid UTF-8; with it the image written afresh has at most 65,535 bytes and fits the buffer. Whatever meets the contract
 -- of a change then accepts it, answers that length and leaves that image; all before the comment's length field stays, but the four bytes
--- of the section's length; zeros stand from the new end to the old one; bytes past both ends stay. `relettered` (ShutOut) meets the premises.
+-- of the section's length; zeros stand from the new end to the old one; bytes past both ends stay. That the premises can be met: `asked`
+-- (ShutOut), of a written image of any kind, and `relettered` there, of one.
 use Prim.Native.Nat.{ℕ, _+_, _-_, _≤_}
 use native.Mathlib.Omega.{arith}
 use mathlib.Core.Path.{_≡_, sym, _∙_}

@@ -1,6 +1,6 @@
--- Demand 2, what a rewrite writes of an accepted image: it is in the form, and is read as the same record, a scalar in its form. It does
--- write: `rewrite-sized` (Form) says that a rewrite of an accepted image is refused for size and room only.
-use Prim.Native.Nat.{ℕ, _-_, _%_, _≤_}
+-- Demand 2: what the plain writer writes is in the form. So is what a rewrite writes of an accepted image, and it is read as the same record,
+-- a scalar in its form. It does write: `rewrite-sized` (Form) says that a rewrite of an accepted image is refused for size and room only.
+use Prim.Native.Nat.{ℕ, _-_, _%_, _≤_, _<_, _^_}
 use mathlib.Core.Path.{_≡_, refl, sym, _∙_, ap}
 use mathlib.Core.Bool.{true}
 use mathlib.Core.List.{List, []}
@@ -17,7 +17,7 @@ use Rattle.names.specs.declared.Cipher.{Cipher}
 use Rattle.names.specs.declared.Kdf.{Kdf}
 use Rattle.names.specs.declared.Kdf.the-variants as kdf
 use Rattle.names.specs.Ciphers.{isNone, blockSize, tagLength}
-use Rattle.format.specs.Format.{zerosAsked, blob, keypair, plainImage, writtenImage}
+use Rattle.format.specs.Format.{PublicBytes, PrivateBytes, trimmed, filled, zerosAsked, blob, keypair, plainImage, writtenImage}
 use Rattle.format.specs.Scalars.{rule-may, written-own}
 use Rattle.keys.specs.declared.Public.{Public}
 use Rattle.section.specs.declared.Kind.the-variants.{Plain, Encrypted}
@@ -37,10 +37,29 @@ use Rattle.container.specs.FormLaws.{form-encrypted}
 use Rattle.container.specs.Back.{plain-image-back}
 use Rattle.reply.specs.declared.Written.{Written}
 use Rattle.reply.specs.declared.Written.the-variants as written
+use Rattle.plain.specs.Plain.{plainLeft, isPlain}
 use Rattle.writer.specs.Rewrite.{isRewritten}
+use Rattle.claims.specs.Reading.{Own, plain-accepted, plain-written, read-after-write}
 use Rattle.claims.specs.Again.{back-form}
 use Rattle.claims.specs.Form.{Stands, rewrite-written}
 use Rattle.claims.specs.Kept.{one-record}
+
+-- ---- what the plain writer writes
+
+pub plain-in-form :
+    (a : Algorithm) (key : PublicBytes) (x : PrivateBytes) (n : ℕ) (comment old : List ℕ) (r : Written) (out : List ℕ) (k : ℕ) → n < 2 ^ 32 → Own a key x
+    → isPlain a key x n comment old r out → r ≡ written.Length k
+    → (f : Fields) × (readAt (take k out) ≡ read.Record f) × (formOf (take k out) f ≡ true)
+plain-in-form a key x n comment old r out k small own meets answered =
+    let e = sym (meets .0) ∙ answered in
+    let b = read-after-write a key x n comment old k small own e in
+    let t = take k (plainLeft a key x n comment old) in
+    let material = plain-accepted a key x n comment (length old) k e .material own in
+    let text : t ≡ writtenImage n a key (filled a (trimmed a x)) comment =
+    plain-written a key x n comment old k e ∙ ap (λ (y : PrivateBytes). writtenImage n a key y comment) (sym material) in
+    rw (meets .1) (b .fields, b .read, back-form t n a key (trimmed a x) comment _ text b)
+
+-- ---- what a rewrite writes
 
 -- the record g of t says what the record f of s says: all but how many bytes the padding has
 pub record SameRecord (s : List ℕ) (f : Fields) (t : List ℕ) (g : Fields) : Type 0 where
