@@ -1,5 +1,6 @@
--- Demand 2: what the plain writer writes is in the form. So is what a rewrite writes of an accepted image, and it is read as the same record,
--- a scalar in its form. It does write: `rewrite-sized` (Form) says that a rewrite of an accepted image is refused for size and room only.
+-- Demand 2: what the plain writer writes is in the form. So is what a rewrite writes of an accepted image, and it is read as the same
+-- record, a scalar in its form. It does write: `rewrite-sized` (Form) says that a rewrite of an accepted image is refused for size and room
+-- only.
 use Prim.Native.Nat.{ℕ, _-_, _%_, _≤_, _<_, _^_}
 use mathlib.Core.Path.{_≡_, refl, sym, _∙_, ap}
 use mathlib.Core.Bool.{true}
