@@ -54,7 +54,7 @@ place-of s all f b =
     p .comment-place ∙ ap₂ (λ (i zeros : ℕ). i + 4 + beforeComment (keypair a zeros key x) + 4) (p .section-place) (sym rule)
 
 -- what a change answers, by the base
-base-reply :
+pub base-reply :
     (s : List ℕ) (f : Fields) → Base s f → (comment : List ℕ) (room : ℕ)
     → acceptedReply s f comment room ≡ cond (utf8 comment) (afreshReply s f comment room) (written.Refused (fault CharacterEncoding (commentField f)))
 unfolding acceptedReply

@@ -186,7 +186,7 @@ part-within s p =
     omega (arith, view-length s p inside, inside))
     (λ w. rw (view-out s p (leb-false (p .start + p .length) (length s) w) .0) (omega arith))
 
-sized-fits : (image : List ℕ) (room : ℕ) → length image ≤ 65535 → length image ≤ room → sized image room ≡ written.Length (length image)
+pub sized-fits : (image : List ℕ) (room : ℕ) → length image ≤ 65535 → length image ≤ room → sized image room ≡ written.Length (length image)
 unfolding sized
 sized-fits image room h k = rw (le-leb _ _ h, le-leb _ _ k)
 
@@ -214,7 +214,8 @@ module _ (s : List ℕ) (all : AllBytes s) (f : Fields) (e : readAt s ≡ read.R
       let b = blob-back key (whole key) whole-good short (f .header .algorithm) (publicIn s f) (fits .public) (rest-whole key ∙ p .content) in
       rw (fits .encrypts, options-told (f .header .kdf) (viewOf s (f .header .salt)) (f .header .rounds) (fits .options-fit), b .read, eq-eqb _ _ (fits .blocks), eq-eqb _ _ (fits .tag-long))
 
-  rewrite-sized : (room : ℕ) → rewriteReply s room ≡ sized (rewritten s f) room
+  -- so a rewrite is refused for size and room only
+  pub rewrite-sized : (room : ℕ) → rewriteReply s room ≡ sized (rewritten s f) room
   unfolding rewriteReply recordReply rewritten plainAgain
   rewrite-sized room = rw e (go (image-text s all f e))
     where
@@ -248,14 +249,19 @@ module _ (s : List ℕ) (all : AllBytes s) (f : Fields) (e : readAt s ≡ read.R
       let end : length s ≡ 0 + length s = omega arith in
       (rewrite-sized (length old) ∙ answer, rw (rewrite-left old, answer, same) (ap (λ (i : ℕ). take i (splice old 0 s)) end ∙ take-splice old 0 s fit))
 
+  -- what a rewrite that is accepted writes
+  pub rewrite-written :
+      (old : List ℕ) (k : ℕ) → rewriteReply s (length old) ≡ written.Length k → (length (rewritten s f) ≤ 65535) × (take k (rewriteLeft s old) ≡ rewritten s f)
+  rewrite-written old k w =
+      let answer : sized (rewritten s f) (length old) ≡ written.Length k = sym (rewrite-sized (length old)) ∙ w in
+      let h = sized-held (rewritten s f) (length old) k answer in
+      let fit : 0 + length (rewritten s f) ≤ length old = omega (arith, h .1) in
+      let end : k ≡ 0 + length (rewritten s f) = omega (arith, h .2) in
+      (h .0, rw (rewrite-left old, answer, end) (take-splice old 0 (rewritten s f) fit))
+
   -- and where it gives the image, the image is in the form
   pub rewrite-gives :
       (old : List ℕ) (k : ℕ) → rewriteReply s (length old) ≡ written.Length k → take k (rewriteLeft s old) ≡ s → formOf s f ≡ true
   unfolding formOf
   rewrite-gives old k w same =
-      let answer : sized (rewritten s f) (length old) ≡ written.Length k = sym (rewrite-sized (length old)) ∙ w in
-      let h = sized-held (rewritten s f) (length old) k answer in
-      let fit : 0 + length (rewritten s f) ≤ length old = omega (arith, h .1) in
-      let end : k ≡ 0 + length (rewritten s f) = omega (arith, h .2) in
-      let image : take k (rewriteLeft s old) ≡ rewritten s f = rw (rewrite-left old, answer, end) (take-splice old 0 (rewritten s f) fit) in
-      ap (λ (l : List ℕ). sameBytes (rewritten s f) l) (sym same ∙ image) ∙ same-self (rewritten s f)
+      ap (λ (l : List ℕ). sameBytes (rewritten s f) l) (sym same ∙ rewrite-written old k w .1) ∙ same-self (rewritten s f)

@@ -24,7 +24,7 @@ pub record State : Type 0 where
   pub buf : List ℕ
   pub n : ℕ
 
-change-of :
+pub change-of :
     (old : List ℕ) (n : ℕ) (f : Fields) → n ≤ 65535 → n ≤ length old → Base (take n old) f → (comment : List ℕ)
     → changeReply old n comment ≡ acceptedReply (take n old) f comment (length old)
 unfolding changeReply

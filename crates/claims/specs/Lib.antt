@@ -1,13 +1,17 @@
--- Demand 1: Refusals, Ordered. Demand 2: Reading, Sealed, Form. Demand 3: Change, Front, Sequence. The two halves of a read:
--- Halves, HeaderAlone. Scalars of any length: Scalars. Records handed in: Handed. What is printed: Printed. Where a refusal is: Places, PlacesWritten.
--- The marked examples: Marked. The paper's wrong programs: ShutOut. The others hold what these rest on.
+-- Demand 1: Refusals, Entries, Ordered. Demand 2: Reading, Sealed, Form, Rewritten. Demand 3: Demand, from Change and Front; Sequence. The
+-- two halves of a read: Halves, HeaderAlone. Scalars of any length: Scalars, NoScalars. Records handed in: Handed. What is printed: Printed.
+-- Where a refusal is: Places, PlacesWritten. The marked examples: Marked. The paper's wrong programs: ShutOut. The others hold what these
+-- rest on.
 pub mod Reading
 pub mod Sealed
 pub mod Form
+pub mod Rewritten
 pub mod Scalars
+pub mod NoScalars
 pub mod Laid
 pub mod Change
 pub mod Front
+pub mod Demand
 pub mod Bytes
 pub mod Again
 pub mod Kept
@@ -16,6 +20,7 @@ pub mod Handed
 pub mod Halves
 pub mod HeaderAlone
 pub mod Refusals
+pub mod Entries
 pub mod Ordered
 pub mod Sizes
 pub mod Marked

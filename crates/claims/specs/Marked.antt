@@ -1,36 +1,31 @@
--- The paper's marked examples, M1 to M16, as one table under one claim: `marked`, M14 as document 02's request Five has it. What is written,
--- and what is read, in the form or not, holds for every key, checkint, comment and buffer of the row's kind; what the reader refuses is
--- computed, each on one image.
-use Prim.Native.Nat.{ℕ, _≤_, _<_, _^_}
+-- The paper's marked examples, M1 to M16, as one table under one claim: `marked`, M14 as document 02's request Five has it. What is
+-- written, and what is read, in the form or not, or refused for its scalar, holds for every key, checkint, comment and buffer of the row's
+-- kind. M1 to M4 are one image each.
+use Prim.Native.Nat.{ℕ, zero, suc, _+_, _-_, _≤_, _<_, _^_}
 use native.Mathlib.Omega.{arith}
-use mathlib.Core.Path.{_≡_, refl, _∙_}
+use mathlib.Core.Path.{_≡_, refl, sym, _∙_, ap}
 use mathlib.Core.Bool.{Bool, true, false}
 use mathlib.Core.List.{List, [], _∷_, _++_}
-use borrow.Author.Tests.{eq-eqb, lt-ltb}
-use lib.ListN.{length, getD, replicate}
+use borrow.Author.Tests.{eq-eqb, lt-ltb, leb-true}
+use lib.ListN.{length, getD, replicate, length-replicate}
 use Rattle.fields.specs.Bytes.{ascii, uint32, string}
-use Rattle.fields.specs.Fields.{fault, hasRoom, uint32At, bytesAt, stringAt, fixedAt, endAt, viewOf}
+use Rattle.fields.specs.Fields.{fault, hasRoom, uint32At, bytesAt, stringAt, viewOf}
 use Rattle.fields.specs.Refusals.{numberOf, countOf}
 use Rattle.fields.specs.declared.Refusal.{Refusal}
 use Rattle.fields.specs.declared.Refusal.the-variants.{Length, FormatEncoding, TrailingData}
-use Rattle.names.specs.declared.Algorithm.the-variants.{Elliptic as OnCurve}
-use Rattle.names.specs.declared.Elliptic.the-variants.{Ecdsa}
 use Rattle.names.specs.declared.Curve.the-variants.{Nistp256}
-use Rattle.names.specs.Algorithms.{algorithmNamed, curveNamed, sameAlgorithm}
-use Rattle.names.specs.Ciphers.{cipherNamed, kdfNamed}
 use Rattle.utf8.specs.Utf8.{utf8}
 use Rattle.mpint.specs.Mpint.{isMpint, zerosBefore}
 use Rattle.mpint.specs.Zeros.{mpint-bytes, zeros-here, zeros-next}
-use Rattle.format.specs.Format.{ofPoint, ofScalar, magic, blob, keypair, content, section, header, plainImage}
-use Rattle.keys.specs.Keys.{pointAt, ecdsaPublicAt, pointPlace, ecdsaKeyAt, ellipticKeyAt, publicKeyAt, blobAt}
-use Rattle.pairs.specs.Pairs.{isScalar, scalarAt, ecdsaPairAt, ellipticPairAt, keypairAt}
+use Rattle.format.specs.Format.{magic, blob, keypair, content, section, header, plainImage}
+use Rattle.pairs.specs.Pairs.{isScalar}
 use Rattle.material.specs.Material.{derivedCheckint}
 use Rattle.material.specs.Laws.{derived-m16}
-use Rattle.header.specs.Header.{magicAt, cipherAt, noneAt, kdfAt, countAt, blobFieldAt, headerAt}
-use Rattle.section.specs.Section.{checkintsAt, entryAt, contentAt, plainAt}
+use Rattle.header.specs.Header.{magicAt, cipherAt, headerAt}
 use Rattle.container.specs.declared.ImageRead.the-variants as read
-use Rattle.container.specs.Container.{sectionAt, readAt}
-use Rattle.claims.specs.Scalars.{storedImage, ReadAs, reads-stored}
+use Rattle.container.specs.Container.{readAt}
+use Rattle.claims.specs.Scalars.{storedImage, ReadAs, reads-stored, NoScalar, no-bytes, too-long, unlike, zeros-alone, no-zero-first}
+use Rattle.claims.specs.NoScalars.{refuses-stored}
 use Rattle.claims.specs.Sizes.{Ed25519Takes, ed25519-takes, Ed25519TooLong, ed25519-too-long, P256Takes, p256-takes}
 
 -- ---- images that are refused
@@ -57,34 +52,6 @@ other-version = record { why = FormatEncoding; read = refl; number-is = refl; co
 magic-alone : Refuses (ascii "openssh-key-v1" ++ 0 ∷ []) 1 0 15
 unfolding readAt headerAt cipherAt magicAt bytesAt hasRoom viewOf magic stringAt uint32At
 magic-alone = record { why = Length; read = refl; number-is = refl; count-is = refl }
-
--- a P-256 image without comment, in which these bytes stand as the scalar's field
-unfoldable pub p256Image : List ℕ → List ℕ
-p256Image stored =
-    let p256 = OnCurve (Ecdsa Nistp256) in
-    let key = ofPoint (4 ∷ replicate 64 9) in
-    plainImage 7 (blob p256 key) (keypair p256 0 key (ofScalar stored)) []
-
--- what the reader answers to fields of 33 bytes that begin with 1, of 34 and of 35 bytes, of 31 and of 33 zeros, and of none
-pub other-scalars :
-    Refuses (p256Image (1 ∷ replicate 32 9)) 2 0 263
-    × Refuses (p256Image (replicate 34 9)) 6 2 299
-    × Refuses (p256Image (replicate 35 9)) 6 3 299
-    × Refuses (p256Image (replicate 31 0)) 2 0 263
-    × Refuses (p256Image (replicate 33 0)) 2 0 263
-    × Refuses (p256Image []) 1 0 263
-unfolding p256Image plainImage header section content blob keypair string uint32 magic
-    readAt headerAt cipherAt magicAt kdfAt noneAt countAt blobFieldAt sectionAt plainAt contentAt checkintsAt entryAt
-    blobAt publicKeyAt ellipticKeyAt ecdsaKeyAt ecdsaPublicAt pointAt pointPlace keypairAt ellipticPairAt ecdsaPairAt scalarAt isScalar zerosBefore cipherNamed kdfNamed algorithmNamed curveNamed sameAlgorithm
-    stringAt uint32At fixedAt bytesAt endAt hasRoom viewOf
-other-scalars = (
-  record { why = FormatEncoding; read = refl; number-is = refl; count-is = refl },
-  record { why = TrailingData 2; read = refl; number-is = refl; count-is = refl },
-  record { why = TrailingData 3; read = refl; number-is = refl; count-is = refl },
-  record { why = FormatEncoding; read = refl; number-is = refl; count-is = refl },
-  record { why = FormatEncoding; read = refl; number-is = refl; count-is = refl },
-  record { why = Length; read = refl; number-is = refl; count-is = refl },
-)
 
 -- ---- P-256 images that are read
 
@@ -133,6 +100,77 @@ short-scalar : (b : List ℕ) → Short b → (isScalar 32 b ≡ true) × (lengt
 unfolding isScalar
 short-scalar b h = (rw (lt-ltb (zerosBefore b) (length b) (omega (arith, h .0, h .1)), h .0), omega (arith, h .0))
 
+-- ---- P-256 images that are refused for their scalar's field
+
+-- every P-256 image with such a scalar field, any point, checkint and comment, is refused with this number and count, at this place
+abbrev pub P256Refuses : (List ℕ → Type 0) → ℕ → ℕ → ℕ → Type 0
+P256Refuses such number count at =
+    (n : ℕ) (point stored comment : List ℕ) → n < 2 ^ 32 → length point ≡ 65 → getD point 0 0 ≡ 4 → such stored
+    → length (storedImage Nistp256 n point stored comment) ≤ 65535 → Refuses (storedImage Nistp256 n point stored comment) number count at
+
+-- the field begins at byte 263
+p256-refuses :
+    (such : List ℕ → Type 0) (number count off : ℕ)
+    → ((b : List ℕ) → such b → (why : Refusal) × NoScalar 32 b why off × (numberOf why ≡ number) × (countOf why ≡ count))
+    → P256Refuses such number count (263 + off)
+p256-refuses such number count off not-one n point stored comment fit long tag h small =
+    let w = not-one stored h in
+    record {
+      why = w .0;
+      read = refuses-stored Nistp256 point stored long tag n comment fit small (w .0) off (w .1);
+      number-is = w .2;
+      count-is = w .3;
+    }
+
+pub none-refuse : P256Refuses (λ b. length b ≡ 0) 1 0 263
+none-refuse = p256-refuses (λ b. length b ≡ 0) 1 0 0 (λ b h. (Length, no-bytes h, refl, refl))
+
+pub one-first-refuse : P256Refuses (λ b. (length b ≡ 33) × (getD b 0 0 ≡ 1)) 2 0 263
+one-first-refuse =
+    p256-refuses (λ b. (length b ≡ 33) × (getD b 0 0 ≡ 1)) 2 0 0
+    (λ b h. (FormatEncoding, unlike (omega (arith, h .0)) (omega (arith, h .0)) (no-zero-first 32 b (h .0) (omega (arith, h .1))), refl, refl))
+
+-- of more than 33 bytes those above 32 are told, at the first of them
+pub long-refuse : (more : ℕ) → 1 < more → P256Refuses (λ b. length b ≡ 32 + more) 6 more 299
+long-refuse more h =
+    p256-refuses (λ b. length b ≡ 32 + more) 6 more 36
+    (λ b e. (TrailingData (length b - 32), too-long (omega (arith, e)), refl, omega (arith, e)))
+
+zeros-count : (m : ℕ) → zerosBefore (replicate m 0) ≡ m
+unfolding zerosBefore
+zeros-count zero = refl
+zeros-count (suc m) = omega (arith, zeros-count m)
+
+pub zeros-refuse : (m : ℕ) → 0 < m → m ≤ 33 → P256Refuses (λ b. b ≡ replicate m 0) 2 0 263
+zeros-refuse m some short =
+    p256-refuses (λ b. b ≡ replicate m 0) 2 0 0
+    (λ b e.
+    let size : length b ≡ m = ap length e ∙ length-replicate m 0 in
+    let zeros : zerosBefore b ≡ length b = ap zerosBefore e ∙ zeros-count m ∙ sym size in
+    (FormatEncoding, unlike (omega (arith, size)) (omega (arith, size)) (zeros-alone 32 b zeros), refl, refl))
+
+-- that there are such images: one without comment, in which these bytes stand as the scalar's field
+unfoldable pub p256Image : List ℕ → List ℕ
+p256Image stored = storedImage Nistp256 7 (4 ∷ replicate 64 9) stored []
+
+-- fields of 33 bytes that begin with 1, of 34 and of 35 bytes, of 31 and of 33 zeros, and of none
+pub other-scalars :
+    Refuses (p256Image (1 ∷ replicate 32 9)) 2 0 263
+    × Refuses (p256Image (replicate 34 9)) 6 2 299
+    × Refuses (p256Image (replicate 35 9)) 6 3 299
+    × Refuses (p256Image (replicate 31 0)) 2 0 263
+    × Refuses (p256Image (replicate 33 0)) 2 0 263
+    × Refuses (p256Image []) 1 0 263
+unfolding p256Image plainImage header section content blob keypair string uint32 magic
+other-scalars = (
+  one-first-refuse 7 (4 ∷ replicate 64 9) (1 ∷ replicate 32 9) [] (omega arith) refl refl (refl, refl) (leb-true _ 65535 refl),
+  long-refuse 2 (omega arith) 7 (4 ∷ replicate 64 9) (replicate 34 9) [] (omega arith) refl refl refl (leb-true _ 65535 refl),
+  long-refuse 3 (omega arith) 7 (4 ∷ replicate 64 9) (replicate 35 9) [] (omega arith) refl refl refl (leb-true _ 65535 refl),
+  zeros-refuse 31 (omega arith) (omega arith) 7 (4 ∷ replicate 64 9) (replicate 31 0) [] (omega arith) refl refl refl (leb-true _ 65535 refl),
+  zeros-refuse 33 (omega arith) (omega arith) 7 (4 ∷ replicate 64 9) (replicate 33 0) [] (omega arith) refl refl refl (leb-true _ 65535 refl),
+  none-refuse 7 (4 ∷ replicate 64 9) [] [] (omega arith) refl refl refl (leb-true _ 65535 refl),
+)
+
 -- ---- the table
 
 -- c is the comment's length in ASCII bytes. A refused image has its number, count and place; a written one its length, and the padding with which it is read.
@@ -160,11 +198,11 @@ pub record Marked : Type 0 where
   -- 32 bytes, 80 first: read, not the writer's form
   pub m11 : P256Reads Missing (λ b. false)
   -- 33 bytes, 01 first: 2
-  pub m12 : Refuses (p256Image (1 ∷ replicate 32 9)) 2 0 263
+  pub m12 : P256Refuses (λ b. (length b ≡ 33) × (getD b 0 0 ≡ 1)) 2 0 263
   -- 34 bytes: 6, count 2
-  pub m13 : Refuses (p256Image (replicate 34 9)) 6 2 299
+  pub m13 : P256Refuses (λ b. length b ≡ 34) 6 2 299
   -- 31 bytes: read if not all zero, and in the form exactly if they are an mpint; all zero 2
-  pub m14 : P256Reads Short isMpint × Refuses (p256Image (replicate 31 0)) 2 0 263
+  pub m14 : P256Reads Short isMpint × P256Refuses (λ b. b ≡ replicate 31 0) 2 0 263
   -- Ed25519, c = 65,301 and c = 65,302: 65,530 bytes; 11
   pub m15 : Ed25519Takes 65301 65530 0 × Ed25519TooLong 65302
   -- 66 private bytes, zero but the last two: derived checkint 0
@@ -184,9 +222,9 @@ marked =
       m9 = p256-takes 0x80 0 311 7 (omega arith) refl (omega arith) refl;
       m10 = p256-not-in-form Needless needless-scalar (λ b h. mpint-bytes b ∙ rw (h .1, h .2));
       m11 = p256-not-in-form Missing missing-scalar (λ b h. mpint-bytes b ∙ rw (h .1));
-      m12 = other-scalars .0;
-      m13 = other-scalars .1;
-      m14 = (p256-reads Short short-scalar, other-scalars .3);
+      m12 = one-first-refuse;
+      m13 = long-refuse 2 (omega arith);
+      m14 = (p256-reads Short short-scalar, zeros-refuse 31 (omega arith) (omega arith));
       m15 = (ed25519-takes 65301 65530 0 refl (omega arith) refl, ed25519-too-long 65302 (omega arith));
       m16 = derived-m16;
     }

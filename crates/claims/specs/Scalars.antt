@@ -1,20 +1,23 @@
 -- Document 02, request Five: short scalars, on every curve by one proof for any SIZE. Which bytes may be a scalar's string, what is read of
 -- them and which are in the form; what the writer makes of a scalar; that files of the old writer, which kept leading zeros, are read.
-use Prim.Native.Nat.{ℕ, zero, suc, _+_, _≤_, _<_, _^_}
+use Prim.Native.Nat.{ℕ, zero, suc, _+_, _-_, _≤_, _<_, _^_}
 use native.Mathlib.Omega.{arith}
 use mathlib.Core.Path.{_≡_, refl, sym, _∙_, ap}
-use mathlib.Core.Bool.{Bool, true}
+use mathlib.Core.Bool.{Bool, true, false}
 use mathlib.Core.List.{List}
-use borrow.Author.Tests.{ne-eqb, le-ltb, le-leb, leb-true, ltb-true}
+use borrow.Author.Tests.{eq-eqb, ne-eqb, eqb-true, eqb-false, lt-ltb, le-ltb, le-leb, lt-leb, leb-true, ltb-true, ltb-false}
+use lib.Dec.{eqb, ltb}
 use lib.ListN.{length, getD}
 use lib.Seq.{getD-drop}
 use Rattle.fields.specs.Bytes.{AllBytes}
 use Rattle.fields.specs.Fields.{fault, stringAt, viewOf}
-use Rattle.fields.specs.Place.{by-bool}
+use Rattle.fields.specs.Place.{by-bool, string-place}
+use Rattle.fields.specs.Rest.{view-length}
 use Rattle.fields.specs.declared.Cursor.{Cursor}
 use Rattle.fields.specs.declared.Part.{Part}
 use Rattle.fields.specs.declared.Field.the-variants as field
-use Rattle.fields.specs.declared.Refusal.the-variants.{FormatEncoding}
+use Rattle.fields.specs.declared.Refusal.{Refusal}
+use Rattle.fields.specs.declared.Refusal.the-variants.{Length, FormatEncoding, TrailingData}
 use Rattle.names.specs.declared.Elliptic.the-variants.{Ecdsa}
 use Rattle.names.specs.declared.Algorithm.the-variants.{Elliptic as OnCurve}
 use Rattle.names.specs.declared.Curve.{Curve}
@@ -113,18 +116,63 @@ scalar-told s all f e plain k q =
       number = value-standing (p .zeros) (scalarIn s f);
     }
 
--- zeros alone are 2, at the field, at any size and of any length up to size + 1
-pub zeros-refused :
-    (s : List ℕ) (c : Cursor) (size : ℕ) (p : Part) (d : Cursor) → stringAt s c ≡ field.Part p d → 0 < p .length → p .length ≤ size + 1
-    → zerosBefore (viewOf s p) ≡ length (viewOf s p) → scalarAt s c size ≡ field.Refused (fault FormatEncoding (c .at))
-unfolding scalarAt isScalar
-zeros-refused s c size p d read some short zeros =
-    rw (
-      read,
-      ne-eqb (p .length) 0 (λ e. omega arith),
-      le-ltb (size + 1) (p .length) short,
-      le-ltb (zerosBefore (viewOf s p)) (length (viewOf s p)) (omega arith),
-    )
+-- why a string isn't a scalar's, at any size, and how far from its field's beginning that is: empty 1; above size + 1 bytes 6, with the
+-- bytes above size, at the first of them; any other that isn't one, as zeros alone, 2
+pub data NoScalar (size : ℕ) (stored : List ℕ) : Refusal → ℕ → Type 0 where
+  no-bytes : length stored ≡ 0 → NoScalar size stored Length 0
+  too-long : size + 1 < length stored → NoScalar size stored (TrailingData (length stored - size)) (4 + size)
+  unlike : 0 < length stored → length stored ≤ size + 1 → isScalar size stored ≡ false → NoScalar size stored FormatEncoding 0
+
+-- every string is a scalar's or has one of these
+pub scalar-or-not :
+    (size : ℕ) (stored : List ℕ) {P : Type 0} → (isScalar size stored ≡ true → length stored ≤ size + 1 → P)
+    → ((why : Refusal) (off : ℕ) → NoScalar size stored why off → P) → P
+scalar-or-not size stored yes′ no′ =
+    by-bool (eqb (length stored) 0)
+    (λ u. no′ Length 0 (no-bytes (eqb-true (length stored) 0 u)))
+    (λ u.
+    by-bool (ltb (size + 1) (length stored))
+    (λ v. no′ (TrailingData (length stored - size)) (4 + size) (too-long (ltb-true (size + 1) (length stored) v)))
+    (λ v.
+    let some = eqb-false (length stored) 0 u in
+    let short = ltb-false (size + 1) (length stored) v in
+    by-bool (isScalar size stored)
+    (λ w. yes′ w short)
+    (λ w. no′ FormatEncoding 0 (unlike (omega (arith, some)) short w))))
+
+-- a field with such a string is refused so
+pub scalar-refused :
+    (s : List ℕ) (c : Cursor) (size : ℕ) (p : Part) (d : Cursor) → stringAt s c ≡ field.Part p d → (why : Refusal) (off : ℕ)
+    → NoScalar size (viewOf s p) why off → scalarAt s c size ≡ field.Refused (fault why (c .at + off))
+unfolding scalarAt
+scalar-refused s c size p d e why off no′ =
+    let place = string-place s c p d e in
+    let size-is : length (viewOf s p) ≡ p .length = view-length s p (omega (arith, place .placed)) in
+    by-why why off no′ size-is
+  where
+    by-why :
+        (because : Refusal) (by : ℕ) → NoScalar size (viewOf s p) because by → length (viewOf s p) ≡ p .length
+        → scalarAt s c size ≡ field.Refused (fault because (c .at + by))
+    by-why _ _ (no-bytes none) is =
+        rw (e, eq-eqb (p .length) 0 (sym is ∙ none)) (ap (λ (i : ℕ). field.Refused (fault Length i)) (omega arith))
+    by-why _ _ (too-long more) is =
+        let at-is : c .at + 4 + size ≡ c .at + (4 + size) = omega arith in
+        rw (e, ne-eqb (p .length) 0 (λ z. omega (arith, is, more, z)), lt-ltb (size + 1) (p .length) (omega (arith, is, more)), is, at-is)
+    by-why _ _ (unlike some short not-one) is =
+        rw (e, ne-eqb (p .length) 0 (λ z. omega (arith, is, some, z)), le-ltb (size + 1) (p .length) (omega (arith, is, short)), not-one)
+        (ap (λ (i : ℕ). field.Refused (fault FormatEncoding i)) (omega arith))
+
+-- zeros alone aren't a scalar's
+pub zeros-alone : (size : ℕ) (stored : List ℕ) → zerosBefore stored ≡ length stored → isScalar size stored ≡ false
+unfolding isScalar
+zeros-alone size stored zeros = rw (le-ltb (zerosBefore stored) (length stored) (omega arith))
+
+-- nor are size + 1 bytes that don't begin with a zero
+pub no-zero-first : (size : ℕ) (stored : List ℕ) → length stored ≡ size + 1 → 0 < getD stored 0 0 → isScalar size stored ≡ false
+unfolding isScalar
+no-zero-first size stored long first =
+    rw (lt-leb (length stored) size (omega arith), ne-eqb (getD stored 0 0) 0 (λ z. omega arith))
+    (by-bool (ltb (zerosBefore stored) (length stored)) (λ w. rw w) (λ w. rw w))
 
 -- ---- what is written
 

@@ -6,7 +6,7 @@ use native.Mathlib.Omega.{arith}
 use mathlib.Core.Path.{_≡_, refl, sym, _∙_, ap}
 use mathlib.Core.Bool.{Bool, true, _&&_}
 use mathlib.Core.List.{List, [], _∷_}
-use borrow.Author.Tests.{le-leb, ltb-true}
+use borrow.Author.Tests.{ltb-true}
 use lib.Dec.{ltb}
 use lib.ListN.{length, take, getD, replicate}
 use lib.Seq.{take-length}
@@ -26,10 +26,10 @@ use Rattle.container.specs.Form.{formOf}
 use Rattle.reply.specs.declared.Written.{Written}
 use Rattle.reply.specs.declared.Written.the-variants as written
 use Rattle.plain.specs.Plain.{plainReply, plainLeft, isPlain}
-use Rattle.comment.specs.Change.{afreshReply, afreshLeft, acceptedReply, changeReply, changeLeft, isChange}
+use Rattle.comment.specs.Change.{afresh, changeReply, changeLeft, isChange}
 use Rattle.claims.specs.Reading.{Own, PlainAccepted, plain-accepted, plain-written}
-use Rattle.claims.specs.Laid.{laid, laid-length, changed-laid, laid-out}
 use Rattle.claims.specs.Again.{back-form}
+use Rattle.claims.specs.Demand.{Asked, demand-three}
 use Rattle.claims.specs.Sizes.{Key, Ascii, ed25519-takes}
 use Rattle.claims.specs.Marked.{p256Image, other-scalars, marked}
 
@@ -204,26 +204,33 @@ module _ (a : Algorithm) (key : PublicBytes) (x : PrivateBytes) (n : ℕ) (fit :
   in-form : formOf s (back .fields) ≡ true
   in-form = back-form s n a key (trimmed a x) first _ (ap (λ (y : PrivateBytes). writtenImage n a key y first) (sym material)) back
 
-  change-reply : changeReply s k second ≡ written.Length k
-  unfolding changeReply acceptedReply afreshReply
-  change-reply =
-      let will = plain-accepted a key x n second k k fits in
-      rw (all, le-leb k 65535 (omega (arith, was .small, was .size)), le-leb k (length s) (omega (arith, was .size)), back .read, back .plain, in-form)
-      (rw (will .text, back .same-checkint, back .same-algorithm, back .same-public, back .same-private, material, sym (was .size)) fits)
+  -- written afresh, it is the image with that comment
+  afresh-is : afresh (take k s) (back .fields) second ≡ writtenImage n a key x second
+  unfolding afresh
+  afresh-is = rw (all, back .same-checkint, back .same-algorithm, back .same-public, back .same-private, material)
 
-  change-leaves : changeLeft s k second ≡ writtenImage n a key x second
-  unfolding changeLeft afreshLeft plainLeft
-  change-leaves =
+  -- what demand 3 begins with
+  asked : AllBytes s → Asked s k (back .fields) second
+  asked bytes =
       let will = plain-accepted a key x n second k k fits in
-      let image = writtenImage n a key x second in
-      let room : plainReply a key x n second (length s) ≡ written.Length k = rw (sym (was .size)) fits in
-      let out : changeLeft s k second ≡ laid image (k - length image) s =
-      rw (change-reply, all, back .read, back .same-checkint, back .same-algorithm, back .same-public, back .same-private, material, room)
-      (changed-laid s image k k (will .size) (omega (arith, was .size, will .size)) (omega (arith, was .size))) in
-      let long : length (changeLeft s k second) ≡ k =
-      ap length out ∙ laid-length image (k - length image) s (omega (arith, was .size, will .size)) ∙ sym (was .size) in
-      sym (take-length (changeLeft s k second)) ∙ ap (λ (i : ℕ). take i (changeLeft s k second)) long
-      ∙ laid-out image k k s (changeLeft s k second) (will .size) out .0
+      record {
+        bytes = bytes;
+        inside = omega (arith, was .size);
+        image = rw all (record { was-read = back .read; plain = back .plain; form = in-form });
+        text = will .text;
+        small = rw afresh-is (will .small);
+        fits = rw afresh-is (omega (arith, will .room-enough, was .size));
+      }
+
+  changes-to : AllBytes s → (changeReply s k second ≡ written.Length k) × (changeLeft s k second ≡ writtenImage n a key x second)
+  changes-to bytes =
+      let will = plain-accepted a key x n second k k fits in
+      let d = demand-three s k (back .fields) second (asked bytes) (changeReply s k second) (changeLeft s k second) (refl, refl, refl) in
+      let size : length (afresh (take k s) (back .fields) second) ≡ k = ap length afresh-is ∙ sym (will .size) in
+      let long : length (changeLeft s k second) ≡ k = d .same-length ∙ sym (was .size) in (
+        rw size at (d .answered),
+        sym (take-length (changeLeft s k second)) ∙ ap (λ (i : ℕ). take i (changeLeft s k second)) (long ∙ sym size) ∙ d .image ∙ afresh-is,
+      )
 
 -- the key's image with a comment of one letter
 abbrev lettered : ℕ → List ℕ
@@ -238,13 +245,11 @@ takes-letter letter h = ed25519-takes 1 234 4 refl (omega arith) refl bytes32 by
 
 -- one letter changed to another
 relettered :
-    (x y : ℕ) → x < 0x80 → y < 0x80
+    (x y : ℕ) → x < 0x80 → y < 0x80 → AllBytes (lettered x)
     → (changeReply (lettered x) 234 (y ∷ []) ≡ written.Length 234) × (changeLeft (lettered x) 234 (y ∷ []) ≡ lettered y)
-relettered x y hx hy =
-    let h = plain-accepted ed25519 public32 private32 7 (x ∷ []) 234 234 (takes-letter x hx) in (
-      change-reply ed25519 public32 private32 7 (omega arith) (refl, refl) (x ∷ []) (y ∷ []) 234 h (takes-letter y hy),
-      change-leaves ed25519 public32 private32 7 (omega arith) (refl, refl) (x ∷ []) (y ∷ []) 234 h (takes-letter y hy),
-    )
+relettered x y hx hy bytes =
+    let h = plain-accepted ed25519 public32 private32 7 (x ∷ []) 234 234 (takes-letter x hx) in
+    changes-to ed25519 public32 private32 7 (omega arith) (refl, refl) (x ∷ []) (y ∷ []) 234 h (takes-letter y hy) bytes
 
 -- the letter stands in the image
 letter-at : (letter : ℕ) → getD (lettered letter) 229 0 ≡ letter
@@ -269,8 +274,8 @@ pub first-only :
     → w .leaves (w .leaves old n first) k second ≡ w .leaves old n first)
     → ⊥
 first-only w meets stays =
-    let to-b = relettered 97 98 (omega arith) (omega arith) in
-    let to-c = relettered 98 99 (omega arith) (omega arith) in
+    let to-b = relettered 97 98 (omega arith) (omega arith) (lettered-bytes .0) in
+    let to-c = relettered 98 99 (omega arith) (omega arith) (lettered-bytes .1) in
     let small : 234 < 2 ^ 64 = omega arith in
     let first = meets (lettered 97) 234 (98 ∷ []) (lettered-bytes .0) small (letter-bytes .0) in
     let second = meets (lettered 98) 234 (99 ∷ []) (lettered-bytes .1) small (letter-bytes .1) in

@@ -64,8 +64,8 @@ scalar-place s p zeros x first seen =
     let left : zeros + length x - zeros ≡ length x = omega arith in
     rw (seen, standing-zeros zeros x first, standing-length zeros x, left)
 
--- a scalar, at any size, after zeros that may stand before it
-module _ (s : List ℕ) (c : Cursor) (good : Good s c) (size : ℕ) (small : size < 100) (x t : List ℕ) (short : length x ≤ size) (first : 0 < getD x 0 0) where
+-- a scalar, at any size whose strings' lengths are a uint32, after zeros that may stand before it
+module _ (s : List ℕ) (c : Cursor) (good : Good s c) (size : ℕ) (small : size + 1 < 2 ^ 32) (x t : List ℕ) (short : length x ≤ size) (first : 0 < getD x 0 0) where
   pub scalar-back : (zeros : ℕ) → zeros + length x ≤ size + 1 → rest s c ≡ string (standing zeros x) ++ t → FieldBack s (scalarAt s c size) x t
   unfolding scalarAt
   scalar-back zeros may e =
@@ -112,7 +112,7 @@ pub record PointBack (s : List ℕ) (w : EcdsaPublic) (k : Curve) (point t : Lis
   pub good : Good s next
   pub more : rest s next ≡ t
 
-ecdsa-public-back :
+pub ecdsa-public-back :
     (s : List ℕ) (c : Cursor) → Good s c → (k : Curve) (x t : List ℕ) → length x ≡ 1 + 2 * sizeOf k → getD x 0 0 ≡ 4
     → rest s c ≡ string (curveName k) ++ (string x ++ t) → PointBack s (ecdsaPublicAt s c) k x t
 unfolding ecdsaPublicAt
@@ -289,7 +289,7 @@ ecdsa-pair-back :
 unfolding ecdsaPairAt
 ecdsa-pair-back s c good k zeros key x t fits fit may e =
     let p = ecdsa-public-back s c good k (key .point) (string (standing zeros (x .scalar)) ++ t) (fits .0) (eqb-true _ _ (fits .1)) e in
-    let q = scalar-back s (p .next) (p .good) (sizeOf k) (size-small k .1) (x .scalar) t (fit .0 .0) (fit .0 .1) zeros may (p .more) in
+    let q = scalar-back s (p .next) (p .good) (sizeOf k) (omega (arith, size-small k)) (x .scalar) t (fit .0 .0) (fit .0 .1) zeros may (p .more) in
     record {
       place = pointPlace (p .place);
       private = scalarPlace (q .place);

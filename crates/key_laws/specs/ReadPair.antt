@@ -73,11 +73,11 @@ module _ (s : List ℕ) (all : AllBytes s) where
     pub long : length (viewOf s p) ≤ size
     pub first : 0 < getD (viewOf s p) 0 0
     pub may : zeros + length (viewOf s p) ≤ size + 1
-    pub begins : Begins s p zeros
+    pub begins : size < 255 → Begins s p zeros
     pub end : d .end ≡ c .end
 
   -- a scalar in its string, which stands in the image as the part q
-  module _ (c : Cursor) (size : ℕ) (small : size < 255) (q : Part) (d : Cursor) (w : stringAt s c ≡ field.Part q d) where
+  module _ (c : Cursor) (size : ℕ) (q : Part) (d : Cursor) (w : stringAt s c ≡ field.Part q d) where
     abbrev stored : List ℕ
     stored = viewOf s q
 
@@ -92,10 +92,10 @@ module _ (s : List ℕ) (all : AllBytes s) where
         view-two s q (zerosBefore stored) (remaining stored) (replicate (zerosBefore stored) 0) (significant stored) (omega (arith, r .place .placed))
         (omega (arith, r .size)) (length-replicate (zerosBefore stored) 0) (sym (standing-again stored)) .1
 
-    -- before it stand its zeros, and before these the string's length
-    begins-there : q .length ≤ size + 1 → zerosBefore stored < length stored → Begins s (significantPart s q) (zerosBefore stored)
+    -- before it stand its zeros, and before these the string's length, in one byte if size is below 255
+    begins-there : size < 255 → q .length ≤ size + 1 → zerosBefore stored < length stored → Begins s (significantPart s q) (zerosBefore stored)
     unfolding beginsBefore significantPart
-    begins-there l some k two =
+    begins-there small l some k two =
         let r = read-string in
         let z = zerosBefore stored in
         let start = r .place .placed .start in
@@ -127,9 +127,9 @@ module _ (s : List ℕ) (all : AllBytes s) where
         read-string .text
         ∙ ap (λ (l : List ℕ). string l ++ rest s d) (sym (standing-again stored) ∙ ap (standing (zerosBefore stored)) (sym significant-seen))
 
-  scalar-read : (c : Cursor) (size : ℕ) → size < 255 → (p : Part) (d : Cursor) → scalarAt s c size ≡ field.Part p d → ScalarRead c size p d
+  scalar-read : (c : Cursor) (size : ℕ) (p : Part) (d : Cursor) → scalarAt s c size ≡ field.Part p d → ScalarRead c size p d
   unfolding scalarAt
-  scalar-read c size small p d e =
+  scalar-read c size p d e =
       by-field (stringAt s c)
       (λ f w. let g : field.Refused f ≡ field.Part p d = rw w at e in clash cc)
       (λ q x w.
@@ -152,16 +152,16 @@ module _ (s : List ℕ) (all : AllBytes s) where
       let l : q .length ≤ size + 1 = ltb-false (size + 1) (q .length) u in
       let some = scalar-some size b t in
       let short = scalar-short size b t (omega (arith, r .size)) in
-      let seen = significant-seen c size small q x w in
+      let seen = significant-seen c size q x w in
       let long = ap length seen ∙ significant-length b in
       rw (← o, ← m)
       (record {
         zeros = zerosBefore b;
-        text = scalar-text c size small q x w;
+        text = scalar-text c size q x w;
         long = omega (arith, long);
         first = rw seen (significant-first b some);
         may = omega (arith, long, r .size);
-        begins = begins-there c size small q x w l some;
+        begins = λ small. begins-there c size q x w small l some;
         end = r .place .placed .end;
       }))
       (λ t. let j = rw t at i in clash cc))))
@@ -272,11 +272,10 @@ module _ (s : List ℕ) (all : AllBytes s) where
       let l : scalarPlace y ≡ x = cc in
       let n : m ≡ d = cc in
       let r₁ = ecdsa-public-read s all c named q b (rw j at w) in
-      let small = size-small named in
-      let r₂ = scalar-read b (sizeOf named) (omega (arith, small .1)) y d (rw (j, n) at v) in
+      let r₂ = scalar-read b (sizeOf named) y d (rw (j, n) at v) in
       rw (← t, ← o, ← l)
       (elliptic-fields c (Ecdsa named) (r₂ .zeros) q y d (r₁ .0 ∙ ap (λ (z : List ℕ). string (curveName named) ++ (string (viewOf s q) ++ z)) (r₂ .text)) (r₁ .1)
-      (r₁ .2) (r₂ .long, r₂ .first) (r₂ .may) (r₂ .begins) (r₂ .end ∙ r₁ .3)))
+      (r₁ .2) (r₂ .long, r₂ .first) (r₂ .may) (r₂ .begins (omega (arith, size-small named))) (r₂ .end ∙ r₁ .3)))
       (λ u. let i = rw u at h in clash cc)))
 
   -- n, e, d, iqmp, p, q

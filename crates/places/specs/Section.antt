@@ -40,7 +40,7 @@ abbrev pub SectionLies : Cursor → SectionRead → Type 0
 SectionLies c (section-read.Refused f) = Lies c f
 SectionLies c (section-read.Section x) = Commented c (x .comment)
 
-checkints-lies : (s : List ℕ) (c : Cursor) → Good s c → Uint32Lies c (checkintsAt s c)
+pub checkints-lies : (s : List ℕ) (c : Cursor) → Good s c → Uint32Lies c (checkintsAt s c)
 unfolding checkintsAt
 checkints-lies s c good =
     by-uint32 (uint32At s c)

@@ -37,7 +37,7 @@ use Rattle.section.specs.declared.SectionRead.{SectionRead}
 use Rattle.section.specs.declared.SectionRead.the-variants as section-read
 use Rattle.section.specs.Section.{checkintsAt, sameKey, entryAt, paddingAt, contentAt, plainAt, encryptedOf, presentOf, encryptedAt}
 
-checkints-back : (s : List ℕ) (c : Cursor) → Good s c → (n : ℕ) (t : List ℕ) → n < 2 ^ 32 → rest s c ≡ uint32 n ++ (uint32 n ++ t) → Uint32Back s (checkintsAt s c) n t
+pub checkints-back : (s : List ℕ) (c : Cursor) → Good s c → (n : ℕ) (t : List ℕ) → n < 2 ^ 32 → rest s c ≡ uint32 n ++ (uint32 n ++ t) → Uint32Back s (checkintsAt s c) n t
 unfolding checkintsAt
 checkints-back s c good n t fits e =
     let a = uint32-back s c good n (uint32 n ++ t) fits e in

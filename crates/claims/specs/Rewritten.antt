@@ -1,0 +1,271 @@
+-- Demand 2: what the plain writer writes is in the form. So is what a rewrite writes of an accepted image, and it is read as the same
+-- record, a scalar in its form. It does write: `rewrite-sized` (Form) says that a rewrite of an accepted image is refused for size and room
+-- only.
+use Prim.Native.Nat.{ℕ, _-_, _%_, _≤_, _<_, _^_}
+use mathlib.Core.Path.{_≡_, refl, sym, _∙_, ap}
+use mathlib.Core.Bool.{true}
+use mathlib.Core.List.{List, []}
+use lib.Dec.{eqb}
+use lib.ListN.{length, take}
+use Rattle.fields.specs.Bytes.{AllBytes, same-true}
+use Rattle.fields.specs.Fields.{fault, absent, within, bytesAt, stringAt, endAt, viewOf}
+use Rattle.fields.specs.Place.{clash, by-bool, by-field, by-uint32, by-ending}
+use Rattle.fields.specs.Rest.{view-absent}
+use Rattle.fields.specs.declared.Cursor.{Cursor}
+use Rattle.fields.specs.declared.Refusal.the-variants.{Crypto}
+use Rattle.names.specs.declared.Algorithm.{Algorithm}
+use Rattle.names.specs.declared.Cipher.{Cipher}
+use Rattle.names.specs.declared.Kdf.{Kdf}
+use Rattle.names.specs.declared.Kdf.the-variants as kdf
+use Rattle.names.specs.Ciphers.{isNone, blockSize, tagLength}
+use Rattle.format.specs.Format.{PublicBytes, PrivateBytes, trimmed, filled, zerosAsked, blob, keypair, plainImage, writtenImage}
+use Rattle.format.specs.Scalars.{rule-may, written-own}
+use Rattle.keys.specs.declared.Public.{Public}
+use Rattle.section.specs.declared.Kind.the-variants.{Plain, Encrypted}
+use Rattle.header.specs.declared.Header.{Header}
+use Rattle.header.specs.Header.{onKdf}
+use Rattle.section.specs.declared.SectionRead.{SectionRead}
+use Rattle.section.specs.declared.SectionRead.the-variants as section-read
+use Rattle.section.specs.Section.{checkintsAt, entryAt, paddingAt, contentAt, plainAt, encryptedAt}
+use Rattle.section.specs.Back.{KeyFits}
+use Rattle.section.specs.Read.{by-entry, by-section}
+use Rattle.container.specs.declared.Fields.{Fields}
+use Rattle.container.specs.declared.ImageRead.the-variants as read
+use Rattle.container.specs.Container.{publicIn, privateIn, materialIn, kdfNamePlace, sectionAt, readAt}
+use Rattle.container.specs.Form.{rewritten, formOf}
+use Rattle.container.specs.Read.{halves, PlainText, ImageText, plain-text, encrypted-text, image-text}
+use Rattle.container.specs.FormLaws.{form-encrypted}
+use Rattle.container.specs.Back.{plain-image-back}
+use Rattle.reply.specs.declared.Written.{Written}
+use Rattle.reply.specs.declared.Written.the-variants as written
+use Rattle.plain.specs.Plain.{plainLeft, isPlain}
+use Rattle.writer.specs.Rewrite.{isRewritten}
+use Rattle.claims.specs.Reading.{Own, plain-accepted, plain-written, read-after-write}
+use Rattle.claims.specs.Again.{back-form}
+use Rattle.claims.specs.Form.{Stands, rewrite-written}
+use Rattle.claims.specs.Kept.{one-record}
+
+-- ---- what the plain writer writes
+
+pub plain-in-form :
+    (a : Algorithm) (key : PublicBytes) (x : PrivateBytes) (n : ℕ) (comment old : List ℕ) (r : Written) (out : List ℕ) (k : ℕ) → n < 2 ^ 32 → Own a key x
+    → isPlain a key x n comment old r out → r ≡ written.Length k
+    → (f : Fields) × (readAt (take k out) ≡ read.Record f) × (formOf (take k out) f ≡ true)
+plain-in-form a key x n comment old r out k small own meets answered =
+    let e = sym (meets .0) ∙ answered in
+    let b = read-after-write a key x n comment old k small own e in
+    let t = take k (plainLeft a key x n comment old) in
+    let material = plain-accepted a key x n comment (length old) k e .material own in
+    let text : t ≡ writtenImage n a key (filled a (trimmed a x)) comment =
+    plain-written a key x n comment old k e ∙ ap (λ (y : PrivateBytes). writtenImage n a key y comment) (sym material) in
+    rw (meets .1) (b .fields, b .read, back-form t n a key (trimmed a x) comment _ text b)
+
+-- ---- what a rewrite writes
+
+-- the record g of t says what the record f of s says: all but how many bytes the padding has
+pub record SameRecord (s : List ℕ) (f : Fields) (t : List ℕ) (g : Fields) : Type 0 where
+  pub kind : g .section .kind ≡ f .section .kind
+  pub cipher : g .header .cipher ≡ f .header .cipher
+  pub kdf : g .header .kdf ≡ f .header .kdf
+  pub salt : viewOf t (g .header .salt) ≡ viewOf s (f .header .salt)
+  pub rounds : g .header .rounds ≡ f .header .rounds
+  pub algorithm : g .header .algorithm ≡ f .header .algorithm
+  pub blob-bytes : viewOf t (g .header .blob) ≡ viewOf s (f .header .blob)
+  pub public : publicIn t g ≡ publicIn s f
+  pub bits : g .header .public .bits ≡ f .header .public .bits
+  pub checkint : g .section .checkint ≡ f .section .checkint
+  pub private : privateIn t g ≡ privateIn s f
+  pub comment : viewOf t (g .section .comment) ≡ viewOf s (f .section .comment)
+  pub ciphertext : viewOf t (g .section .ciphertext) ≡ viewOf s (f .section .ciphertext)
+  pub tag : viewOf t (g .section .tag) ≡ viewOf s (f .section .tag)
+
+-- what is written of the record f of s
+pub record Rewritten (s : List ℕ) (f : Fields) (t : List ℕ) : Type 0 where
+  pub fields : Fields
+  pub read : readAt t ≡ read.Record fields
+  pub form : formOf t fields ≡ true
+  pub same : SameRecord s f t fields
+  -- before a plain image's scalar stand the zeros that the writer's rule asks for
+  pub stands : f .section .kind ≡ Plain → Stands t fields (zerosAsked (f .header .algorithm) (privateIn s f))
+
+-- ---- a plain section has neither ciphertext nor tag
+
+abbrev Open : SectionRead → Type 0
+Open (section-read.Refused g) = Unit {0}
+Open (section-read.Section x) = x .kind ≡ Plain → (x .ciphertext ≡ absent) × (x .tag ≡ absent)
+
+content-open : (s : List ℕ) (c : Cursor) (a : Algorithm) (q : Public) → Open (contentAt s c a q)
+unfolding contentAt
+content-open s c a q =
+    by-bool (eqb ((c .end - c .at) % 8) 0)
+    (λ w.
+    rw w
+    (by-uint32 (checkintsAt s c)
+    (λ g v. rw v tt)
+    (λ n d v.
+    rw v
+    (by-entry (entryAt s d a q)
+    (λ g u. rw u tt)
+    (λ y m b u.
+    rw u
+    (by-ending (paddingAt s b)
+    (λ g t. rw t tt)
+    (λ t. rw t (λ plain. (refl, refl)))))))))
+    (λ w. rw w tt)
+
+plain-open : (s : List ℕ) (c : Cursor) (a : Algorithm) (q : Public) → Open (plainAt s c a q)
+unfolding plainAt
+plain-open s c a q =
+    by-field (stringAt s c)
+    (λ g w. rw w tt)
+    (λ p d w.
+    rw w
+    (by-section (contentAt s (within p) a q)
+    (λ g v. rw v tt)
+    (λ x v.
+    rw v
+    (by-ending (endAt d)
+    (λ g u. rw u tt)
+    (λ u. rw u (rw v at (content-open s (within p) a q)))))))
+
+encrypted-open : (s : List ℕ) (c : Cursor) (k : Cipher) → Open (encryptedAt s c k)
+unfolding encryptedAt
+encrypted-open s c k =
+    by-field (stringAt s c)
+    (λ g w. rw w tt)
+    (λ p d w.
+    rw w
+    (by-bool (eqb (p .length % blockSize k) 0)
+    (λ v.
+    rw v
+    (by-field (bytesAt s d (tagLength k))
+    (λ g u. rw u tt)
+    (λ m b u.
+    rw u
+    (by-ending (endAt b)
+    (λ g t. rw t tt)
+    (λ t. rw t (λ plain. clash cc))))))
+    (λ v. rw v tt)))
+
+section-open : (s : List ℕ) (h : Header) → Open (sectionAt s h)
+unfolding sectionAt
+section-open s h =
+    let c : Cursor = record { at = h .section; end = length s } in
+    by-bool (isNone (h .cipher))
+    (λ w. rw w (by-kdf (h .kdf) (plain-open s c (h .algorithm) (h .public))))
+    (λ w. rw w (encrypted-open s c (h .cipher)))
+  where
+    by-kdf : (k : Kdf) → Open (plainAt s (record { at = h .section; end = length s }) (h .algorithm) (h .public))
+        → Open (onKdf k (plainAt s (record { at = h .section; end = length s }) (h .algorithm) (h .public)) (section-read.Refused (fault Crypto kdfNamePlace)))
+    by-kdf kdf.None h₁ = h₁
+    by-kdf kdf.Bcrypt h₁ = tt
+
+no-seal :
+    (s : List ℕ) (f : Fields) → readAt s ≡ read.Record f → f .section .kind ≡ Plain
+    → (viewOf s (f .section .ciphertext) ≡ []) × (viewOf s (f .section .tag) ≡ [])
+no-seal s f e plain =
+    let none = rw (halves s f e .1) at (section-open s (f .header)) in
+    let o = none plain in
+    (ap (viewOf s) (o .0) ∙ view-absent s, ap (viewOf s) (o .1) ∙ view-absent s)
+
+-- ---- the claim
+
+module _ (s : List ℕ) (all : AllBytes s) (f : Fields) (e : readAt s ≡ read.Record f) where
+  -- a plain record is written with the zeros that the rule asks for
+  plain-text-is :
+      f .section .kind ≡ Plain → PlainText s f
+      → (rewritten s f
+      ≡ writtenImage (f .section .checkint) (f .header .algorithm) (publicIn s f) (materialIn s f) (viewOf s (f .section .comment)))
+      × (rewritten s f
+      ≡ plainImage (f .section .checkint) (blob (f .header .algorithm) (publicIn s f))
+      (keypair (f .header .algorithm) (zerosAsked (f .header .algorithm) (privateIn s f)) (publicIn s f) (privateIn s f)) (viewOf s (f .section .comment)))
+  unfolding rewritten
+  plain-text-is plain p =
+      let w = written-own (f .section .checkint) (f .header .algorithm) (publicIn s f) (privateIn s f) (viewOf s (f .section .comment)) (p .key-fits .private) in
+      rw plain (refl, w)
+
+  plain-read : f .section .kind ≡ Plain → PlainText s f → length (rewritten s f) ≤ 65535 → Rewritten s f (rewritten s f)
+  plain-read plain p small =
+      let t = rewritten s f in
+      let n = f .section .checkint in
+      let a = f .header .algorithm in
+      let key = publicIn s f in
+      let x = privateIn s f in
+      let comment = viewOf s (f .section .comment) in
+      let zeros = zerosAsked a x in
+      let text = plain-text-is plain p in
+      let fits : KeyFits a zeros key x comment = record { public = p .key-fits .public; private = p .key-fits .private; may = rule-may a key x (p .key-fits .private); text = p .key-fits .text } in
+      let b = plain-image-back t n a zeros key x comment small (p .checkint-fits) fits (text .1) in
+      let o = plain-image-back s n a (p .zeros) key x comment (p .fits) (p .checkint-fits) (p .key-fits) (p .text) in
+      let own = one-record s (o .fields) f (o .read) e in
+      let none = no-seal s f e plain in
+      let also-none = no-seal t (b .fields) (b .read) (b .plain) in
+      record {
+        fields = b .fields;
+        read = b .read;
+        form = back-form t n a key x comment _ (text .0) b;
+        same =
+            record {
+              kind = b .plain ∙ sym plain;
+              cipher = b .no-cipher ∙ sym (rw own at (o .no-cipher));
+              kdf = b .no-kdf ∙ sym (rw own at (o .no-kdf));
+              salt = b .no-salt ∙ sym (rw own at (o .no-salt));
+              rounds = b .no-rounds ∙ sym (rw own at (o .no-rounds));
+              algorithm = b .same-algorithm;
+              blob-bytes = b .same-blob ∙ sym (p .content);
+              public = b .same-public;
+              bits = b .same-bits ∙ sym (rw own at (o .same-bits));
+              checkint = b .same-checkint;
+              private = b .same-private;
+              comment = b .same-comment;
+              ciphertext = also-none .0 ∙ sym (none .0);
+              tag = also-none .1 ∙ sym (none .1);
+            };
+        stands =
+            λ kind. (
+              rw (b .same-checkint, b .same-algorithm, b .same-public, b .same-private, b .same-comment) (text .1),
+              rw (b .same-algorithm, b .same-private) (fits .may),
+            );
+      }
+
+  -- an encrypted image is written as it is
+  encrypted-read : f .section .kind ≡ Encrypted → rewritten s f ≡ s → formOf s f ≡ true → Rewritten s f (rewritten s f)
+  encrypted-read kind same form =
+      rw same
+      (record {
+        fields = f;
+        read = e;
+        form = form;
+        same =
+            record {
+              kind = refl;
+              cipher = refl;
+              kdf = refl;
+              salt = refl;
+              rounds = refl;
+              algorithm = refl;
+              blob-bytes = refl;
+              public = refl;
+              bits = refl;
+              checkint = refl;
+              private = refl;
+              comment = refl;
+              ciphertext = refl;
+              tag = refl;
+            };
+        stands = λ plain. clash (let o : Plain ≡ Encrypted = sym plain ∙ kind in cc);
+      })
+
+  -- whatever meets the contract of a rewrite, and answers a length
+  pub rewrite-read :
+      (old : List ℕ) (r : Written) (out : List ℕ) (k : ℕ) → isRewritten s old r out → r ≡ written.Length k → Rewritten s f (take k out)
+  unfolding formOf
+  rewrite-read old r out k meets answered =
+      let h = rewrite-written s all f e old k (sym (meets .0) ∙ answered) in
+      rw (meets .1, h .1) (go (h .0) (image-text s all f e))
+    where
+      go : length (rewritten s f) ≤ 65535 → ImageText s all f e → Rewritten s f (rewritten s f)
+      go small (plain-text kind p) = plain-read kind p small
+      go small (encrypted-text kind p) =
+          let form = form-encrypted s f p kind in
+          encrypted-read kind (same-true (rewritten s f) s form) form
