@@ -34,7 +34,10 @@ fn has_ended() -> bool {
         return false;
     }
     if got > 0 {
-        io::write_all(STDERR_FILENO, b"inspect: standard input: a read failed before its end\n");
+        io::write_all(
+            STDERR_FILENO,
+            b"inspect: standard input: a read failed before its end\n",
+        );
         return false;
     }
     true
