@@ -12,6 +12,7 @@ use material::Checkint;
 use material::Material;
 use names::Algorithm;
 use names::Elliptic;
+use parts::Which;
 use reply::Written;
 use section::Kind;
 
@@ -40,7 +41,11 @@ fn hand_out(written: Written, out: &[u8]) {
 
 fn write_elliptic(image: &[u8], f: Fields, kind: Elliptic) {
     let mut out = [0u8; 65536];
-    let m = Material::filled(kind, parts::point(image, f), parts::scalar(image, f));
+    let m = Material::filled(
+        kind,
+        parts::part(image, f, Which::Point),
+        parts::part(image, f, Which::Scalar),
+    );
     let comment = parts::comment(image, f);
     let written = plain::write_plain(m, Checkint::Derived, comment, &mut out);
     hand_out(written, &out);
@@ -48,12 +53,12 @@ fn write_elliptic(image: &[u8], f: Fields, kind: Elliptic) {
 
 fn write_rsa(image: &[u8], f: Fields) {
     let mut out = [0u8; 65536];
-    let n = parts::modulus(image, f);
-    let e = parts::exponent(image, f);
-    let d = parts::d(image, f);
-    let iqmp = parts::iqmp(image, f);
-    let p = parts::p(image, f);
-    let q = parts::q(image, f);
+    let n = parts::part(image, f, Which::Modulus);
+    let e = parts::part(image, f, Which::Exponent);
+    let d = parts::part(image, f, Which::D);
+    let iqmp = parts::part(image, f, Which::Iqmp);
+    let p = parts::part(image, f, Which::P);
+    let q = parts::part(image, f, Which::Q);
     let comment = parts::comment(image, f);
     let written = plain_rsa::write_rsa(n, e, d, iqmp, p, q, Checkint::Derived, comment, &mut out);
     hand_out(written, &out);

@@ -1,36 +1,55 @@
 // The parts of an image that its record names. Each is that part of the caller's own image, the empty part
 // where the record lacks the field or its place isn't within the image.
+ghost use mathlib.Core.Path.{_≡_};
 ghost use Rattle.fields.specs.Fields.{isView};
+ghost use Rattle.parts.specs.Parts.{placeOf};
 use container::Fields;
 
-pub fn blob(image: &[u8], f: Fields) -> &[u8]
-    ensures { λ r. ⌜ isView r (image .entry) (f .header .blob) ⌝ }
-{
-    let header = f.header;
-    fields::view(image, header.blob)
+// Which part of a record: the blob's fields, the section's, and an RSA key's six numbers.
+pub enum Which {
+    Blob,
+    Point,
+    Salt,
+    Scalar,
+    Comment,
+    Ciphertext,
+    Tag,
+    Modulus,
+    Exponent,
+    D,
+    Iqmp,
+    P,
+    Q,
 }
 
-pub fn point(image: &[u8], f: Fields) -> &[u8]
-    ensures { λ r. ⌜ isView r (image .entry) (f .header .public .point) ⌝ }
+fn place(f: Fields, which: Which) -> fields::Part
+    ensures { λ r. ⌜ r ≡ placeOf which f ⌝ }
 {
     let header = f.header;
     let public = header.public;
-    fields::view(image, public.point)
-}
-
-pub fn salt(image: &[u8], f: Fields) -> &[u8]
-    ensures { λ r. ⌜ isView r (image .entry) (f .header .salt) ⌝ }
-{
-    let header = f.header;
-    fields::view(image, header.salt)
-}
-
-pub fn scalar(image: &[u8], f: Fields) -> &[u8]
-    ensures { λ r. ⌜ isView r (image .entry) (f .section .private .scalar) ⌝ }
-{
     let section = f.section;
     let private = section.private;
-    fields::view(image, private.scalar)
+    match which {
+        Which::Blob => header.blob,
+        Which::Point => public.point,
+        Which::Salt => header.salt,
+        Which::Scalar => private.scalar,
+        Which::Comment => section.comment,
+        Which::Ciphertext => section.ciphertext,
+        Which::Tag => section.tag,
+        Which::Modulus => public.modulus,
+        Which::Exponent => public.exponent,
+        Which::D => private.d,
+        Which::Iqmp => private.iqmp,
+        Which::P => private.p,
+        Which::Q => private.q,
+    }
+}
+
+pub fn part(image: &[u8], f: Fields, which: Which) -> &[u8]
+    ensures { λ r. ⌜ isView r (image .entry) (placeOf which f) ⌝ }
+{
+    fields::view(image, place(f, which))
 }
 
 pub fn comment(image: &[u8], f: Fields) -> &[u8]
@@ -38,66 +57,4 @@ pub fn comment(image: &[u8], f: Fields) -> &[u8]
 {
     let section = f.section;
     fields::view(image, section.comment)
-}
-
-pub fn ciphertext(image: &[u8], f: Fields) -> &[u8]
-    ensures { λ r. ⌜ isView r (image .entry) (f .section .ciphertext) ⌝ }
-{
-    let section = f.section;
-    fields::view(image, section.ciphertext)
-}
-
-pub fn tag(image: &[u8], f: Fields) -> &[u8]
-    ensures { λ r. ⌜ isView r (image .entry) (f .section .tag) ⌝ }
-{
-    let section = f.section;
-    fields::view(image, section.tag)
-}
-
-pub fn modulus(image: &[u8], f: Fields) -> &[u8]
-    ensures { λ r. ⌜ isView r (image .entry) (f .header .public .modulus) ⌝ }
-{
-    let header = f.header;
-    let public = header.public;
-    fields::view(image, public.modulus)
-}
-
-pub fn exponent(image: &[u8], f: Fields) -> &[u8]
-    ensures { λ r. ⌜ isView r (image .entry) (f .header .public .exponent) ⌝ }
-{
-    let header = f.header;
-    let public = header.public;
-    fields::view(image, public.exponent)
-}
-
-pub fn d(image: &[u8], f: Fields) -> &[u8]
-    ensures { λ r. ⌜ isView r (image .entry) (f .section .private .d) ⌝ }
-{
-    let section = f.section;
-    let private = section.private;
-    fields::view(image, private.d)
-}
-
-pub fn iqmp(image: &[u8], f: Fields) -> &[u8]
-    ensures { λ r. ⌜ isView r (image .entry) (f .section .private .iqmp) ⌝ }
-{
-    let section = f.section;
-    let private = section.private;
-    fields::view(image, private.iqmp)
-}
-
-pub fn p(image: &[u8], f: Fields) -> &[u8]
-    ensures { λ r. ⌜ isView r (image .entry) (f .section .private .p) ⌝ }
-{
-    let section = f.section;
-    let private = section.private;
-    fields::view(image, private.p)
-}
-
-pub fn q(image: &[u8], f: Fields) -> &[u8]
-    ensures { λ r. ⌜ isView r (image .entry) (f .section .private .q) ⌝ }
-{
-    let section = f.section;
-    let private = section.private;
-    fields::view(image, private.q)
 }

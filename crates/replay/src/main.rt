@@ -9,6 +9,7 @@ use header::Header;
 use header::HeaderRead;
 use keys::Public;
 use pairs::Private;
+use parts::Which;
 use reply::Written;
 use telling::say_number;
 use telling::word;
@@ -88,17 +89,17 @@ fn say_sum(view: &[u8]) {
 // The sum of the bytes of each view; the comment's by the record that holds the image.
 fn say_views(image: &[u8], f: Fields) {
     word(b"\nviews");
-    say_sum(parts::blob(image, f));
-    say_sum(parts::point(image, f));
-    say_sum(parts::scalar(image, f));
+    say_sum(parts::part(image, f, Which::Blob));
+    say_sum(parts::part(image, f, Which::Point));
+    say_sum(parts::part(image, f, Which::Scalar));
     say_sum(commented::comment_of(image));
     say_later_views(image, f);
 }
 
 fn say_later_views(image: &[u8], f: Fields) {
-    say_sum(parts::salt(image, f));
-    say_sum(parts::ciphertext(image, f));
-    say_sum(parts::tag(image, f));
+    say_sum(parts::part(image, f, Which::Salt));
+    say_sum(parts::part(image, f, Which::Ciphertext));
+    say_sum(parts::part(image, f, Which::Tag));
     word(b"\n");
 }
 
@@ -130,12 +131,12 @@ fn say_private(private: Private) {
 }
 
 fn say_rsa_views(image: &[u8], f: Fields) {
-    say_sum(parts::modulus(image, f));
-    say_sum(parts::exponent(image, f));
-    say_sum(parts::d(image, f));
-    say_sum(parts::iqmp(image, f));
-    say_sum(parts::p(image, f));
-    say_sum(parts::q(image, f));
+    say_sum(parts::part(image, f, Which::Modulus));
+    say_sum(parts::part(image, f, Which::Exponent));
+    say_sum(parts::part(image, f, Which::D));
+    say_sum(parts::part(image, f, Which::Iqmp));
+    say_sum(parts::part(image, f, Which::P));
+    say_sum(parts::part(image, f, Which::Q));
 }
 
 fn say_rsa(image: &[u8], f: Fields) {

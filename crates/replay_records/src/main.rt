@@ -13,6 +13,7 @@ use fields::Part;
 use header::Header;
 use keys::Public;
 use pairs::Private;
+use parts::Which;
 use reply::Written;
 use section::Kind;
 use section::Section;
@@ -121,18 +122,18 @@ fn say_view(view: &[u8]) {
 
 fn say_views(image: &[u8], f: Fields) {
     word(b"views");
-    say_view(parts::blob(image, f));
-    say_view(parts::point(image, f));
-    say_view(parts::scalar(image, f));
+    say_view(parts::part(image, f, Which::Blob));
+    say_view(parts::part(image, f, Which::Point));
+    say_view(parts::part(image, f, Which::Scalar));
     say_later_views(image, f);
     word(b"\n");
 }
 
 fn say_later_views(image: &[u8], f: Fields) {
     say_view(parts::comment(image, f));
-    say_view(parts::salt(image, f));
-    say_view(parts::ciphertext(image, f));
-    say_view(parts::tag(image, f));
+    say_view(parts::part(image, f, Which::Salt));
+    say_view(parts::part(image, f, Which::Ciphertext));
+    say_view(parts::part(image, f, Which::Tag));
 }
 
 fn empty(view: &[u8]) -> bool {
@@ -141,12 +142,12 @@ fn empty(view: &[u8]) -> bool {
 
 // Whether each view of RSA's numbers is empty.
 fn no_rsa_views(image: &[u8], f: Fields) -> bool {
-    empty(parts::modulus(image, f))
-        & empty(parts::exponent(image, f))
-        & empty(parts::d(image, f))
-        & empty(parts::iqmp(image, f))
-        & empty(parts::p(image, f))
-        & empty(parts::q(image, f))
+    empty(parts::part(image, f, Which::Modulus))
+        & empty(parts::part(image, f, Which::Exponent))
+        & empty(parts::part(image, f, Which::D))
+        & empty(parts::part(image, f, Which::Iqmp))
+        & empty(parts::part(image, f, Which::P))
+        & empty(parts::part(image, f, Which::Q))
 }
 
 fn say_rsa_views(image: &[u8], f: Fields) {
@@ -154,12 +155,12 @@ fn say_rsa_views(image: &[u8], f: Fields) {
         return;
     }
     word(b"views-rsa");
-    say_view(parts::modulus(image, f));
-    say_view(parts::exponent(image, f));
-    say_view(parts::d(image, f));
-    say_view(parts::iqmp(image, f));
-    say_view(parts::p(image, f));
-    say_view(parts::q(image, f));
+    say_view(parts::part(image, f, Which::Modulus));
+    say_view(parts::part(image, f, Which::Exponent));
+    say_view(parts::part(image, f, Which::D));
+    say_view(parts::part(image, f, Which::Iqmp));
+    say_view(parts::part(image, f, Which::P));
+    say_view(parts::part(image, f, Which::Q));
     word(b"\n");
 }
 

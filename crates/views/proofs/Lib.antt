@@ -1,2 +1,3 @@
 pub mod Thin
+pub mod ThinAt
 pub mod Determined

@@ -4,6 +4,7 @@ use container::Fields;
 use container::ImageRead;
 use fields::Refusal;
 use names::Algorithm;
+use parts::Which;
 use reply::Written;
 use section::Kind;
 
@@ -17,19 +18,19 @@ fn write_plain(image: &[u8], f: Fields, out: &mut [u8]) -> Written
     match algorithm {
         Algorithm::Elliptic(e) => plain::write_filled(
             e,
-            parts::point(image, f),
-            parts::scalar(image, f),
+            parts::part(image, f, Which::Point),
+            parts::part(image, f, Which::Scalar),
             checkint,
             parts::comment(image, f),
             out,
         ),
         Algorithm::Rsa => plain_rsa::write_parts(
-            parts::modulus(image, f),
-            parts::exponent(image, f),
-            parts::d(image, f),
-            parts::iqmp(image, f),
-            parts::p(image, f),
-            parts::q(image, f),
+            parts::part(image, f, Which::Modulus),
+            parts::part(image, f, Which::Exponent),
+            parts::part(image, f, Which::D),
+            parts::part(image, f, Which::Iqmp),
+            parts::part(image, f, Which::P),
+            parts::part(image, f, Which::Q),
             checkint,
             parts::comment(image, f),
             out,
@@ -50,11 +51,11 @@ fn write_record(image: &[u8], f: Fields, out: &mut [u8]) -> Written
         Kind::Encrypted => encrypted::write_encrypted(
             cipher,
             kdf,
-            parts::salt(image, f),
+            parts::part(image, f, Which::Salt),
             header.rounds,
-            parts::blob(image, f),
-            parts::ciphertext(image, f),
-            parts::tag(image, f),
+            parts::part(image, f, Which::Blob),
+            parts::part(image, f, Which::Ciphertext),
+            parts::part(image, f, Which::Tag),
             out,
         ),
     }

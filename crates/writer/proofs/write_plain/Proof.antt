@@ -12,11 +12,11 @@ use Rattle.writer.proofs.write_plain.Tie as tie
 enum-known-algorithm : tie.Need-enum-known-algorithm
 enum-known-algorithm c = search needs
 
-point-requires : tie.Need-point-requires
-point-requires c κs = search needs
+part-requires : tie.Need-part-requires
+part-requires c κs = search needs
 
-scalar-requires : tie.Need-scalar-requires
-scalar-requires c κs = search needs
+part-requires-2 : tie.Need-part-requires-2
+part-requires-2 c κs = search needs
 
 comment-requires : tie.Need-comment-requires
 comment-requires c κs = search needs
@@ -27,23 +27,23 @@ write-filled-requires c κs = search needs
 enum-told : tie.Need-enum-told
 enum-told c = search needs
 
-modulus-requires : tie.Need-modulus-requires
-modulus-requires c κs = search needs
+part-requires-3 : tie.Need-part-requires-3
+part-requires-3 c κs = search needs
 
-exponent-requires : tie.Need-exponent-requires
-exponent-requires c κs = search needs
+part-requires-4 : tie.Need-part-requires-4
+part-requires-4 c κs = search needs
 
-d-requires : tie.Need-d-requires
-d-requires c κs = search needs
+part-requires-5 : tie.Need-part-requires-5
+part-requires-5 c κs = search needs
 
-iqmp-requires : tie.Need-iqmp-requires
-iqmp-requires c κs = search needs
+part-requires-6 : tie.Need-part-requires-6
+part-requires-6 c κs = search needs
 
-p-requires : tie.Need-p-requires
-p-requires c κs = search needs
+part-requires-7 : tie.Need-part-requires-7
+part-requires-7 c κs = search needs
 
-q-requires : tie.Need-q-requires
-q-requires c κs = search needs
+part-requires-8 : tie.Need-part-requires-8
+part-requires-8 c κs = search needs
 
 comment-requires-2 : tie.Need-comment-requires-2
 comment-requires-2 c κs = search needs
@@ -60,7 +60,7 @@ returns c =
     let f = c .before .before .before .before .before .before .before .before .before .before .before .before .before .before .args .f in
     let s = c .before .before .before .before .before .before .before .before .before .before .before .before .before .before .args .image .now in
     let same = elliptic-only (c .before .before .before .before .before .before .before .before .algorithm .given .0 .0) (publicIn s f) (privateIn s f) (f .section .checkint) (viewOf s (f .section .comment)) in
-    rw (c .before .before .before .before .before .before .before .before .algorithm .given .1, ← same .0, ← same .1, ← c .before .before .before .before .before .before .point .ensures .0, ← c .before .before .before .before .before .scalar .ensures .0, ← c .before .before .before .before .comment .ensures .0)
+    rw (c .before .before .before .before .before .before .before .before .algorithm .given .1, ← same .0, ← same .1, ← c .before .before .before .before .before .before .part .ensures .0, ← c .before .before .before .before .before .part2 .ensures .0, ← c .before .before .before .before .comment .ensures .0)
     (c .before .before .write-filled .ensures)
 
 same-length-2 : tie.Need-same-length-2
@@ -72,7 +72,7 @@ returns-2 c =
     let f = c .before .before .before .before .before .before .before .before .before .before .before .before .before .before .before .before .before .args .f in
     let s = c .before .before .before .before .before .before .before .before .before .before .before .before .before .before .before .before .before .args .image .now in
     let same = rsa-only (publicIn s f) (privateIn s f) (f .section .checkint) (viewOf s (f .section .comment)) in
-    rw (c .before .before .before .before .before .before .before .before .before .before .before .enum-told .given .1, ← same .0, ← same .1, ← c .before .before .before .before .before .before .before .before .before .before .modulus .ensures .0, ← c .before .before .before .before .before .before .before .before .before .exponent .ensures .0, ← c .before .before .before .before .before .before .before .before .d .ensures .0, ← c .before .before .before .before .before .before .before .iqmp .ensures .0, ← c .before .before .before .before .before .before .p .ensures .0, ← c .before .before .before .before .before .q .ensures .0, ← c .before .before .before .before .comment2 .ensures .0)
+    rw (c .before .before .before .before .before .before .before .before .before .before .before .enum-told .given .1, ← same .0, ← same .1, ← c .before .before .before .before .before .before .before .before .before .before .part3 .ensures .0, ← c .before .before .before .before .before .before .before .before .before .part4 .ensures .0, ← c .before .before .before .before .before .before .before .before .part5 .ensures .0, ← c .before .before .before .before .before .before .before .part6 .ensures .0, ← c .before .before .before .before .before .before .part7 .ensures .0, ← c .before .before .before .before .before .part8 .ensures .0, ← c .before .before .before .before .comment2 .ensures .0)
     (c .before .before .write-parts .ensures)
 
 pub write-plain-spec : {M : Type 1} → statement M
@@ -80,17 +80,17 @@ write-plain-spec =
     tie.close
     (tie.spec
     enum-known-algorithm
-    point-requires
-    scalar-requires
+    part-requires
+    part-requires-2
     comment-requires
     write-filled-requires
     enum-told
-    modulus-requires
-    exponent-requires
-    d-requires
-    iqmp-requires
-    p-requires
-    q-requires
+    part-requires-3
+    part-requires-4
+    part-requires-5
+    part-requires-6
+    part-requires-7
+    part-requires-8
     comment-requires-2
     write-parts-requires
     same-length

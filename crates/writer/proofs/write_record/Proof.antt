@@ -14,17 +14,17 @@ write-plain-requires c κs = search needs
 enum-told-2 : tie.Need-enum-told-2
 enum-told-2 c = search needs
 
-salt-requires : tie.Need-salt-requires
-salt-requires c κs = search needs
+part-requires : tie.Need-part-requires
+part-requires c κs = search needs
 
-blob-requires : tie.Need-blob-requires
-blob-requires c κs = search needs
+part-requires-2 : tie.Need-part-requires-2
+part-requires-2 c κs = search needs
 
-ciphertext-requires : tie.Need-ciphertext-requires
-ciphertext-requires c κs = search needs
+part-requires-3 : tie.Need-part-requires-3
+part-requires-3 c κs = search needs
 
-tag-requires : tie.Need-tag-requires
-tag-requires c κs = search needs
+part-requires-4 : tie.Need-part-requires-4
+part-requires-4 c κs = search needs
 
 write-encrypted-requires : tie.Need-write-encrypted-requires
 write-encrypted-requires c κs = search needs
@@ -41,7 +41,7 @@ same-length-2 c = search needs
 
 returns-2 : tie.Need-returns-2
 unfolding recordReply recordLeft plainAgain plainAgainLeft
-returns-2 c = rw (c .before .before .before .before .before .before .before .before .enum-told2 .given .1, ← c .before .before .before .before .before .before .before .salt .ensures .0, ← c .before .before .before .before .before .before .blob .ensures .0, ← c .before .before .before .before .before .ciphertext .ensures .0, ← c .before .before .before .before .tag .ensures .0) (c .before .before .write-encrypted .ensures)
+returns-2 c = rw (c .before .before .before .before .before .before .before .before .enum-told2 .given .1, ← c .before .before .before .before .before .before .before .part .ensures .0, ← c .before .before .before .before .before .before .part2 .ensures .0, ← c .before .before .before .before .before .part3 .ensures .0, ← c .before .before .before .before .part4 .ensures .0) (c .before .before .write-encrypted .ensures)
 
 pub write-record-spec : {M : Type 1} → statement M
 write-record-spec =
@@ -50,10 +50,10 @@ write-record-spec =
     enum-told
     write-plain-requires
     enum-told-2
-    salt-requires
-    blob-requires
-    ciphertext-requires
-    tag-requires
+    part-requires
+    part-requires-2
+    part-requires-3
+    part-requires-4
     write-encrypted-requires
     same-length
     returns
