@@ -1,13 +1,14 @@
 #!/usr/bin/env python3
 """What the gate holds the texts to, beside the proofs: every public function of a library has a contract that asks nothing,
 a theorem NAME-determined and a place in docs/CONTRACTS.md, every proof and specification file says at its top what it is, nothing
-names a place outside the project, what docs/CONTRACTS.md names is there, and its table of places is that of cases_places.py. It
+names a place outside the project, what docs/CONTRACTS.md names is there, its table of places is that of cases_places.py, and the claims' list of entries is whole. It
 reads text and proves nothing."""
 import glob
 import os
 import re
 import sys
 
+import check_entries
 import check_places
 
 OUTSIDE = re.compile(r"\.\./shared|/work/|/opt/rattle|https?://[^\s)]*(debian|pypi|crates\.io)")
@@ -112,7 +113,7 @@ def named_functions():
 
 def main():
     wrong = list(contracts()) + list(texts()) + list(contracts_document()) + list(named_functions())
-    wrong += check_places.faults()
+    wrong += check_places.faults() + check_entries.faults()
     for line in wrong:
         print(line)
     print("texts: %s" % ("%d faults" % len(wrong) if wrong else "ok"))
