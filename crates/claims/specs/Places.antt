@@ -21,7 +21,7 @@ use Rattle.container.specs.declared.ImageRead.the-variants as read
 use Rattle.container.specs.Container.{readAt, sectionReadAt, toldRead}
 use Rattle.container.specs.Form.{withForm, formReadAt, sectionFormAt}
 use Rattle.container.specs.Halves.{section-own}
-use Rattle.found.specs.Found.{foundAt, headerFoundAt, Tells}
+use Rattle.found.specs.Found.{foundAt, headerFoundAt, Tells, found-told}
 use Rattle.reply.specs.declared.Written.the-variants as written
 use Rattle.writer.specs.Rewrite.{rewriteReply}
 use Rattle.comment.specs.Change.{changeReply}
@@ -111,13 +111,6 @@ pub record HandedUp (s : List ℕ) (g : Fault) : Type 0 where
   pub by-section : (half : Header) → headerAt s ≡ header-read.Header half → sectionReadAt s half ≡ read.Refused g
   pub by-section-c : (half : Header) → headerAt s ≡ header-read.Header half → sectionC s (headerOf (headerAt s)) ≡ refusedImage g
 
-found-told :
-    (s : List ℕ) (g : Fault) → readAt s ≡ read.Refused g
-    → Tells g (toldRead (readAt s) .number) (toldRead (readAt s) .count) (toldRead (readAt s) .at)
-    × Tells g (foundAt s .number) (foundAt s .count) (foundAt s .at)
-unfolding toldRead foundAt
-found-told s g e = rw e ((refl, refl, refl), (refl, refl, refl))
-
 read-c : (s : List ℕ) (g : Fault) → readAt s ≡ read.Refused g → imageOf (formReadAt s) ≡ refusedImage g
 unfolding imageOf formReadAt
 read-c s g e = rw e
@@ -142,10 +135,11 @@ section-c : (s : List ℕ) (g : Fault) → readAt s ≡ read.Refused g → (half
 section-c s g e half h = sym (two-halves-c s ∙ section-c-is s half h) ∙ read-c s g e
 
 pub handed-up : (s : List ℕ) (g : Fault) → readAt s ≡ read.Refused g → HandedUp s g
+unfolding foundAt
 handed-up s g e =
     record {
-      told = found-told s g e .0;
-      found = found-told s g e .1;
+      told = found-told (readAt s) g e;
+      found = found-told (readAt s) g e;
       in-c = read-c s g e;
       printed = report-refused s g e;
       by-rewrite = rewrite-refused s g e;

@@ -1,7 +1,7 @@
 -- Document 01, 'Reply numbers': each refusal returns its number, a count that is 0 except for number 6, and an empty record, over no
 -- bytes and with no field.
 use Prim.Native.Nat.{ℕ}
-use mathlib.Core.Path.{_≡_}
+use mathlib.Core.Path.{_≡_, refl}
 use mathlib.Core.Bool.{cond}
 use mathlib.Core.List.{List}
 use lib.Dec.{eqb}
@@ -13,6 +13,7 @@ use Rattle.fields.specs.declared.Part.{Part}
 use Rattle.header.specs.declared.Header.{Header}
 use Rattle.header.specs.Header.{headerAt, toldHeader}
 use Rattle.container.specs.declared.ImageRead.{ImageRead}
+use Rattle.container.specs.declared.ImageRead.the-variants as read
 use Rattle.container.specs.Container.{readAt, sectionReadAt, toldRead}
 use Rattle.found.specs.declared.Found.{Found}
 use Rattle.found.specs.declared.FoundHeader.{FoundHeader}
@@ -39,6 +40,11 @@ headerFoundAt s =
 -- number, count and place are those of a refusal
 abbrev pub Tells : Fault → ℕ → ℕ → ℕ → Type 0
 Tells g number count at = (number ≡ numberOf (g .why)) × (count ≡ countOf (g .why)) × (at ≡ g .at)
+
+-- those of a refused read, and of what is found of it
+pub found-told : (r : ImageRead) (g : Fault) → r ≡ read.Refused g → Tells g (foundOf r .number) (foundOf r .count) (foundOf r .at)
+unfolding toldRead
+found-told r g e = rw e (refl, refl, refl)
 
 -- the bytes that the record or the half holds: the image itself, or none
 unfoldable pub heldPart : List ℕ → ℕ → Part

@@ -29,7 +29,7 @@ use Rattle.header.specs.Header.{headerAt, toldHeader}
 use Rattle.halves.specs.Halves.{by-header}
 use Rattle.container.specs.Halves.{section-own}
 use Rattle.found.specs.declared.Found.{Found}
-use Rattle.found.specs.Found.{foundOf, foundAt, sectionFoundAt, headerFoundAt, Tells, heldPart}
+use Rattle.found.specs.Found.{foundOf, foundAt, sectionFoundAt, headerFoundAt, Tells, found-told, heldPart}
 use Rattle.fields.specs.Place.{clash}
 use Rattle.record.specs.Reply.{isReply, isSectionReply, isHeaderReply}
 
@@ -155,10 +155,6 @@ header-then-section image over v n c a m d b half fields h accepted r =
     )
 
 -- ---- a refused read's reply has the refusal's number, count and place: of an image, of a section, of a header
-
-found-told : (r : ImageRead) (g : Fault) → r ≡ read.Refused g → Tells g (foundOf r .number) (foundOf r .count) (foundOf r .at)
-unfolding toldRead
-found-told r g e = rw e (refl, refl, refl)
 
 pub refused-told :
     (image over : RefT (List ℕ)) (number count at : ℕ) (fields : Fields) (g : Fault) → isReply number count at over fields image
