@@ -55,11 +55,9 @@ fn with_keys<R>(then: impl Fn(PlainKey<'_>, RsaKey<'_>, EncryptedKey<'_>) -> R) 
     let checkint = Checkint::Given(CHECKINT);
     let algorithm = Algorithm::Ecdsa { curve: EcdsaCurve::NistP521 };
     let plain = PlainKey { algorithm, public: &[4; 133], private: &private(66), checkint };
-    let [n, d, prime] = [[&[0][..], &[0xc5; 256]].concat(), mpint(256), mpint(128)];
-    let d = &d[..256];
-    let rsa = RsaKey { n: &n, e: &[1, 0, 1], d, iqmp: &prime, p: &prime, q: &prime, checkint };
-    let image =
-        plain_image(&PlainKey { algorithm: Algorithm::Ed25519, public: &[7; 32], private: &private(32), ..plain });
+    let [n, d, prime] = [[&[0][..], &[0xc5; 256]].concat(), mpint(255), mpint(128)];
+    let rsa = RsaKey { n: &n, e: &[1, 0, 1], d: &d, iqmp: &prime, p: &prime, q: &prime, checkint };
+    let image = plain_image(&plain);
     let header = Header::read(&image).expect("a good image");
     let encrypted = EncryptedKey {
         cipher: Cipher::Aes256Gcm,
@@ -81,10 +79,11 @@ fn plain_image(key: &PlainKey<'_>) -> Vec<u8> {
     out
 }
 
-/// A marked plain image, a derived checkint's, an RSA key's and an encrypted one.
+/// A marked ECDSA image, an Ed25519 one with a derived checkint, an RSA key's and an encrypted one.
 fn images() -> Vec<Vec<u8>> {
     with_keys(|plain, rsa, encrypted| {
-        let derived = PlainKey { checkint: Checkint::Derived, ..plain };
+        let (algorithm, checkint) = (Algorithm::Ed25519, Checkint::Derived);
+        let derived = PlainKey { algorithm, public: &[7; 32], private: &private(32), checkint };
         let mut others = [vec![0; 4096], vec![0; 4096]];
         let len = write_rsa(&rsa, "silo 3", &mut others[0]).expect("a good key");
         others[0].truncate(len);
