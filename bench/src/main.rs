@@ -12,10 +12,11 @@ mod yardstick;
 use std::process::exit;
 use timing::{Group, COMPETITORS, GROUPS, JOBS, LIBRARY, YARDSTICK};
 
-const WARM_UP: usize = 3;
-const ROUNDS: usize = 15;
+const WARM_UP: usize = 4;
+/// So many that each seat begins equally often, and each comes after each of its neighbours equally often.
+const ROUNDS: usize = 16;
 
-/// Who sits in the four seats.
+/// One number for each seat, such as who sits in it.
 type Seats = [usize; COMPETITORS.len()];
 
 fn main() {
@@ -61,8 +62,7 @@ fn round(groups: &mut [Group; GROUPS], seats: &Seats, turn: usize) -> Round {
     let mut times = Round::default();
     for (job, by_group) in times.iter_mut().enumerate() {
         for (group, by_seat) in groups.iter_mut().zip(by_group) {
-            for i in 0..COMPETITORS.len() {
-                let seat = (i + turn) % COMPETITORS.len();
+            for seat in order(turn) {
                 by_seat[seat] = group.pass(job, seats[seat], seat).as_nanos() as f64;
             }
         }
@@ -70,9 +70,16 @@ fn round(groups: &mut [Group; GROUPS], seats: &Seats, turn: usize) -> Round {
     times
 }
 
+/// The seats in turn: who begins changes with each round, the direction with every fourth.
+fn order(turn: usize) -> Seats {
+    let seats = COMPETITORS.len();
+    let backward = turn / seats % 2 == 1;
+    [0, 1, 2, 3].map(|i| if backward { seats - 1 - i } else { i }).map(|i| (i + turn) % seats)
+}
+
 fn median(mut values: Vec<f64>) -> f64 {
     values.sort_by(f64::total_cmp);
-    values[values.len() / 2]
+    (values[(values.len() - 1) / 2] + values[values.len() / 2]) / 2.0
 }
 
 fn print_table(groups: &[Group; GROUPS], rounds: &[Round]) {

@@ -1,5 +1,4 @@
-//! The timed jobs. A pass is one job over one group of images by one competitor; the passes of a round take turns, and the
-//! competitor that begins changes with the round. No buffer is cleared between passes or rounds.
+//! The timed jobs. A pass is one job over one group of images by one competitor. No buffer is cleared between passes or rounds.
 
 use crate::images::{Images, LIMIT};
 use crate::model;
