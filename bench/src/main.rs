@@ -10,16 +10,21 @@ mod timing;
 mod yardstick;
 
 use std::process::exit;
-use timing::{Group, COMPETITORS, GROUPS, JOBS, LIBRARY};
+use timing::{Group, COMPETITORS, GROUPS, JOBS, LIBRARY, YARDSTICK};
 
-const WARM_UP: usize = 3;
-const ROUNDS: usize = 15;
+const WARM_UP: usize = 4;
+/// So many that each seat begins equally often, and each comes after each of its neighbours equally often.
+const ROUNDS: usize = 16;
+
+/// One number for each seat, such as who sits in it.
+type Seats = [usize; COMPETITORS.len()];
 
 fn main() {
-    let only_check = match std::env::args().nth(1).as_deref() {
-        None => false,
-        Some("--check") => true,
-        Some(_) => stop("usage: saltorchard-bench [--check]"),
+    let (seats, only_check) = match std::env::args().nth(1).as_deref() {
+        None => ([0, 1, 2, 3], false),
+        Some("--check") => ([0, 1, 2, 3], true),
+        Some("--same") => ([YARDSTICK; COMPETITORS.len()], false),
+        Some(_) => stop("usage: saltorchard-bench [--check | --same]"),
     };
     let images = images::all();
     match same::everywhere(&images) {
@@ -31,14 +36,17 @@ fn main() {
     }
     let mut groups = timing::groups(images);
     if only_check {
-        round(&mut groups, 0);
+        round(&mut groups, &seats, 0);
         println!("Every job ran once. No times: this was a check.");
         return;
     }
     for i in 0..WARM_UP {
-        round(&mut groups, i);
+        round(&mut groups, &seats, i);
     }
-    let rounds: Vec<Round> = (0..ROUNDS).map(|i| round(&mut groups, i)).collect();
+    let rounds: Vec<Round> = (0..ROUNDS).map(|i| round(&mut groups, &seats, i)).collect();
+    if seats[LIBRARY] != LIBRARY {
+        println!("The yardstick sits in all four seats: every ratio is to be near 1.");
+    }
     print_table(&groups, &rounds);
 }
 
@@ -47,25 +55,31 @@ fn stop(why: &str) -> ! {
     exit(1)
 }
 
-/// Nanoseconds of a pass, by job, group and competitor.
+/// Nanoseconds of a pass, by job, group and seat.
 type Round = [[[f64; COMPETITORS.len()]; GROUPS]; JOBS.len()];
 
-fn round(groups: &mut [Group; GROUPS], turn: usize) -> Round {
+fn round(groups: &mut [Group; GROUPS], seats: &Seats, turn: usize) -> Round {
     let mut times = Round::default();
     for (job, by_group) in times.iter_mut().enumerate() {
-        for (group, by_competitor) in groups.iter_mut().zip(by_group) {
-            for i in 0..COMPETITORS.len() {
-                let competitor = (i + turn) % COMPETITORS.len();
-                by_competitor[competitor] = group.pass(job, competitor).as_nanos() as f64;
+        for (group, by_seat) in groups.iter_mut().zip(by_group) {
+            for seat in order(turn) {
+                by_seat[seat] = group.pass(job, seats[seat], seat).as_nanos() as f64;
             }
         }
     }
     times
 }
 
+/// The seats in turn: who begins changes with each round, the direction with every fourth.
+fn order(turn: usize) -> Seats {
+    let seats = COMPETITORS.len();
+    let backward = turn / seats % 2 == 1;
+    [0, 1, 2, 3].map(|i| if backward { seats - 1 - i } else { i }).map(|i| (i + turn) % seats)
+}
+
 fn median(mut values: Vec<f64>) -> f64 {
     values.sort_by(f64::total_cmp);
-    values[values.len() / 2]
+    (values[(values.len() - 1) / 2] + values[values.len() / 2]) / 2.0
 }
 
 fn print_table(groups: &[Group; GROUPS], rounds: &[Round]) {

@@ -1,7 +1,10 @@
 /* Saltorchard: reads and writes SSH private-key images (the binary openssh-key-v1 container) and changes their comments in place.
  *
  * For x86-64 Linux. Link with libsaltorchard.a, which needs memcpy and memset of the C library and nothing else. Header and
- * archive go together: take both from the same version.
+ * archive go together: take both from the same version. SALTORCHARD_INTERFACE is the number of what is declared here; it rises
+ * with each change of a struct or a function's parameters (interface.txt has a line for each). The archive has a function with
+ * the number in its name, and whoever includes this header refers to it. So with an archive of another number the linker stops,
+ * with "undefined reference to `saltorchard_interface_N'": N is the header's number, and the archive's is another.
  *
  * Every function takes any bytes and any lengths; none keeps a pointer, allocates or prints. A part is lent as a pointer and
  * a length; an empty part may be NULL with length 0. What the caller has to keep: the pointer is good for that many bytes, the
@@ -20,6 +23,20 @@
 #ifdef __cplusplus
 extern "C" {
 #endif
+
+#define SALTORCHARD_INTERFACE 6
+
+/* Answers 6. The pointer is there for the linker; `retain` keeps it where sections that nobody calls are dropped. */
+uint64_t saltorchard_interface_6(void);
+#if defined(__has_attribute)
+#if __has_attribute(retain)
+__attribute__((retain))
+#endif
+#endif
+#if defined(__GNUC__)
+__attribute__((used))
+#endif
+static uint64_t (*const saltorchard_interface)(void) = saltorchard_interface_6;
 
 /* The number of a reply. The first condition that holds, in the order of reading or writing, gives it. */
 enum {

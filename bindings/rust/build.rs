@@ -1,10 +1,13 @@
 //! Links the archive `libsaltorchard.a`, or says in a sentence why it can't.
 
 use std::env;
-use std::path::PathBuf;
+use std::fs;
+use std::path::{Path, PathBuf};
 use std::process::exit;
 
 const ARCHIVE: &str = "libsaltorchard.a";
+/// The number of the C interface that src/c.rs declares.
+const INTERFACE: &str = "6";
 
 fn main() {
     println!("cargo:rerun-if-env-changed=SALTORCHARD_LIB_DIR");
@@ -19,6 +22,7 @@ fn main() {
             archive.display()
         ));
     }
+    check_interface(&archive);
     // The linker may run in another folder, so the path can't be a relative one.
     let folder = folder.canonicalize().unwrap_or(folder);
     println!("cargo:rustc-link-search=native={}", folder.display());
@@ -36,6 +40,40 @@ fn check_target() {
             ARCHIVE, target
         ));
     }
+}
+
+/// The archive has a function with its interface's number in its name.
+fn check_interface(archive: &Path) {
+    let bytes = fs::read(archive).unwrap_or_else(|why| stop(&format!("{} can't be read: {}.", archive.display(), why)));
+    let numbers = interfaces(&bytes);
+    if numbers.iter().any(|number| number == INTERFACE) {
+        return;
+    }
+    let has = match numbers.first() {
+        Some(number) => format!("has interface {}", number),
+        None => "has no interface number: it is older than interface 6, or isn't the library's".to_string(),
+    };
+    stop(&format!(
+        "this crate needs interface {} of {}, and the archive in {} {}. Make the archive of the checkout that the crate is of, with \
+         `rt staticlib saltorchard` in its root; SALTORCHARD_LIB_DIR, where it is set, must name the folder of that one.",
+        INTERFACE,
+        ARCHIVE,
+        archive.parent().unwrap_or(archive).display(),
+        has
+    ));
+}
+
+/// The number N of each name `saltorchard_interface_N` among the bytes.
+fn interfaces(bytes: &[u8]) -> Vec<String> {
+    let name = b"saltorchard_interface_";
+    let mut numbers = Vec::new();
+    for at in 0..bytes.len() {
+        if let Some(rest) = bytes[at..].strip_prefix(name) {
+            let digits = rest.iter().take_while(|byte| byte.is_ascii_digit());
+            numbers.push(digits.map(|&byte| char::from(byte)).collect());
+        }
+    }
+    numbers
 }
 
 fn folder() -> PathBuf {

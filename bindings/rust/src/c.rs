@@ -52,6 +52,7 @@ pub struct Reply {
 }
 
 extern "C" {
+    fn saltorchard_interface_6() -> u64;
     fn saltorchard_read(image: *const u8, image_len: usize) -> Image;
     fn saltorchard_read_header(image: *const u8, image_len: usize) -> Image;
     fn saltorchard_read_section(image: *const u8, image_len: usize, header: Image) -> Image;
@@ -113,20 +114,34 @@ extern "C" {
     ) -> Reply;
 }
 
+/// What the archive has under this name only if its structs and functions are the ones declared here.
+static INTERFACE: unsafe extern "C" fn() -> u64 = saltorchard_interface_6;
+
+/// Before each call: refers to the archive's number, so that with an archive of another number nothing links. The pointer is read,
+/// and not only there, since older compilers let the linker drop a static that is no more than `#[used]`.
+#[inline(always)]
+fn links() {
+    // SAFETY: the reference is to a static, of a type that may be copied.
+    unsafe { std::ptr::read_volatile(&INTERFACE) };
+}
+
 /// `saltorchard_read`.
 pub fn read(image: &[u8]) -> Image {
+    links();
     // SAFETY: the pointer and the length are one live slice's, and only that is read.
     unsafe { saltorchard_read(image.as_ptr(), image.len()) }
 }
 
 /// `saltorchard_read_header`.
 pub fn read_header(image: &[u8]) -> Image {
+    links();
     // SAFETY: the pointer and the length are one live slice's, and only that is read.
     unsafe { saltorchard_read_header(image.as_ptr(), image.len()) }
 }
 
 /// `saltorchard_read_section`; any `header` is fine, one that isn't the image's is refused.
 pub fn read_section(image: &[u8], header: Image) -> Image {
+    links();
     // SAFETY: the pointer and the length are one live slice's, and only that is read; the header is handed over as a copy.
     unsafe { saltorchard_read_section(image.as_ptr(), image.len(), header) }
 }
@@ -141,6 +156,7 @@ pub fn write_plain(
     comment: &[u8],
     out: &mut [u8],
 ) -> Reply {
+    links();
     // SAFETY: each pointer and length are one live slice's; `out` is lent alone, so it overlaps none of the others.
     unsafe {
         saltorchard_write_plain(
@@ -161,6 +177,7 @@ pub fn write_plain(
 
 /// `saltorchard_write_rsa`; the numbers are n, e, d, iqmp, p and q, and `derive` 0 takes the given checkint.
 pub fn write_rsa(numbers: [&[u8]; 6], derive: u8, checkint: u32, comment: &[u8], out: &mut [u8]) -> Reply {
+    links();
     let [n, e, d, iqmp, p, q] = numbers;
     // SAFETY: each pointer and length are one live slice's; `out` is lent alone, so it overlaps none of the others.
     unsafe {
@@ -199,6 +216,7 @@ pub fn write_encrypted(
     tag: &[u8],
     out: &mut [u8],
 ) -> Reply {
+    links();
     // SAFETY: each pointer and length are one live slice's; `out` is lent alone, so it overlaps none of the others.
     unsafe {
         saltorchard_write_encrypted(
@@ -221,12 +239,14 @@ pub fn write_encrypted(
 
 /// `saltorchard_rewrite`.
 pub fn rewrite(image: &[u8], out: &mut [u8]) -> Reply {
+    links();
     // SAFETY: each pointer and length are one live slice's; `out` is lent alone, so it doesn't overlap the image.
     unsafe { saltorchard_rewrite(image.as_ptr(), image.len(), out.as_mut_ptr(), out.len()) }
 }
 
 /// `saltorchard_change_comment`; any `n` is fine, one above the buffer's length is refused.
 pub fn change_comment(buffer: &mut [u8], n: usize, comment: &[u8]) -> Reply {
+    links();
     // SAFETY: each pointer and length are one live slice's; `buffer` is lent alone, so it doesn't overlap the comment.
     unsafe { saltorchard_change_comment(buffer.as_mut_ptr(), buffer.len(), n, comment.as_ptr(), comment.len()) }
 }

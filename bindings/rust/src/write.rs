@@ -6,7 +6,7 @@ use crate::c;
 use crate::{Algorithm, Cipher, Error, KdfAlg};
 
 /// The number that stands twice before the key in a plain section.
-#[derive(Clone, Copy, Debug, PartialEq, Eq)]
+#[derive(Clone, Copy, PartialEq, Eq)]
 pub enum Checkint {
     /// This one.
     Given(u32),
@@ -109,6 +109,16 @@ pub fn write_rsa(key: &RsaKey<'_>, comment: impl AsRef<[u8]>, out: &mut [u8]) ->
 pub fn write_encrypted(key: &EncryptedKey<'_>, out: &mut [u8]) -> Result<usize, Error> {
     let (cipher, kdf) = (key.cipher.code(), key.kdf.code());
     Error::written(c::write_encrypted(cipher, kdf, key.salt, key.rounds, key.blob, key.ciphertext, key.tag, out))
+}
+
+/// Which of the two; a given checkint may come from private bytes, and isn't said.
+impl fmt::Debug for Checkint {
+    fn fmt(&self, f: &mut fmt::Formatter<'_>) -> fmt::Result {
+        f.write_str(match self {
+            Self::Given(_) => "Given(..)",
+            Self::Derived => "Derived",
+        })
+    }
 }
 
 /// The algorithm and lengths; no private byte, and no checkint, which may come from private bytes.
