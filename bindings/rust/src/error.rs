@@ -6,7 +6,8 @@ use crate::c;
 use crate::{Field, MAX_IMAGE_LEN};
 
 /// A refusal: its number, how many bytes are left over where that is the reason, the field that it is about, and the byte of the
-/// image at which that field began. Its `Display` is a sentence that says what of this applies; no byte of the image stands in it.
+/// image at which that field began. Its `Display` is a sentence that says what of this applies. Count and place are what the image's
+/// length fields say: in a damaged image such a field may lie where a private byte was, so treat its error as you treat the key.
 ///
 /// | number | [`name`](Error::name) | meaning |
 /// |---|---|---|
