@@ -111,8 +111,18 @@ def named_functions():
                 yield f"{path} names {crate}::{name}, which isn't there"
 
 
+def licences():
+    """The two licences are there, and every Cargo.toml names them."""
+    for name in ("LICENSE-APACHE", "LICENSE-MIT", "NOTICE"):
+        if not os.path.exists(name):
+            yield f"{name} isn't there"
+    for path in glob.glob("*/**/Cargo.toml", recursive=True):
+        if "target" not in path.split("/") and 'license = "Apache-2.0 OR MIT"' not in open(path, encoding="utf-8").read():
+            yield f"{path} doesn't name the licences"
+
+
 def main():
-    wrong = list(contracts()) + list(texts()) + list(contracts_document()) + list(named_functions())
+    wrong = list(licences()) + list(contracts()) + list(texts()) + list(contracts_document()) + list(named_functions())
     wrong += check_places.faults() + check_entries.faults()
     for line in wrong:
         print(line)
