@@ -74,8 +74,11 @@ pub struct Inputs {
 impl Inputs {
     /// Of every file in these folders, in the order of their names.
     pub fn new(folders: &[String]) -> Self {
-        let files: Vec<_> = folders.iter().flat_map(|folder| files_of(Path::new(folder))).collect();
-        let drafts = drafts(&mut Rng::new("drafts"));
+        let files = folders.iter().flat_map(|folder| named_files(Path::new(folder))).map(|(_, image)| image).collect();
+        Self::of(drafts(&mut Rng::new("drafts")), files)
+    }
+
+    pub fn of(drafts: Vec<Draft>, files: Vec<Vec<u8>>) -> Self {
         let mut images: Vec<_> = files.iter().cloned().chain(drafts.iter().map(Draft::bytes)).collect();
         images.retain(|image| image.len() < LONG);
         Self { drafts, files, images }
@@ -126,28 +129,29 @@ impl Inputs {
     }
 }
 
-fn files_of(folder: &Path) -> Vec<Vec<u8>> {
+/// The images of a folder, NAME.bin each, in the order of their names.
+pub fn named_files(folder: &Path) -> Vec<(String, Vec<u8>)> {
     let entries = std::fs::read_dir(folder).unwrap_or_else(|error| panic!("{}: {error}", folder.display()));
     let mut paths: Vec<_> = entries.map(|entry| entry.expect("a folder's entry").path()).collect();
     paths.retain(|path| path.extension().map_or(false, |extension| extension == "bin"));
     paths.sort();
-    paths.iter().map(|path| std::fs::read(path).expect("a file that is there")).collect()
+    let name = |path: &Path| path.file_stem().unwrap_or_default().to_string_lossy().into_owned();
+    paths.iter().map(|path| (name(path), std::fs::read(path).expect("a file that is there"))).collect()
 }
 
-/// M1 to M15; M16 is a new key, see `fresh`.
+/// M1 to M14 in their order, then M15's two; M16 is a new key, see `fresh`.
 fn marked(rng: &mut Rng) -> Vec<Vec<u8>> {
     let mut images = vec![Vec::new(), MAGIC[..14].to_vec(), b"openssh-key-v2\0".to_vec(), MAGIC.to_vec()];
-    let ed25519 = Key::new(0, rng);
-    for length in [0, 5, 6, 65_301, 65_302] {
-        images.push(Draft::plain(&ed25519, false, rng.uint32(), &vec![b'c'; length]).bytes());
-    }
-    let p256 = Key::new(1, rng);
+    let (ed25519, p256) = (Key::new(0, rng), Key::new(1, rng));
+    let commented = |length| Draft::plain(&ed25519, false, 7, &vec![b'c'; length]).bytes();
+    images.extend([0, 5, 6].map(commented));
     for (zeros, first, length) in
         [(0, 0x7f, 32), (1, 0x80, 33), (1, 0x7f, 33), (0, 0x80, 32), (0, 1, 33), (0, 5, 34), (0, 5, 31)]
     {
         let stored = [after_zeros(zeros, first, 1), rng.bytes(length - zeros - 1)].concat();
-        images.push(Draft::stored(&p256, stored, rng.uint32(), b"").bytes());
+        images.push(Draft::stored(&p256, stored, 7, b"").bytes());
     }
+    images.extend([65_301, 65_302].map(commented));
     images
 }
 

@@ -1,8 +1,10 @@
 //! Saltorchard's library and the crate ssh-key 0.6.7 on the same inputs. See README.md for the switches.
 #![forbid(unsafe_code)]
 
+mod corpus;
 mod fresh;
 mod inputs;
+mod store;
 mod strange;
 #[path = "../../bindings/rust/tests/support/mod.rs"]
 mod support;
@@ -25,10 +27,12 @@ struct Run {
     inputs: usize,
     only: Option<Job>,
     wrong: Wrong,
+    store: Option<String>,
+    names: bool,
 }
 
 const USAGE: &str =
-    "switches: --files DIR, --seed N, --inputs N, --only JOB, --wrong NAME, --wrong-names; see README.md beside this";
+    "switches: --files DIR, --seed N, --inputs N, --only JOB, --store FILE, --wrong NAME, --wrong-names; see README.md beside this";
 
 fn main() -> ExitCode {
     let run = match run_of(std::env::args().skip(1).collect()) {
@@ -38,24 +42,34 @@ fn main() -> ExitCode {
             return ExitCode::from(2);
         }
     };
+    if run.names {
+        Wrong::names().for_each(|name| println!("{name}"));
+        return ExitCode::SUCCESS;
+    }
     println!("seed {}", support::seed());
+    if let ([corpus, rows, ..], Some(path)) = (&run.folders[..], &run.store) {
+        store::write(corpus, rows, run.inputs, path);
+        return ExitCode::SUCCESS;
+    }
     let tally = all(&run);
     tally.print();
     ExitCode::from(u8::from(tally.without_cause > 0))
 }
 
 fn run_of(words: Vec<String>) -> Option<Run> {
-    let mut run = Run { folders: Vec::new(), inputs: 4_000_000, only: None, wrong: Wrong::Nothing };
+    let mut run =
+        Run { folders: Vec::new(), inputs: 4_000_000, only: None, wrong: Wrong::Nothing, store: None, names: false };
     let clock = std::time::SystemTime::now().duration_since(std::time::UNIX_EPOCH).ok()?;
     let mut seed = clock.as_nanos() as u64 % 1_000_000_007;
     let mut words = words.into_iter();
     while let Some(word) = words.next() {
         match word.as_str() {
-            "--wrong-names" => Wrong::names().for_each(|name| println!("{name}")),
+            "--wrong-names" => run.names = true,
             "--files" => run.folders.push(words.next()?),
             "--seed" => seed = words.next()?.parse().ok()?,
             "--inputs" => run.inputs = words.next()?.parse().ok()?,
             "--only" => run.only = Some(Job::parse(&words.next()?)?),
+            "--store" => run.store = Some(words.next()?),
             "--wrong" => run.wrong = Wrong::parse(&words.next()?)?,
             _ => return None,
         }

@@ -36,7 +36,9 @@ pub fn of(image: &[u8], comment: &str) -> Theirs<Vec<u8>> {
             let written = bytes_of(&key);
             let values = values(&key, &written);
             key.set_comment(comment);
-            Theirs { answer: Answer::Read, read: Some([values, written, bytes_of(&key)]) }
+            let fresh = PrivateKey::new(key.key_data().clone(), comment);
+            let fresh = fresh.map_or(Vec::new(), |fresh| bytes_of(&fresh));
+            Theirs { answer: Answer::Read, read: Some([values, written, bytes_of(&key), fresh]) }
         }
     }
 }

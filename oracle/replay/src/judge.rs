@@ -4,7 +4,7 @@ use crate::answer::Answer;
 use crate::causes::*;
 use crate::ours::{self, Ours, Written};
 use crate::walk;
-use crate::width::full_width;
+use crate::width::{fewest_bytes, full_width};
 
 /// Bytes of the crate's, at hand or as a sum.
 pub trait Mark {
@@ -17,11 +17,11 @@ impl Mark for Vec<u8> {
     }
 }
 
-/// The crate's answer; the bytes are those of an image that it read: its values, the image that it writes, and the one that it writes
-/// with another comment.
+/// The crate's answer; the bytes are those of an image that it read: its values, the image that it writes, the one that it writes
+/// with another comment, and the new one of the same key and comment.
 pub struct Theirs<T> {
     pub answer: Answer,
-    pub read: Option<[T; 3]>,
+    pub read: Option<[T; 4]>,
 }
 
 /// The causes of the differences, none where there is none.
@@ -46,20 +46,30 @@ pub fn judge<T: Mark>(image: &[u8], comment: &str, ours: &Ours, theirs: &Theirs<
     }
 }
 
-fn both_read<T: Mark>(image: &[u8], comment: &str, ours: &Ours, theirs: &[T; 3]) -> Result<Vec<Cause>, String> {
-    let [values, written, changed] = theirs;
+fn both_read<T: Mark>(image: &[u8], comment: &str, ours: &Ours, theirs: &[T; 4]) -> Result<Vec<Cause>, String> {
+    let [values, written, changed, fresh] = theirs;
     if !values.is(&ours.values) {
         return Err("both read it, and a value differs".into());
     }
     let mut causes = Vec::new();
     causes.extend(of_written(&ours.written, written).map_err(|words| format!("written again: {words}"))?);
     causes.extend(of_changed(image, comment, ours, changed).map_err(|words| format!("comment changed: {words}"))?);
+    causes.extend(of_written(&ours.fresh, fresh).map_err(|words| format!("a new image: {words}"))?);
+    causes.sort();
+    causes.dedup();
     Ok(causes)
 }
 
-/// Both wrote.
+/// Both wrote, or neither had anything to write.
 fn of_bytes<T: Mark>(ours: &[u8], theirs: &T) -> Result<Option<Cause>, String> {
-    if theirs.is(ours) {
+    let same = theirs.is(ours);
+    if ours.is_empty() && !same {
+        return Err("no bytes here".into());
+    }
+    if !ours.is_empty() && fewest_bytes(ours) != ours {
+        return Err("our scalar isn't in the fewest bytes".into());
+    }
+    if same {
         return Ok(None);
     }
     let full = full_width(ours);

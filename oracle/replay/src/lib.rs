@@ -6,5 +6,6 @@ pub mod answer;
 pub mod causes;
 pub mod judge;
 pub mod ours;
+pub mod stored;
 pub mod walk;
 pub mod width;

@@ -2,7 +2,7 @@
 
 use crate::answer::Answer;
 use crate::walk::LIMIT;
-use saltorchard::{raw, EcdsaCurve, Image};
+use saltorchard::{raw, Algorithm, EcdsaCurve, Image};
 
 /// The bytes that were written, or the refusal's number.
 pub type Written = Result<Vec<u8>, u64>;
@@ -14,6 +14,8 @@ pub struct Ours {
     pub values: Vec<u8>,
     pub written: Written,
     pub changed: Written,
+    /// A plain image's key in a new image with the derived checkint; no bytes for an encrypted one.
+    pub fresh: Written,
 }
 
 /// The values of an image in one text: each by its name, with its length before it.
@@ -35,6 +37,7 @@ pub fn of(image: &[u8], comment: &str) -> Ours {
             values: values(&read),
             written: rewritten(image),
             changed: changed(image, comment),
+            fresh: fresh(&read, comment),
         },
         Err(refusal) => Ours {
             answer: Answer::Refused(refusal.number(), refusal.count() as u64),
@@ -42,6 +45,7 @@ pub fn of(image: &[u8], comment: &str) -> Ours {
             values: Vec::new(),
             written: Err(refusal.number()),
             changed: Err(refusal.number()),
+            fresh: Err(refusal.number()),
         },
     }
 }
@@ -96,15 +100,28 @@ pub fn changed(image: &[u8], comment: &str) -> Written {
     cut(buffer, reply)
 }
 
+fn fresh(image: &Image, comment: &str) -> Written {
+    if image.is_encrypted() {
+        return Ok(Vec::new());
+    }
+    if image.algorithm() == Algorithm::Rsa {
+        let numbers = [image.modulus(), image.exponent(), image.d(), image.iqmp(), image.p(), image.q()];
+        return new_rsa(numbers, comment);
+    }
+    let (mut room, algorithm) = ([0; EcdsaCurve::MAX_SIZE], raw::read(image.as_bytes()).algorithm as u8);
+    new_plain(algorithm, image.point(), image.full_scalar(&mut room), comment)
+}
+
 /// A key over a curve, or an Ed25519 key, written anew with the derived checkint.
 pub fn new_plain(algorithm: u8, public: &[u8], private: &[u8], comment: &str) -> Written {
-    let mut out = vec![0; LIMIT];
+    let mut out = vec![0; (comment.len() + 1_024).min(LIMIT)];
     let reply = raw::write_plain(algorithm, public, private, 1, 0, comment.as_bytes(), &mut out);
     cut(out, reply)
 }
 
 pub fn new_rsa(numbers: [&[u8]; 6], comment: &str) -> Written {
-    let mut out = vec![0; LIMIT];
+    let numbers_len: usize = numbers.iter().map(|number| number.len()).sum();
+    let mut out = vec![0; (2 * numbers_len + comment.len() + 512).min(LIMIT)];
     let reply = raw::write_rsa(numbers, 1, 0, comment.as_bytes(), &mut out);
     cut(out, reply)
 }

@@ -1,4 +1,5 @@
-//! The crate's form of an ECDSA scalar: always SIZE bytes, and a zero before a first byte of 0x80 or more.
+//! The two forms of an ECDSA scalar. The crate's: always SIZE bytes, and a zero before a first byte of 0x80 or more. Ours: the fewest
+//! bytes, and that zero.
 
 /// A string's place and bytes, and where the next field begins.
 fn string(image: &[u8], at: usize) -> (&[u8], usize) {
@@ -21,16 +22,25 @@ pub fn section_of(image: &[u8]) -> usize {
 
 /// A whole image as we write it, with its scalar as the crate writes it; any other image as it is.
 pub fn full_width(image: &[u8]) -> Vec<u8> {
-    let (cipher, _) = string(image, 15);
+    with_scalar(image, filled)
+}
+
+/// A whole image with its scalar in the fewest bytes; any other image as it is.
+pub fn fewest_bytes(image: &[u8]) -> Vec<u8> {
+    with_scalar(image, |stored, _| fewest(stored))
+}
+
+/// The image with the scalar stored as `store` says, of the stored scalar and SIZE, and padded anew.
+fn with_scalar(image: &[u8], store: fn(&[u8], usize) -> Vec<u8>) -> Vec<u8> {
     let section = section_of(image);
-    let (name, curve) = string(image, section + 12);
-    if cipher != b"none" || !name.starts_with(b"ecdsa-") {
+    if string(image, 15).0 != b"none" || !string(image, section + 12).0.starts_with(b"ecdsa-") {
         return image.to_vec();
     }
+    let (_, curve) = string(image, section + 12);
     let (point, scalar) = string(image, string(image, curve).1);
     let (private, comment) = string(image, scalar);
     let mut content = image[section + 4..scalar].to_vec();
-    put(&mut content, &filled(private, point.len() / 2));
+    put(&mut content, &store(private, point.len() / 2));
     put(&mut content, string(image, comment).0);
     content.extend(1..=(content.len().wrapping_neg() % 8) as u8);
     let mut whole = image[..section].to_vec();
@@ -39,10 +49,12 @@ pub fn full_width(image: &[u8]) -> Vec<u8> {
 }
 
 fn filled(stored: &[u8], size: usize) -> Vec<u8> {
+    let number = fewest(stored);
+    [vec![0; size.saturating_sub(number.len())], number].concat()
+}
+
+fn fewest(stored: &[u8]) -> Vec<u8> {
     let zeros = stored.iter().take_while(|byte| **byte == 0).count();
-    let number = &stored[zeros..];
-    let sign = usize::from(number.len() == size && number[0] >= 0x80);
-    let mut full = vec![0; sign + size - number.len()];
-    full.extend_from_slice(number);
-    full
+    let sign = stored.get(zeros).map_or(0, |first| usize::from(*first >= 0x80));
+    [&[0][..sign], &stored[zeros..]].concat()
 }
