@@ -3,11 +3,9 @@
 #
 #     oracle/fetch.sh DIR [SUITE]     DIR/vendor is then a cargo directory source and DIR/config.toml names it; SUITE is sid
 #
-# Nothing is installed and the system's apt is left alone: DIR/apt is a private root with lists of its own. The mirror is the one that
-# this system's apt is configured for; MIRROR=URI takes another, such as a snapshot of the archive once the suite has moved on, and
-# then OLD=1 too, since a snapshot's Release file has expired. apt checks the archive's signature and each package's hash. This script
-# checks that the versions are those of packages.txt, that the text of each unpacked crate is the one that packages.txt has the
-# sum of, and that the eight files of published.sha256 are as the crate's authors published them.
+# Nothing is installed and the system's apt is left alone: DIR/apt is a private root (tools/private_apt.sh, which also says how to take
+# another mirror). This script checks that the versions are those of packages.txt, that the text of each unpacked crate is the one
+# that packages.txt has the sum of, and that the eight files of published.sha256 are as the crate's authors published them.
 #
 # Status: 0 fetched; 3 the suite, a package or a tool can't be had here (one sentence on standard error); 1 what was fetched isn't the
 # text that is meant.
@@ -21,50 +19,17 @@ began=$SECONDS
 mkdir -p "$1"
 dir=$(cd "$1" && pwd)
 suite=${2:-sid}
-keyring=/usr/share/keyrings/debian-archive-keyring.gpg
-for tool in apt-get apt-cache dpkg-deb sha256sum patch; do
+for tool in dpkg-deb sha256sum patch; do
     command -v "$tool" >/dev/null || not_here "the program $tool is missing"
 done
-[ -r "$keyring" ] || not_here "the package debian-archive-keyring is missing"
-
-configured_mirror() { # of the first plain suite, with no dash or slash in its name
-    apt-get indextargets --no-release-info --format '$(REPO_URI) $(RELEASE) $(COMPONENT)' 'Identifier: Packages' |
-        awk '$3 == "main" && $2 !~ /[-\/]/ && !found { print $1; found = 1 }'
-}
-
-private_root() {
-    rm -rf "$dir/apt" "$dir/debs" "$dir/unpacked" "$dir/vendor" "$dir/config.toml"
-    mkdir -p "$dir"/apt/{etc,state/lists/partial,cache/archives/partial,log} "$dir/debs"
-    : >"$dir/apt/status"
-    echo "deb [signed-by=$keyring${OLD:+ check-valid-until=no}] $mirror $suite main" >"$dir/apt/etc/sources.list"
-    cat >"$dir/apt/apt.conf" <<CONF
-Dir::Etc::sourcelist "$dir/apt/etc/sources.list";
-Dir::Etc::sourceparts "-";
-Dir::Etc::preferences "-";
-Dir::Etc::preferencesparts "-";
-Dir::State "$dir/apt/state";
-Dir::State::status "$dir/apt/status";
-Dir::Cache "$dir/apt/cache";
-Dir::Log "$dir/apt/log";
-APT::Sandbox::User "";
-APT::Update::Error-Mode "any";
-Acquire::Languages "none";
-Acquire::IndexTargets::deb::Contents-deb::DefaultEnabled "false";
-Acquire::IndexTargets::deb::Contents-deb-legacy::DefaultEnabled "false";
-Acquire::IndexTargets::deb::DEP-11::DefaultEnabled "false";
-CONF
-}
-
-private_apt() { # PROGRAM WORD..
-    local program=$1
-    shift
-    "$program" -c "$dir/apt/apt.conf" -q "$@"
-}
+rm -rf "$dir/apt" "$dir/debs" "$dir/unpacked" "$dir/vendor" "$dir/config.toml"
+mkdir "$dir/debs"
+bash "$here/../tools/private_apt.sh" "$dir/apt" "$suite" deb
 
 # PACKAGE=VERSION for each package that is wanted; a rebuild of the same version (+b1) will do.
 versions_there() {
     local package version there
-    there=$(awk '{ print $1 }' "$here/packages.txt" | xargs -d '\n' bash -c 'apt-cache -c "$0" madison "$@"' "$dir/apt/apt.conf" 2>/dev/null |
+    there=$(awk '{ print $1 }' "$here/packages.txt" | xargs apt-cache -c "$dir/apt/apt.conf" madison 2>/dev/null |
         awk -F' *[|] *' '{ gsub(/ /, "", $1); print $1, $2 }')
     while read -r package version _; do
         awk -v p="$package" -v v="$version" '$1 == p { plain = $2; sub(/\+b[0-9]+$/, "", plain); if (plain == v && !n++) print p "=" $2 }
@@ -95,13 +60,8 @@ take_patches_back() {
         wrong "one of the eight files of ssh-key isn't the published one"
 }
 
-mirror=${MIRROR:-$(configured_mirror)}
-[ -n "$mirror" ] || not_here "this system's apt has no mirror of Debian's archive configured (MIRROR names one)"
-private_root
-private_apt apt-get update >"$dir/apt/update.log" 2>&1 ||
-    not_here "the suite $suite doesn't come from the mirror that is configured ($(grep -m1 '^E:' "$dir/apt/update.log" | cut -c4-))"
 wanted=$(versions_there)
-(cd "$dir/debs" && private_apt apt-get download $wanted >"$dir/apt/download.log" 2>&1) ||
+(cd "$dir/debs" && apt-get -c "$dir/apt/apt.conf" -q download $wanted >"$dir/apt/download.log" 2>&1) ||
     not_here "a package doesn't come ($(grep -m1 '^E:' "$dir/apt/download.log" | cut -c4-))"
 unpack
 take_patches_back

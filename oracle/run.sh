@@ -16,7 +16,7 @@ crate=$root/target/crate
 work=$(mktemp -d)
 trap 'rm -rf "$work"' EXIT
 mkdir "$work/rows" "$work/new"
-python3 "$root/tools/differences.py" --write "$work/rows" >/dev/null
+python3 "$root/tools/differences.py" --write "$work/rows" >/dev/null || [ -f "$work/rows/D1.bin" ] # its own comparison is the gate's
 
 new_key() { # NAME WORD..: a key of ssh-keygen without its armour
     ssh-keygen -q -C "oven 7" -f "$work/key" "${@:2}" </dev/null >/dev/null
