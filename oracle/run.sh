@@ -2,6 +2,7 @@
 # Fetches the crate ssh-key 0.6.7 if it isn't there, builds the comparison with it and runs it:
 #
 #     oracle/run.sh [--seed N] [--inputs N] [--only JOB] [--wrong NAME]
+#     oracle/run.sh --alone DIR                                              only the images DIR/*.bin
 #
 # Status: 0 each difference has its cause; 1 one has none, or something can't be built; 3 the crate can't be had here.
 set -euo pipefail
@@ -12,6 +13,13 @@ crate=$root/target/crate
 # shellcheck source=../tools/x86_64.sh
 . "$root/tools/x86_64.sh"
 [ -f "$crate/config.toml" ] || bash fetch.sh "$crate"
+
+export CARGO_TARGET_DIR=$root/target/oracle
+compare() { "$SALTORCHARD_CARGO" run --release --quiet --offline --config "$crate/config.toml" -- "$@"; }
+if [ "${1:-}" = --alone ]; then
+    compare --files "$2" --only Files:0
+    exit
+fi
 
 work=$(mktemp -d)
 trap 'rm -rf "$work"' EXIT
@@ -32,6 +40,4 @@ else
     echo "ssh-keygen isn't here: no new keys of it"
 fi
 
-export CARGO_TARGET_DIR=$root/target/oracle
-"$SALTORCHARD_CARGO" run --release --quiet --offline --config "$crate/config.toml" -- \
-    --files "$root/tools/corpus" --files "$work/rows" --files "$work/new" "$@"
+compare --files "$root/tools/corpus" --files "$work/rows" --files "$work/new" "$@"
