@@ -26,7 +26,7 @@ import tempfile
 import model
 from fetch_corpus import BEGIN, END
 from fields import LIMIT, MAGIC, content
-from real_files import ROOT, RUN, refused_field, said
+from real_files import ROOT, RUN, said
 
 PACKAGES = [
     "libmina-sshd-java", "libssh", "jsch", "bouncycastle", "golang-go.crypto", "keepassxc", "erlang", "openssh", "paramiko", "python-asyncssh",
@@ -142,14 +142,13 @@ def faults(loaded, image):
 
 
 def title(image):
-    """How an image is counted: by its kind, or refused with the name that isn't known or the field that is wrong."""
+    """How an image is counted: by its kind, or refused, with the name that isn't known or the place."""
     read = model.read(image)
     if read.number == 4:
         length = int.from_bytes(image[read.at : read.at + 4], "big")
         return f"refused 4, {image[read.at + 4 : read.at + 4 + length].decode(errors='replace')}"
     if read.number:
-        field, length = refused_field(image, read.at)
-        return f"refused {read.number}, {field} of {length} bytes"
+        return f"refused {read.number} at {read.at} of {len(image)} bytes"
     words = dict(line.split(" ", 1) for line in model.report(image).splitlines())
     form = "" if words.get("form", "yes") == "yes" else ", not in the form"
     return f"read, {words['kind']}, {words['algorithm']}{form}"
