@@ -47,12 +47,11 @@ class Reply(ctypes.Structure):
 
 
 def in_base64(body):
-    """The image, or None where the text isn't one; between the lines of source code stand quotes, escapes and signs."""
+    """The image, or None where the text isn't one. In source code its lines may be strings of their own, with escapes at their ends."""
     quoted = b"".join(one or other for one, other in QUOTED.findall(body.partition(b"\n")[2]))
     for text in (body, quoted):
-        text = re.sub(rb"\\[nrt]|[\s\"'+,]*\n[\s\"'+,]*|\s", b"", text.replace(b"\\\\", b"\\"))
         try:
-            image = base64.b64decode(text.strip(b"\"'`\\+, "), validate=True)
+            image = base64.b64decode(re.sub(rb"\\+[nr]|\s", b"", text), validate=True)
         except binascii.Error:
             continue
         if image.startswith(MAGIC):
