@@ -142,8 +142,7 @@ def crate_differences():
     yield "DSA", stored("openssh-sshkey-dsa_n"), "4 at 43", "reads"
     yield "security key, ECDSA", stored("openssh-sshkey-ecdsa_sk1"), "4 at 43", "reads"
     yield "security key, Ed25519", stored("openssh-sshkey-ed25519_sk1"), "4 at 43", "reads"
-    name = b"oven@example.com"
-    yield "another name", changed(fields, {"blob.name": name, "section.name": name}), "4 at 43", "refuses"
+    yield "another name", renamed(fields, b"oven@example.com"), "4 at 43", "refuses"
     yield "65,538 bytes", ed25519(b"c" * 65302), "11 at 0", "reads"
     wrong_seed = put(fields, "section.scalar", bytes(32) + PUBLIC)
     yield "seed that doesn't yield the public key", wrong_seed, "read", "reads"
@@ -189,6 +188,25 @@ def short_scalar_differences():
     yield "P-521, two needless zeros, 66 bytes", ecdsa(small_521, algorithm=P521), "read, form no", "reads"
 
 
+def strange_differences():
+    fields, key = ed25519(), ecdsa(scalar_of(P256))
+    point = spot(key, "blob.point").field.content
+    compressed = b"\2" + point[1:33]
+    yield "Ed448", renamed(fields, b"ssh-ed448"), "4 at 43", "refuses"
+    yield "ML-DSA-44 with Ed25519", renamed(fields, b"ssh-mldsa44-ed25519"), "4 at 43", "refuses"
+    yield "key name not UTF-8", renamed(fields, b"ofen-\xff"), "4 at 43", "refuses"
+    yield "cipher name of 49 bytes", put(fields, "cipher", b"o" * 49), "4 at 15", "refuses"
+    tagged = {"blob.point": b"\2" + point[1:], "section.point": b"\2" + point[1:]}
+    yield "point tag 2, 65 bytes", changed(key, tagged), "2 at 78", "refuses"
+    yield "compressed point", changed(key, {"blob.point": compressed, "section.point": compressed}), "1 at 78", "refuses"
+    yield "public key's length one too many", put_length(fields, "blob.point", 33), "1 at 58", "refuses"
+    yield "blob's length far too many", put_length(fields, "blob", 0xFFFF), "1 at 39", "refuses"
+
+
+def renamed(fields, name):
+    return changed(fields, {"blob.name": name, "section.name": name})
+
+
 # What the writer makes of the scalars that aren't in the form: the image of another row.
 WRITTEN = {"D16": "D14", "D17": "D15", "D59": "D60", "D61": "D14", "D66": "D65"}
 
@@ -220,7 +238,7 @@ def encryption_differences():
 
 def differences():
     groups = [crate_differences(), scalar_differences(), section_differences(), encryption_differences(), rsa_differences()]
-    groups.append(short_scalar_differences())
+    groups += [short_scalar_differences(), strange_differences()]
     rows = [row for group in groups for row in group]
     for number, (title, fields, *rest) in enumerate(rows, 1):
         image = fields if isinstance(fields, bytes) else join(fields)
