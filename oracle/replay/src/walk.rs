@@ -12,18 +12,9 @@ const MOST: usize = 0xfffff;
 const LONGEST_NAME: usize = 48;
 const LONGEST_POINT: usize = 133;
 
-/// Name, block and tag length.
-const CIPHERS: [(&str, usize, usize); 10] = [
-    ("none", 8, 0),
-    ("3des-cbc", 8, 0),
-    ("aes128-cbc", 16, 0),
-    ("aes192-cbc", 16, 0),
-    ("aes256-cbc", 16, 0),
-    ("aes128-ctr", 16, 0),
-    ("aes192-ctr", 16, 0),
-    ("aes256-ctr", 16, 0),
-    ("aes128-gcm@openssh.com", 16, 16),
-    ("aes256-gcm@openssh.com", 16, 16),
+const CIPHERS: [&str; 10] = [
+    "none", "3des-cbc", "aes128-cbc", "aes192-cbc", "aes256-cbc", "aes128-ctr", "aes192-ctr", "aes256-ctr",
+    "aes128-gcm@openssh.com", "aes256-gcm@openssh.com",
 ];
 const KDFS: [&str; 2] = ["none", "bcrypt"];
 const ALGORITHMS: [&str; 5] =
@@ -157,7 +148,7 @@ impl<'a> Walk<'a> {
         if self.take(MAGIC.len())? != MAGIC {
             return refuse(2);
         }
-        let cipher = self.name(&CIPHERS.map(|(name, _, _)| name), strange_cipher)?;
+        let cipher = self.name(&CIPHERS, strange_cipher)?;
         let kdf = self.name(&KDFS, strange_name)?;
         self.options(kdf)?;
         if self.length()? != 1 {
@@ -212,10 +203,11 @@ impl<'a> Walk<'a> {
     }
 
     fn ciphertext(&mut self, cipher: usize) -> Step<()> {
-        let (_, block, tag) = CIPHERS[cipher];
+        let block = if CIPHERS[cipher].starts_with("aes") { 16 } else { 8 };
         if self.string()?.len() % block != 0 {
             return refuse(3);
         }
+        let tag = if CIPHERS[cipher].contains("-gcm@") { 16 } else { 0 };
         self.take(tag).map(|_| ())
     }
 
