@@ -5,7 +5,10 @@
 pub mod answer;
 pub mod causes;
 pub mod judge;
+mod key_fields;
 pub mod ours;
+mod steps;
 pub mod stored;
+mod strangers;
 pub mod walk;
 pub mod width;
