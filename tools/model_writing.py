@@ -14,9 +14,9 @@ this project. Each entry is handed the lent buffer's bytes and answers its reply
 from typing import NamedTuple
 
 import model
-from fields import CIPHERS, ED25519, KDFS, LIMIT, MAGIC, NONE, SIZES, Reader, Refused, content, string, uint32
+from fields import CIPHERS, ED25519, KDFS, LIMIT, MAGIC, NONE, RSA, SIZES, Reader, Refused, content, string, uint32
 from model import PLAIN
-from model_keys import read_blob
+from model_keys import filled_scalar, read_blob
 from rsa import NUMBERS, first_outside, is_mpint
 
 
@@ -152,6 +152,12 @@ def written_again(image, record):
 def with_comment(image, record, comment):
     """The plain writer's image of the record's key and checkint with this comment, of whatever size."""
     return model.write_key(image, record, record.checkint, comment)
+
+
+def anew(image, record, comment):
+    """The new image of a plain record's key with the derived checkint and this comment."""
+    private = content(image, record.d) if record.algorithm == RSA else filled_scalar(image, record)
+    return model.write_key(image, record, derived_checkint(private), comment)
 
 
 # ---- a record that is handed in

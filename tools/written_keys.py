@@ -21,8 +21,7 @@ import model
 import model_writing
 from against_ssh_keygen import armour
 from fetch_corpus import COMMENTS, CORPUS, KINDS, RSA_KINDS, has_short_scalar, new_key
-from fields import RSA, content
-from model_keys import filled_scalar
+from fields import content
 
 RUN = pathlib.Path(__file__).resolve().parent / "run_program.sh"
 
@@ -49,9 +48,7 @@ def public_key(image):
 def by_model(image):
     """The model's image of the same material and comment, with the derived checkint."""
     answer = model.read(image)
-    private = content(image, answer.d) if answer.algorithm == RSA else filled_scalar(image, answer)
-    checkint = model_writing.derived_checkint(private)
-    return model.write_key(image, answer, checkint, content(image, answer.comment))
+    return model_writing.anew(image, answer, content(image, answer.comment))
 
 
 def hold(title, image):
