@@ -8,9 +8,9 @@ import re
 LIST = "crates/claims/specs/Refusals.antt"
 THEOREMS = "crates/claims/specs/Entries.antt"
 # A struct that holds a reference: the checker makes no plain form of the contract, which cites the definition that the line has.
-BY_HAND = {"recorded-rewrite": (("recorded", "rewrite"), "isHanded")}
+BY_HAND = {"recorded-rewrite": (("record_writing", "rewrite"), "isHanded")}
 # Their functions put bytes where they fit and answer a place: they refuse nothing.
-PUTS = ("buffer", "spelling")
+PUTS = ("buffer", "names_spelling")
 
 LENT = re.compile(r"&(?:'\w+ )?mut \[u8\]")
 FUNCTION = re.compile(r'\bpub (?:extern "C" )?fn (\w+)(?:<[^>]*>)?\(([^)]*)\)(?:\s*->\s*(\w+))?(?:\s*ensures \{ λ \w+\. ⌜ (\w+))?')

@@ -44,9 +44,9 @@ def image_faults(vectors):
     for row in rows():
         image = row.case.image
         if len(image).to_bytes(4, "big") + image not in vectors:
-            yield f"{row.id}: its image isn't in crates/replay/data/vectors"
+            yield f"{row.id}: its image isn't in crates/replay_images/data/vectors"
 
 
 def faults():
-    with open("docs/CONTRACTS.md", encoding="utf-8") as document, open("crates/replay/data/vectors", "rb") as vectors:
+    with open("docs/CONTRACTS.md", encoding="utf-8") as document, open("crates/replay_images/data/vectors", "rb") as vectors:
         return [*table_faults(document.read()), *image_faults(vectors.read())]

@@ -1,5 +1,5 @@
 #!/usr/bin/env python3
-"""Makes the stored vectors of crates/replay, crates/replay_writing and crates/replay_records anew: the images, the calls and
+"""Makes the stored vectors of crates/replay_images, crates/replay_writing and crates/replay_records anew: the images, the calls and
 the records handed in, and what must be answered to each; and for the Rust tests the images of cases_places.py once more, each
 with its place and its field.
 
@@ -53,7 +53,7 @@ from images import corpus
 
 ROOT = pathlib.Path(__file__).resolve().parent.parent
 CRATES = ROOT / "crates"
-REPLAY = CRATES / "replay"
+REPLAY = CRATES / "replay_images"
 WRITING = CRATES / "replay_writing"
 RECORDS = CRATES / "replay_records"
 PLACES = ROOT / "bindings" / "rust" / "tests" / "data" / "places"

@@ -1,20 +1,20 @@
 // Reads a plain image from standard input and writes its key afresh to standard output: its material and
 // its comment, with the derived checkint. What can't be written is refused on standard error.
-use container::Fields;
-use container::ImageRead;
 use fields::Fault;
 use fields::Part;
 use fields::Refusal;
+use key_material::Checkint;
+use key_material::Material;
 use libc::STDERR_FILENO;
 use libc::STDIN_FILENO;
 use libc::STDOUT_FILENO;
-use material::Checkint;
-use material::Material;
 use names::Algorithm;
 use names::Elliptic;
-use parts::Which;
-use reply::Written;
-use section::Kind;
+use reader_image::Fields;
+use reader_image::ImageRead;
+use reader_parts::Which;
+use reader_section::Kind;
+use writer_reply::Written;
 
 fn refuse(f: Fault) {
     let why = f.why;
@@ -43,24 +43,24 @@ fn write_elliptic(image: &[u8], f: Fields, kind: Elliptic) {
     let mut out = [0u8; 65536];
     let m = Material::filled(
         kind,
-        parts::part(image, f, Which::Point),
-        parts::part(image, f, Which::Scalar),
+        reader_parts::part(image, f, Which::Point),
+        reader_parts::part(image, f, Which::Scalar),
     );
-    let comment = parts::comment(image, f);
-    let written = plain::write_plain(m, Checkint::Derived, comment, &mut out);
+    let comment = reader_parts::comment(image, f);
+    let written = writer_plain::write_plain(m, Checkint::Derived, comment, &mut out);
     hand_out(written, &out);
 }
 
 fn write_rsa(image: &[u8], f: Fields) {
     let mut out = [0u8; 65536];
-    let n = parts::part(image, f, Which::Modulus);
-    let e = parts::part(image, f, Which::Exponent);
-    let d = parts::part(image, f, Which::D);
-    let iqmp = parts::part(image, f, Which::Iqmp);
-    let p = parts::part(image, f, Which::P);
-    let q = parts::part(image, f, Which::Q);
-    let comment = parts::comment(image, f);
-    let written = plain_rsa::write_rsa(n, e, d, iqmp, p, q, Checkint::Derived, comment, &mut out);
+    let n = reader_parts::part(image, f, Which::Modulus);
+    let e = reader_parts::part(image, f, Which::Exponent);
+    let d = reader_parts::part(image, f, Which::D);
+    let iqmp = reader_parts::part(image, f, Which::Iqmp);
+    let p = reader_parts::part(image, f, Which::P);
+    let q = reader_parts::part(image, f, Which::Q);
+    let comment = reader_parts::comment(image, f);
+    let written = writer_rsa::write_rsa(n, e, d, iqmp, p, q, Checkint::Derived, comment, &mut out);
     hand_out(written, &out);
 }
 
@@ -93,7 +93,7 @@ fn main() {
         length: n,
     };
     let image = fields::view(&buffer, whole);
-    match container::read(image) {
+    match reader_image::read(image) {
         ImageRead::Refused(f) => refuse(f),
         ImageRead::Record(f) => write(image, f),
     }

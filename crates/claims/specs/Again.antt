@@ -14,21 +14,21 @@ use Rattle.names.specs.declared.Kdf.the-variants as kdf
 use Rattle.utf8.specs.Utf8.{utf8}
 use Rattle.format.specs.Format.{PublicBytes, PrivateBytes, filled, zerosAsked, blob, keypair, header, writtenImage}
 use Rattle.format.specs.Scalars.{rule-may, written-own}
-use Rattle.section.specs.declared.Kind.the-variants as kind
-use Rattle.section.specs.Back.{KeyFits}
-use Rattle.section.specs.Read.{beforeComment}
-use Rattle.container.specs.declared.Fields.{Fields}
-use Rattle.container.specs.declared.ImageRead.the-variants as read
-use Rattle.container.specs.Container.{publicIn, privateIn, materialIn, readAt}
-use Rattle.container.specs.Form.{rewritten, formOf}
-use Rattle.container.specs.Read.{PlainText}
-use Rattle.container.specs.FormLaws.{plain-of, form-rule}
-use Rattle.container.specs.Back.{PlainImageBack, plain-image-back}
-use Rattle.reply.specs.declared.Written.{Written}
-use Rattle.reply.specs.declared.Written.the-variants as written
-use Rattle.plain.specs.Plain.{plainReply}
-use Rattle.comment.specs.Change.{afresh, afreshReply, commentField, acceptedReply}
-use Rattle.comment.specs.Afresh.{all-take, afresh-shell}
+use Rattle.reader_section.specs.declared.Kind.the-variants as kind
+use Rattle.reader_section.specs.Back.{KeyFits}
+use Rattle.reader_section.specs.Read.{beforeComment}
+use Rattle.reader_image.specs.declared.Fields.{Fields}
+use Rattle.reader_image.specs.declared.ImageRead.the-variants as read
+use Rattle.reader_image.specs.Container.{publicIn, privateIn, materialIn, readAt}
+use Rattle.reader_image.specs.Form.{rewritten, formOf}
+use Rattle.reader_image.specs.Read.{PlainText}
+use Rattle.reader_image.specs.FormLaws.{plain-of, form-rule}
+use Rattle.reader_image.specs.Back.{PlainImageBack, plain-image-back}
+use Rattle.writer_reply.specs.declared.Written.{Written}
+use Rattle.writer_reply.specs.declared.Written.the-variants as written
+use Rattle.writer_plain.specs.Plain.{plainReply}
+use Rattle.comment_change.specs.Change.{afresh, afreshReply, commentField, acceptedReply}
+use Rattle.comment_change.specs.Afresh.{all-take, afresh-shell}
 use Rattle.claims.specs.Bytes.{all-shell}
 use Rattle.claims.specs.Reading.{plain-accepted}
 

@@ -6,8 +6,8 @@ use lib.ListN.{length, take, drop}
 use lib.Seq.{slice, getD-drop}
 use Rattle.fields.specs.Bytes.{uint32, string, AllBytes}
 use Rattle.format.specs.Format.{paddingLength, paddingBytes}
-use Rattle.comment.specs.Afresh.{all-take}
-use Rattle.comment.specs.Shell.{bare, shellFields, shellAt}
+use Rattle.comment_change.specs.Afresh.{all-take}
+use Rattle.comment_change.specs.Shell.{bare, shellFields, shellAt}
 
 all-none : AllBytes []
 all-none i = omega arith

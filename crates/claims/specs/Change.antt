@@ -13,19 +13,19 @@ use Rattle.fields.specs.Place.{clash}
 use Rattle.fields.specs.declared.Fault.{Fault}
 use Rattle.fields.specs.declared.Refusal.the-variants.{CharacterEncoding, Encrypted, Form}
 use Rattle.utf8.specs.Utf8.{utf8}
-use Rattle.section.specs.declared.Kind.{Kind}
-use Rattle.section.specs.declared.Kind.the-variants as kind
-use Rattle.container.specs.declared.Fields.{Fields}
-use Rattle.container.specs.declared.ImageRead.{ImageRead}
-use Rattle.container.specs.declared.ImageRead.the-variants as read
-use Rattle.container.specs.Container.{publicIn, materialIn, onRead, readAt}
-use Rattle.container.specs.Form.{onKind, formOf}
+use Rattle.reader_section.specs.declared.Kind.{Kind}
+use Rattle.reader_section.specs.declared.Kind.the-variants as kind
+use Rattle.reader_image.specs.declared.Fields.{Fields}
+use Rattle.reader_image.specs.declared.ImageRead.{ImageRead}
+use Rattle.reader_image.specs.declared.ImageRead.the-variants as read
+use Rattle.reader_image.specs.Container.{publicIn, materialIn, onRead, readAt}
+use Rattle.reader_image.specs.Form.{onKind, formOf}
 use Rattle.buffer.specs.Puts.{splice, zeros}
-use Rattle.reply.specs.declared.Written.{Written}
-use Rattle.reply.specs.declared.Written.the-variants as written
-use Rattle.reply.specs.Reply.{refused}
-use Rattle.plain.specs.Plain.{plainReply, plainLeft}
-use Rattle.comment.specs.Change.{afresh, afreshReply, afreshLeft, commentField, acceptedReply, changeReply, changeLeft}
+use Rattle.writer_reply.specs.declared.Written.{Written}
+use Rattle.writer_reply.specs.declared.Written.the-variants as written
+use Rattle.writer_reply.specs.Reply.{refused}
+use Rattle.writer_plain.specs.Plain.{plainReply, plainLeft}
+use Rattle.comment_change.specs.Change.{afresh, afreshReply, afreshLeft, commentField, acceptedReply, changeReply, changeLeft}
 use Rattle.claims.specs.Laid.{laid, laid-out, laid-length, changed-laid}
 use Rattle.claims.specs.Reading.{held, plain-accepted, plain-written}
 

@@ -12,16 +12,16 @@ use lib.ListN.{length, take, drop}
 use lib.Seq.{slice, length-take-le}
 use Rattle.fields.specs.Bytes.{AllBytes}
 use Rattle.utf8.specs.Utf8.{utf8}
-use Rattle.container.specs.declared.Fields.{Fields}
-use Rattle.container.specs.Container.{publicIn, materialIn}
-use Rattle.container.specs.Read.{PlainText}
-use Rattle.container.specs.FormLaws.{plain-of}
+use Rattle.reader_image.specs.declared.Fields.{Fields}
+use Rattle.reader_image.specs.Container.{publicIn, materialIn}
+use Rattle.reader_image.specs.Read.{PlainText}
+use Rattle.reader_image.specs.FormLaws.{plain-of}
 use Rattle.buffer.specs.Puts.{zeros}
-use Rattle.reply.specs.declared.Written.{Written}
-use Rattle.reply.specs.declared.Written.the-variants as written
-use Rattle.plain.specs.Plain.{plainReply, plainLeft}
-use Rattle.comment.specs.Change.{afresh, commentField, changeReply, changeLeft, isChange}
-use Rattle.comment.specs.Afresh.{all-take, stands, afresh-sized}
+use Rattle.writer_reply.specs.declared.Written.{Written}
+use Rattle.writer_reply.specs.declared.Written.the-variants as written
+use Rattle.writer_plain.specs.Plain.{plainReply, plainLeft}
+use Rattle.comment_change.specs.Change.{afresh, commentField, changeReply, changeLeft, isChange}
+use Rattle.comment_change.specs.Afresh.{all-take, stands, afresh-sized}
 use Rattle.claims.specs.Laid.{laid-out}
 use Rattle.claims.specs.Change.{Changed, change-changes, change-laid}
 use Rattle.claims.specs.Front.{front-stays}

@@ -1,6 +1,6 @@
 -- Demand 1: the entries' list is of the functions themselves. For each, its own contract, as the checker generated it from the source
 -- (`Reads.Post`), gives its line's promise, of what it was handed, the buffer before and after and the answer. So `refused-keeps` and
--- `place-said` hold of whatever meets that contract. Of `recorded::rewrite` the checker makes no plain form; its contract cites its line's
+-- `place-said` hold of whatever meets that contract. Of `record_writing::rewrite` the checker makes no plain form; its contract cites its line's
 -- definition, `isHanded`, over the record's image and fields. Last, demand 3 of the function itself.
 use Prim.Native.Nat.{ℕ}
 use mathlib.Core.List.{List}
@@ -8,26 +8,26 @@ use contract.Lifetimes.{Lfts}
 use borrow.Fn.Kinds.{Dens, resT, endedOf, PK, RK, Out}
 use denote.Triple.Clauses.{AtExit}
 use denote.Ref.{now}
-use Rattle.plain.proofs.write_parts.Reads as write-parts-reads
-use Rattle.plain.proofs.write_parts.Kinds as write-parts-kinds
-use Rattle.plain.proofs.write_filled.Reads as write-filled-reads
-use Rattle.plain.proofs.write_filled.Kinds as write-filled-kinds
-use Rattle.plain_rsa.proofs.write_parts.Reads as write-numbers-reads
-use Rattle.plain_rsa.proofs.write_parts.Kinds as write-numbers-kinds
-use Rattle.plain_rsa.proofs.write_rsa.Reads as write-rsa-reads
-use Rattle.plain_rsa.proofs.write_rsa.Kinds as write-rsa-kinds
-use Rattle.plain.proofs.write_plain.Reads as write-plain-reads
-use Rattle.plain.proofs.write_plain.Kinds as write-plain-kinds
-use Rattle.encrypted.proofs.write_encrypted.Reads as write-encrypted-reads
-use Rattle.encrypted.proofs.write_encrypted.Kinds as write-encrypted-kinds
-use Rattle.writer.proofs.rewrite.Reads as rewrite-reads
-use Rattle.writer.proofs.rewrite.Kinds as rewrite-kinds
-use Rattle.writer.proofs.rewrite_record.Reads as rewrite-record-reads
-use Rattle.writer.proofs.rewrite_record.Kinds as rewrite-record-kinds
-use Rattle.comment.proofs.change_comment.Reads as change-comment-reads
-use Rattle.comment.proofs.change_comment.Kinds as change-comment-kinds
-use Rattle.report.proofs.write_report.Reads as write-report-reads
-use Rattle.report.proofs.write_report.Kinds as write-report-kinds
+use Rattle.writer_plain.proofs.write_parts.Reads as write-parts-reads
+use Rattle.writer_plain.proofs.write_parts.Kinds as write-parts-kinds
+use Rattle.writer_plain.proofs.write_filled.Reads as write-filled-reads
+use Rattle.writer_plain.proofs.write_filled.Kinds as write-filled-kinds
+use Rattle.writer_rsa.proofs.write_parts.Reads as write-numbers-reads
+use Rattle.writer_rsa.proofs.write_parts.Kinds as write-numbers-kinds
+use Rattle.writer_rsa.proofs.write_rsa.Reads as write-rsa-reads
+use Rattle.writer_rsa.proofs.write_rsa.Kinds as write-rsa-kinds
+use Rattle.writer_plain.proofs.write_plain.Reads as write-plain-reads
+use Rattle.writer_plain.proofs.write_plain.Kinds as write-plain-kinds
+use Rattle.writer_encrypted.proofs.write_encrypted.Reads as write-encrypted-reads
+use Rattle.writer_encrypted.proofs.write_encrypted.Kinds as write-encrypted-kinds
+use Rattle.writer_again.proofs.rewrite.Reads as rewrite-reads
+use Rattle.writer_again.proofs.rewrite.Kinds as rewrite-kinds
+use Rattle.writer_again.proofs.rewrite_record.Reads as rewrite-record-reads
+use Rattle.writer_again.proofs.rewrite_record.Kinds as rewrite-record-kinds
+use Rattle.comment_change.proofs.change_comment.Reads as change-comment-reads
+use Rattle.comment_change.proofs.change_comment.Kinds as change-comment-kinds
+use Rattle.inspect_report.proofs.write_report.Reads as write-report-reads
+use Rattle.inspect_report.proofs.write_report.Kinds as write-report-kinds
 use Rattle.saltorchard.proofs.saltorchard_write_plain.Reads as saltorchard-write-plain-reads
 use Rattle.saltorchard.proofs.saltorchard_write_plain.Kinds as saltorchard-write-plain-kinds
 use Rattle.saltorchard.proofs.saltorchard_write_rsa.Reads as saltorchard-write-rsa-reads
@@ -38,7 +38,7 @@ use Rattle.saltorchard.proofs.saltorchard_rewrite.Reads as saltorchard-rewrite-
 use Rattle.saltorchard.proofs.saltorchard_rewrite.Kinds as saltorchard-rewrite-kinds
 use Rattle.saltorchard.proofs.saltorchard_change_comment.Reads as saltorchard-change-comment-reads
 use Rattle.saltorchard.proofs.saltorchard_change_comment.Kinds as saltorchard-change-comment-kinds
-use Rattle.container.specs.declared.Fields.{Fields}
+use Rattle.reader_image.specs.declared.Fields.{Fields}
 use Rattle.claims.specs.Demand.{Asked, Demanded, demand-three}
 use Rattle.claims.specs.Refusals.{write-parts, write-filled, write-numbers, write-rsa, write-plain, write-encrypted, rewrite, rewrite-record, change-comment, write-report, Promise, saltorchard-write-plain, saltorchard-write-rsa, saltorchard-write-encrypted, saltorchard-rewrite, saltorchard-change-comment, PromiseC}
 
@@ -47,7 +47,7 @@ abbrev pub Listed : (n : ℕ) (ps : List (PK n)) (r : RK n) → Out n ps r → O
 Listed n ps r Post Line =
     (κs : Lfts n) (a : Dens κs ps) (w : resT r κs .Denot) (s : AtExit (endedOf n ps r) κs) → Post κs a w s → Line κs a w s
 
--- plain::write_parts
+-- writer_plain::write_parts
 pub write-parts-listed :
     Listed 4 write-parts-kinds.ps write-parts-kinds.r write-parts-reads.Post
     (λ κs a r s.
@@ -55,7 +55,7 @@ pub write-parts-listed :
     (now (a .1 .1 .1 .1 .1 .0)) r (now (s .1 .1 .1 .1 .1 .0)))
 write-parts-listed κs a r s p = p
 
--- plain::write_filled
+-- writer_plain::write_filled
 pub write-filled-listed :
     Listed 4 write-filled-kinds.ps write-filled-kinds.r write-filled-reads.Post
     (λ κs a r s.
@@ -63,7 +63,7 @@ pub write-filled-listed :
     (now (a .1 .1 .1 .1 .1 .0)) r (now (s .1 .1 .1 .1 .1 .0)))
 write-filled-listed κs a r s p = p
 
--- plain_rsa::write_parts
+-- writer_rsa::write_parts
 pub write-numbers-listed :
     Listed 8 write-numbers-kinds.ps write-numbers-kinds.r write-numbers-reads.Post
     (λ κs a r s.
@@ -71,7 +71,7 @@ pub write-numbers-listed :
     (now (a .1 .1 .1 .1 .1 .1 .1 .1 .0)) r (now (s .1 .1 .1 .1 .1 .1 .1 .1 .0)))
 write-numbers-listed κs a r s p = p
 
--- plain_rsa::write_rsa
+-- writer_rsa::write_rsa
 pub write-rsa-listed :
     Listed 8 write-rsa-kinds.ps write-rsa-kinds.r write-rsa-reads.Post
     (λ κs a r s.
@@ -79,13 +79,13 @@ pub write-rsa-listed :
     (now (a .1 .1 .1 .1 .1 .1 .1 .1 .0)) r (now (s .1 .1 .1 .1 .1 .1 .1 .1 .0)))
 write-rsa-listed κs a r s p = p
 
--- plain::write_plain
+-- writer_plain::write_plain
 pub write-plain-listed :
     Listed 2 write-plain-kinds.ps write-plain-kinds.r write-plain-reads.Post
     (λ κs a r s. Promise (write-plain (a .0) (a .1 .0) (now (a .1 .1 .0))) (now (a .1 .1 .1 .0)) r (now (s .1 .1 .1 .0)))
 write-plain-listed κs a r s p = p
 
--- encrypted::write_encrypted
+-- writer_encrypted::write_encrypted
 pub write-encrypted-listed :
     Listed 5 write-encrypted-kinds.ps write-encrypted-kinds.r write-encrypted-reads.Post
     (λ κs a r s.
@@ -93,25 +93,25 @@ pub write-encrypted-listed :
     (now (a .1 .1 .1 .1 .1 .1 .1 .0)) r (now (s .1 .1 .1 .1 .1 .1 .1 .0)))
 write-encrypted-listed κs a r s p = p
 
--- writer::rewrite
+-- writer_again::rewrite
 pub rewrite-listed :
     Listed 2 rewrite-kinds.ps rewrite-kinds.r rewrite-reads.Post
     (λ κs a r s. Promise (rewrite (now (a .0))) (now (a .1 .0)) r (now (s .1 .0)))
 rewrite-listed κs a r s p = p
 
--- writer::rewrite_record
+-- writer_again::rewrite_record
 pub rewrite-record-listed :
     Listed 2 rewrite-record-kinds.ps rewrite-record-kinds.r rewrite-record-reads.Post
     (λ κs a r s. Promise (rewrite-record (now (a .0)) (a .1 .0)) (now (a .1 .1 .0)) r (now (s .1 .1 .0)))
 rewrite-record-listed κs a r s p = p
 
--- comment::change_comment
+-- comment_change::change_comment
 pub change-comment-listed :
     Listed 2 change-comment-kinds.ps change-comment-kinds.r change-comment-reads.Post
     (λ κs a r s. Promise (change-comment (a .1 .0) (now (a .1 .1 .0))) (now (a .0)) r (now (s .0)))
 change-comment-listed κs a r s p = p
 
--- report::write_report
+-- inspect_report::write_report
 pub write-report-listed :
     Listed 2 write-report-kinds.ps write-report-kinds.r write-report-reads.Post
     (λ κs a r s. Promise (write-report (now (a .0))) (now (a .1 .0)) r (now (s .1 .0)))

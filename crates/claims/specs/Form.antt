@@ -23,26 +23,26 @@ use Rattle.names.specs.Algorithms.{sizeOf}
 use Rattle.names.specs.declared.Kdf.the-variants as kdf
 use Rattle.mpint.specs.Mpint.{isMpint}
 use Rattle.format.specs.Format.{PrivateBytes, OptionsFit, PrivateFits, MayStand, standing, leadingZero, zeroLength, zerosAsked, blob, keypair, plainImage, writtenImage, encryptedImage}
-use Rattle.pairs.specs.Pairs.{privateBytes}
+use Rattle.key_pairs.specs.Pairs.{privateBytes}
 use Rattle.fields.specs.declared.Part.{Part}
 use Rattle.format.specs.Laws.{standing-same}
 use Rattle.format.specs.Scalars.{mpint-standing}
-use Rattle.key_laws.specs.Back.{blob-back}
-use Rattle.section.specs.declared.Kind.the-variants.{Plain, Encrypted}
-use Rattle.container.specs.declared.Fields.{Fields}
-use Rattle.container.specs.declared.ImageRead.the-variants as read
-use Rattle.container.specs.Container.{publicIn, privateIn, materialIn, readAt}
-use Rattle.container.specs.Form.{rewritten, formOf}
-use Rattle.container.specs.Read.{PlainText, EncryptedText, ImageText, plain-text, encrypted-text, image-text}
-use Rattle.container.specs.FormLaws.{scalar-short, form-agrees, form-encrypted, plain-of}
+use Rattle.laws_keys.specs.Back.{blob-back}
+use Rattle.reader_section.specs.declared.Kind.the-variants.{Plain, Encrypted}
+use Rattle.reader_image.specs.declared.Fields.{Fields}
+use Rattle.reader_image.specs.declared.ImageRead.the-variants as read
+use Rattle.reader_image.specs.Container.{publicIn, privateIn, materialIn, readAt}
+use Rattle.reader_image.specs.Form.{rewritten, formOf}
+use Rattle.reader_image.specs.Read.{PlainText, EncryptedText, ImageText, plain-text, encrypted-text, image-text}
+use Rattle.reader_image.specs.FormLaws.{scalar-short, form-agrees, form-encrypted, plain-of}
 use Rattle.buffer.specs.Puts.{splice, take-splice}
-use Rattle.reply.specs.declared.Written.the-variants as written
-use Rattle.reply.specs.Reply.{left, sized}
-use Rattle.plain.specs.Plain.{plainLeft}
-use Rattle.encrypted.specs.Encrypted.{optionsFit, encryptedReply, encryptedLeft}
-use Rattle.writer.specs.Rewrite.{plainAgain, plainAgainLeft, recordReply, recordLeft, rewriteReply, rewriteLeft}
-use Rattle.comment.specs.Change.{afresh, afreshReply}
-use Rattle.comment.specs.Afresh.{afresh-sized}
+use Rattle.writer_reply.specs.declared.Written.the-variants as written
+use Rattle.writer_reply.specs.Reply.{left, sized}
+use Rattle.writer_plain.specs.Plain.{plainLeft}
+use Rattle.writer_encrypted.specs.Encrypted.{optionsFit, encryptedReply, encryptedLeft}
+use Rattle.writer_again.specs.Rewrite.{plainAgain, plainAgainLeft, recordReply, recordLeft, rewriteReply, rewriteLeft}
+use Rattle.comment_change.specs.Change.{afresh, afreshReply}
+use Rattle.comment_change.specs.Afresh.{afresh-sized}
 use Rattle.claims.specs.Reading.{sized-held}
 
 -- ---- which images are in the form

@@ -8,12 +8,12 @@ use lib.Seq.{slice, length-slice, length-take-le, take-at}
 use Rattle.fields.specs.Bytes.{AllBytes, uint32, string}
 use Rattle.fields.specs.Rest.{length-uint32}
 use Rattle.format.specs.Format.{paddingLength, paddingBytes}
-use Rattle.container.specs.FormLaws.{plain-of, form-rule}
+use Rattle.reader_image.specs.FormLaws.{plain-of, form-rule}
 use Rattle.buffer.specs.Puts.{zeros}
-use Rattle.reply.specs.declared.Written.the-variants as written
-use Rattle.comment.specs.Change.{afresh, commentField, changeReply, changeLeft}
-use Rattle.comment.specs.Shell.{bare, shellFields, shellAt}
-use Rattle.comment.specs.Afresh.{between, all-take, stands, afresh-shell}
+use Rattle.writer_reply.specs.declared.Written.the-variants as written
+use Rattle.comment_change.specs.Change.{afresh, commentField, changeReply, changeLeft}
+use Rattle.comment_change.specs.Shell.{bare, shellFields, shellAt}
+use Rattle.comment_change.specs.Afresh.{between, all-take, stands, afresh-shell}
 use Rattle.claims.specs.Laid.{laid}
 use Rattle.claims.specs.Change.{ChangeAccepted, change-accepted, change-laid}
 

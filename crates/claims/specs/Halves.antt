@@ -14,27 +14,27 @@ use Rattle.names.specs.declared.Kdf.the-variants as kdf
 use Rattle.names.specs.declared.AlgorithmName.the-variants as algorithm-name
 use Rattle.names.specs.declared.CipherName.the-variants as cipher-name
 use Rattle.names.specs.declared.KdfName.the-variants as kdf-name
-use Rattle.codes.specs.Codes.{algorithmCoded, cipherCoded, kdfCoded, algorithm-coded, cipher-coded, kdf-coded}
+use Rattle.names_codes.specs.Codes.{algorithmCoded, cipherCoded, kdfCoded, algorithm-coded, cipher-coded, kdf-coded}
 use Rattle.format.specs.Format.{magic}
-use Rattle.header.specs.declared.Header.{Header}
-use Rattle.header.specs.declared.HeaderRead.{HeaderRead}
-use Rattle.header.specs.declared.HeaderRead.the-variants as header-read
-use Rattle.header.specs.Header.{onHeaderRead, headerAt, answersHeader}
-use Rattle.halves.specs.Halves.{isHeader, by-header, header-passes, passes-header}
-use Rattle.section.specs.declared.Kind.{Kind}
-use Rattle.section.specs.declared.Kind.the-variants.{Plain, Encrypted}
-use Rattle.judge.specs.Judge.{kindCode}
-use Rattle.container.specs.declared.ImageRead.{ImageRead}
-use Rattle.container.specs.declared.ImageRead.the-variants as read
-use Rattle.container.specs.declared.FormRead.{FormRead}
-use Rattle.container.specs.declared.FormRead.the-variants as form-read
-use Rattle.container.specs.Container.{noFields, sectionAt, readAt, sectionReadAt, toldRead, answersRead, answersSection}
-use Rattle.container.specs.Form.{withForm, formReadAt, sectionFormAt}
-use Rattle.container.specs.Halves.{section-own}
-use Rattle.numbers.specs.declared.Image.{Image}
-use Rattle.numbers.specs.Numbers.{halfImage, imageOf, headerOf}
-use Rattle.handed.specs.Handed.{sameImage}
-use Rattle.handed.specs.Laws.{image-same, image-self}
+use Rattle.reader_header.specs.declared.Header.{Header}
+use Rattle.reader_header.specs.declared.HeaderRead.{HeaderRead}
+use Rattle.reader_header.specs.declared.HeaderRead.the-variants as header-read
+use Rattle.reader_header.specs.Header.{onHeaderRead, headerAt, answersHeader}
+use Rattle.handed_header.specs.Halves.{isHeader, by-header, header-passes, passes-header}
+use Rattle.reader_section.specs.declared.Kind.{Kind}
+use Rattle.reader_section.specs.declared.Kind.the-variants.{Plain, Encrypted}
+use Rattle.handed_record.specs.Judge.{kindCode}
+use Rattle.reader_image.specs.declared.ImageRead.{ImageRead}
+use Rattle.reader_image.specs.declared.ImageRead.the-variants as read
+use Rattle.reader_image.specs.declared.FormRead.{FormRead}
+use Rattle.reader_image.specs.declared.FormRead.the-variants as form-read
+use Rattle.reader_image.specs.Container.{noFields, sectionAt, readAt, sectionReadAt, toldRead, answersRead, answersSection}
+use Rattle.reader_image.specs.Form.{withForm, formReadAt, sectionFormAt}
+use Rattle.reader_image.specs.Halves.{section-own}
+use Rattle.c_numbers.specs.declared.Image.{Image}
+use Rattle.c_numbers.specs.Numbers.{halfImage, imageOf, headerOf}
+use Rattle.c_handed.specs.Handed.{sameImage}
+use Rattle.c_handed.specs.Laws.{image-same, image-self}
 use Rattle.saltorchard.specs.Interface.{forgedHalf, sectionC}
 use Rattle.claims.specs.Handed.{fails}
 

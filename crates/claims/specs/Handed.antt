@@ -6,12 +6,12 @@ use mathlib.Core.Path.{_≡_, refl}
 use mathlib.Core.Bool.{Bool, true, false}
 use mathlib.Core.List.{List}
 use Rattle.fields.specs.declared.Refusal.the-variants.{Length}
-use Rattle.container.specs.declared.Fields.{Fields}
-use Rattle.container.specs.declared.ImageRead.the-variants as read
-use Rattle.container.specs.Container.{readAt}
-use Rattle.judge.specs.Judge.{isRead, read-passes, passes-read}
-use Rattle.reply.specs.Reply.{refused}
-use Rattle.writer.specs.Rewrite.{rewriteReply, rewriteLeft, handedReply, handedLeft}
+use Rattle.reader_image.specs.declared.Fields.{Fields}
+use Rattle.reader_image.specs.declared.ImageRead.the-variants as read
+use Rattle.reader_image.specs.Container.{readAt}
+use Rattle.handed_record.specs.Judge.{isRead, read-passes, passes-read}
+use Rattle.writer_reply.specs.Reply.{refused}
+use Rattle.writer_again.specs.Rewrite.{rewriteReply, rewriteLeft, handedReply, handedLeft}
 
 pub handed-read :
     (s : List ℕ) (f : Fields) (room : ℕ) (old : List ℕ) → readAt s ≡ read.Record f

@@ -11,12 +11,12 @@ use Rattle.fields.specs.Fields.{part, viewOf}
 use Rattle.fields.specs.Rest.{rest}
 use Rattle.fields.specs.declared.Part.{Part}
 use Rattle.format.specs.Format.{blob, header}
-use Rattle.keys.specs.Keys.{publicBytes}
-use Rattle.header.specs.declared.Header.{Header}
-use Rattle.header.specs.declared.HeaderRead.the-variants as header-read
-use Rattle.header.specs.Header.{headerAt}
-use Rattle.header.specs.Back.{header-back}
-use Rattle.header.specs.Read.{HeaderText, header-text}
+use Rattle.key_public.specs.Keys.{publicBytes}
+use Rattle.reader_header.specs.declared.Header.{Header}
+use Rattle.reader_header.specs.declared.HeaderRead.the-variants as header-read
+use Rattle.reader_header.specs.Header.{headerAt}
+use Rattle.reader_header.specs.Back.{header-back}
+use Rattle.reader_header.specs.Read.{HeaderText, header-text}
 
 -- the header's own bytes, as the format writes them
 abbrev bytes : List ℕ → Header → List ℕ

@@ -7,13 +7,13 @@ use mathlib.Core.List.{List}
 use borrow.Author.Tests.{le-leb}
 use lib.ListN.{length, take}
 use Rattle.fields.specs.Bytes.{AllBytes}
-use Rattle.container.specs.declared.Fields.{Fields}
-use Rattle.container.specs.declared.ImageRead.the-variants as read
-use Rattle.container.specs.Container.{publicIn, materialIn, readAt}
-use Rattle.reply.specs.declared.Written.the-variants as written
-use Rattle.plain.specs.Plain.{plainReply}
-use Rattle.comment.specs.Change.{afresh, acceptedReply, changeReply, changeLeft}
-use Rattle.comment.specs.Afresh.{all-take}
+use Rattle.reader_image.specs.declared.Fields.{Fields}
+use Rattle.reader_image.specs.declared.ImageRead.the-variants as read
+use Rattle.reader_image.specs.Container.{publicIn, materialIn, readAt}
+use Rattle.writer_reply.specs.declared.Written.the-variants as written
+use Rattle.writer_plain.specs.Plain.{plainReply}
+use Rattle.comment_change.specs.Change.{afresh, acceptedReply, changeReply, changeLeft}
+use Rattle.comment_change.specs.Afresh.{all-take}
 use Rattle.claims.specs.Laid.{laid, laid-image, laid-length, relaid}
 use Rattle.claims.specs.Reading.{plain-accepted}
 use Rattle.claims.specs.Change.{change-accepted, change-laid}

@@ -18,12 +18,12 @@ use Rattle.utf8.specs.Utf8.{utf8}
 use Rattle.mpint.specs.Mpint.{isMpint, zerosBefore}
 use Rattle.mpint.specs.Zeros.{mpint-bytes, zeros-here, zeros-next}
 use Rattle.format.specs.Format.{magic, blob, keypair, content, section, header, plainImage}
-use Rattle.pairs.specs.Pairs.{isScalar}
-use Rattle.material.specs.Material.{derivedCheckint}
-use Rattle.material.specs.Laws.{derived-m16}
-use Rattle.header.specs.Header.{magicAt, cipherAt, headerAt}
-use Rattle.container.specs.declared.ImageRead.the-variants as read
-use Rattle.container.specs.Container.{readAt}
+use Rattle.key_pairs.specs.Pairs.{isScalar}
+use Rattle.key_material.specs.Material.{derivedCheckint}
+use Rattle.key_material.specs.Laws.{derived-m16}
+use Rattle.reader_header.specs.Header.{magicAt, cipherAt, headerAt}
+use Rattle.reader_image.specs.declared.ImageRead.the-variants as read
+use Rattle.reader_image.specs.Container.{readAt}
 use Rattle.claims.specs.Scalars.{storedImage, ReadAs, reads-stored, NoScalar, no-bytes, too-long, unlike, zeros-alone, no-zero-first}
 use Rattle.claims.specs.NoScalars.{refuses-stored}
 use Rattle.claims.specs.Sizes.{Ed25519Takes, ed25519-takes, Ed25519TooLong, ed25519-too-long, P256Takes, p256-takes}

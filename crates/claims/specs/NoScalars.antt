@@ -27,20 +27,20 @@ use Rattle.names.specs.Algorithms.{algorithmName, sizeOf, algorithm-back}
 use Rattle.format.specs.Format.{PublicFits, ofPoint, ofScalar, blob, keypair, pairFields, content, section, header, plainImage, paddingLength, paddingBytes}
 use Rattle.format.specs.Laws.{keypair-then, content-then, section-length, padding-length}
 use Rattle.format.specs.Lengths.{pointBlobLength, blob-length, content-length, plain-length}
-use Rattle.plain.specs.Parts.{keypair-joined}
-use Rattle.keys.specs.declared.Public.{Public}
-use Rattle.key_laws.specs.Back.{ecdsa-public-back}
-use Rattle.pairs.specs.declared.Keypair.the-variants as pair
-use Rattle.pairs.specs.Pairs.{scalarAt, ecdsaPairAt, ellipticPairAt, keypairAt}
-use Rattle.header.specs.Back.{header-back}
-use Rattle.section.specs.declared.SectionRead.the-variants as section-read
-use Rattle.section.specs.Section.{entryAt, contentAt, plainAt}
-use Rattle.section.specs.Back.{checkints-back}
-use Rattle.container.specs.declared.ImageRead.the-variants as read
-use Rattle.container.specs.Container.{sectionAt, readAt}
-use Rattle.places.specs.Fields.{After}
-use Rattle.places.specs.Keys.{ecdsa-public-lies}
-use Rattle.places.specs.Section.{checkints-lies}
+use Rattle.writer_plain.specs.Parts.{keypair-joined}
+use Rattle.key_public.specs.declared.Public.{Public}
+use Rattle.laws_keys.specs.Back.{ecdsa-public-back}
+use Rattle.key_pairs.specs.declared.Keypair.the-variants as pair
+use Rattle.key_pairs.specs.Pairs.{scalarAt, ecdsaPairAt, ellipticPairAt, keypairAt}
+use Rattle.reader_header.specs.Back.{header-back}
+use Rattle.reader_section.specs.declared.SectionRead.the-variants as section-read
+use Rattle.reader_section.specs.Section.{entryAt, contentAt, plainAt}
+use Rattle.reader_section.specs.Back.{checkints-back}
+use Rattle.reader_image.specs.declared.ImageRead.the-variants as read
+use Rattle.reader_image.specs.Container.{sectionAt, readAt}
+use Rattle.laws_places.specs.Fields.{After}
+use Rattle.laws_places.specs.Keys.{ecdsa-public-lies}
+use Rattle.laws_places.specs.Section.{checkints-lies}
 use Rattle.claims.specs.Scalars.{storedImage, NoScalar, scalar-refused}
 
 -- where the scalar's field begins: after a header, a section's length, two checkints, and name, curve and point once more

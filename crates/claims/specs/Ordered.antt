@@ -22,23 +22,23 @@ use Rattle.names.specs.declared.Kdf.{Kdf}
 use Rattle.names.specs.declared.Kdf.the-variants as kdf
 use Rattle.utf8.specs.Utf8.{utf8}
 use Rattle.format.specs.Format.{PublicBytes, PrivateBytes, publicLength, privateLength, pointTag, notZero, writtenImage, encryptedImage}
-use Rattle.keys.specs.Keys.{onBlob, blobAt}
-use Rattle.keys.specs.declared.Blob.{Blob}
-use Rattle.keys.specs.declared.Blob.the-variants as blob
-use Rattle.section.specs.declared.Kind.{Kind}
-use Rattle.section.specs.declared.Kind.the-variants.{Plain}
-use Rattle.container.specs.declared.Fields.{Fields}
-use Rattle.container.specs.Container.{onRead, readAt}
-use Rattle.container.specs.Form.{onKind, formOf}
-use Rattle.container.specs.Read.{PlainText}
-use Rattle.container.specs.FormLaws.{by-read, plain-of}
-use Rattle.reply.specs.declared.Written.{Written}
-use Rattle.reply.specs.declared.Written.the-variants as written
-use Rattle.reply.specs.Reply.{Told, told, refused, unless, sized}
-use Rattle.plain.specs.Plain.{allMpints, sizesFit, keyChecked, plainReply}
-use Rattle.encrypted.specs.Encrypted.{optionsFit, encryptedReply}
-use Rattle.comment.specs.Change.{afresh, afreshReply, commentField, acceptedReply, changeReply}
-use Rattle.comment.specs.Afresh.{afresh-sized}
+use Rattle.key_public.specs.Keys.{onBlob, blobAt}
+use Rattle.key_public.specs.declared.Blob.{Blob}
+use Rattle.key_public.specs.declared.Blob.the-variants as blob
+use Rattle.reader_section.specs.declared.Kind.{Kind}
+use Rattle.reader_section.specs.declared.Kind.the-variants.{Plain}
+use Rattle.reader_image.specs.declared.Fields.{Fields}
+use Rattle.reader_image.specs.Container.{onRead, readAt}
+use Rattle.reader_image.specs.Form.{onKind, formOf}
+use Rattle.reader_image.specs.Read.{PlainText}
+use Rattle.reader_image.specs.FormLaws.{by-read, plain-of}
+use Rattle.writer_reply.specs.declared.Written.{Written}
+use Rattle.writer_reply.specs.declared.Written.the-variants as written
+use Rattle.writer_reply.specs.Reply.{Told, told, refused, unless, sized}
+use Rattle.writer_plain.specs.Plain.{allMpints, sizesFit, keyChecked, plainReply}
+use Rattle.writer_encrypted.specs.Encrypted.{optionsFit, encryptedReply}
+use Rattle.comment_change.specs.Change.{afresh, afreshReply, commentField, acceptedReply, changeReply}
+use Rattle.comment_change.specs.Afresh.{afresh-sized}
 use Rattle.claims.specs.Refusals.{by-kind}
 
 -- a condition: whether it holds, and the reply that it gives

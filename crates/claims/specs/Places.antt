@@ -12,26 +12,26 @@ use Rattle.fields.specs.Place.{by-bool}
 use Rattle.fields.specs.Refusals.{numberOf, countOf}
 use Rattle.fields.specs.declared.Fault.{Fault}
 use Rattle.fields.specs.declared.Refusal.the-variants.{Length}
-use Rattle.header.specs.declared.Header.{Header}
-use Rattle.header.specs.declared.HeaderRead.the-variants as header-read
-use Rattle.header.specs.Header.{onHeaderRead, headerAt, toldHeader}
-use Rattle.halves.specs.Halves.{isHeader, by-header, passes-header}
-use Rattle.container.specs.declared.ImageRead.{ImageRead}
-use Rattle.container.specs.declared.ImageRead.the-variants as read
-use Rattle.container.specs.Container.{readAt, sectionReadAt, toldRead}
-use Rattle.container.specs.Form.{withForm, formReadAt, sectionFormAt}
-use Rattle.container.specs.Halves.{section-own}
-use Rattle.found.specs.Found.{foundAt, headerFoundAt, Tells, found-told}
-use Rattle.reply.specs.declared.Written.the-variants as written
-use Rattle.writer.specs.Rewrite.{rewriteReply}
-use Rattle.comment.specs.Change.{changeReply}
-use Rattle.report.specs.Report.{Refused, lines, reportOf}
-use Rattle.numbers.specs.Numbers.{refusedImage, halfImage, imageOf, headerOf}
-use Rattle.numbers.specs.declared.Image.{Image}
-use Rattle.handed.specs.Handed.{sameImage}
+use Rattle.reader_header.specs.declared.Header.{Header}
+use Rattle.reader_header.specs.declared.HeaderRead.the-variants as header-read
+use Rattle.reader_header.specs.Header.{onHeaderRead, headerAt, toldHeader}
+use Rattle.handed_header.specs.Halves.{isHeader, by-header, passes-header}
+use Rattle.reader_image.specs.declared.ImageRead.{ImageRead}
+use Rattle.reader_image.specs.declared.ImageRead.the-variants as read
+use Rattle.reader_image.specs.Container.{readAt, sectionReadAt, toldRead}
+use Rattle.reader_image.specs.Form.{withForm, formReadAt, sectionFormAt}
+use Rattle.reader_image.specs.Halves.{section-own}
+use Rattle.record_found.specs.Found.{foundAt, headerFoundAt, Tells, found-told}
+use Rattle.writer_reply.specs.declared.Written.the-variants as written
+use Rattle.writer_again.specs.Rewrite.{rewriteReply}
+use Rattle.comment_change.specs.Change.{changeReply}
+use Rattle.inspect_report.specs.Report.{Refused, lines, reportOf}
+use Rattle.c_numbers.specs.Numbers.{refusedImage, halfImage, imageOf, headerOf}
+use Rattle.c_numbers.specs.declared.Image.{Image}
+use Rattle.c_handed.specs.Handed.{sameImage}
 use Rattle.saltorchard.specs.Interface.{sectionC}
-use Rattle.places.specs.Header.{aboutWhole}
-use Rattle.places.specs.Read.{read-said}
+use Rattle.laws_places.specs.Header.{aboutWhole}
+use Rattle.laws_places.specs.Read.{read-said}
 use Rattle.claims.specs.Halves.{refused-whole, two-halves-c}
 use Rattle.claims.specs.Printed.{report-refused}
 

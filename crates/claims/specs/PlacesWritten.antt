@@ -21,33 +21,33 @@ use Rattle.names.specs.declared.Algorithm.the-variants.{Elliptic as OnCurve, Rs
 use Rattle.names.specs.declared.Cipher.{Cipher}
 use Rattle.names.specs.declared.Kdf.{Kdf}
 use Rattle.names.specs.Ciphers.{isNone, blockSize, tagLength}
-use Rattle.codes.specs.Codes.{algorithmCoded, cipherCoded, kdfCoded}
+use Rattle.names_codes.specs.Codes.{algorithmCoded, cipherCoded, kdfCoded}
 use Rattle.utf8.specs.Utf8.{utf8}
 use Rattle.format.specs.Format.{PublicBytes, PrivateBytes, publicLength, privateLength, pointTag, notZero, ofPoint, ofScalar, scalarFilled, ofModulus, ofNumbers, writtenImage, encryptedImage}
-use Rattle.material.specs.Material.{publicOf, privateOf, checkintOf}
-use Rattle.keys.specs.Keys.{onAlgorithm, blobAt}
-use Rattle.key_laws.specs.Read.{by-algorithm}
-use Rattle.header.specs.Place.{by-cipher-name, by-kdf-name, by-blob}
-use Rattle.section.specs.declared.Kind.{Kind}
-use Rattle.section.specs.declared.Kind.the-variants.{Plain, Encrypted as Sealed}
-use Rattle.container.specs.declared.Fields.{Fields}
-use Rattle.container.specs.Container.{onRead, readAt, publicIn, materialIn}
-use Rattle.container.specs.Form.{onKind, formOf}
-use Rattle.container.specs.FormLaws.{by-read}
-use Rattle.judge.specs.Judge.{isRead}
-use Rattle.reply.specs.declared.Written.{Written}
-use Rattle.reply.specs.declared.Written.the-variants as written
-use Rattle.reply.specs.Reply.{told, refused, unless, sized, answers}
+use Rattle.key_material.specs.Material.{publicOf, privateOf, checkintOf}
+use Rattle.key_public.specs.Keys.{onAlgorithm, blobAt}
+use Rattle.laws_keys.specs.Read.{by-algorithm}
+use Rattle.reader_header.specs.Place.{by-cipher-name, by-kdf-name, by-blob}
+use Rattle.reader_section.specs.declared.Kind.{Kind}
+use Rattle.reader_section.specs.declared.Kind.the-variants.{Plain, Encrypted as Sealed}
+use Rattle.reader_image.specs.declared.Fields.{Fields}
+use Rattle.reader_image.specs.Container.{onRead, readAt, publicIn, materialIn}
+use Rattle.reader_image.specs.Form.{onKind, formOf}
+use Rattle.reader_image.specs.FormLaws.{by-read}
+use Rattle.handed_record.specs.Judge.{isRead}
+use Rattle.writer_reply.specs.declared.Written.{Written}
+use Rattle.writer_reply.specs.declared.Written.the-variants as written
+use Rattle.writer_reply.specs.Reply.{told, refused, unless, sized, answers}
 use Rattle.buffer.specs.Puts.{fits}
-use Rattle.plain.specs.Plain.{allMpints, sizesFit, keyChecked, plainReply}
-use Rattle.encrypted.specs.Encrypted.{optionsFit, encryptedReply}
-use Rattle.writer.specs.Rewrite.{plainAgain, recordReply, rewriteReply, handedReply}
-use Rattle.comment.specs.Change.{afreshReply, commentField, acceptedReply, changeReply}
-use Rattle.report.specs.Report.{reportOf, reportReply}
-use Rattle.numbers.specs.Numbers.{replyOf}
-use Rattle.numbers.specs.declared.Reply.{Reply}
+use Rattle.writer_plain.specs.Plain.{allMpints, sizesFit, keyChecked, plainReply}
+use Rattle.writer_encrypted.specs.Encrypted.{optionsFit, encryptedReply}
+use Rattle.writer_again.specs.Rewrite.{plainAgain, recordReply, rewriteReply, handedReply}
+use Rattle.comment_change.specs.Change.{afreshReply, commentField, acceptedReply, changeReply}
+use Rattle.inspect_report.specs.Report.{reportOf, reportReply}
+use Rattle.c_numbers.specs.Numbers.{replyOf}
+use Rattle.c_numbers.specs.declared.Reply.{Reply}
 use Rattle.saltorchard.specs.Interface.{namesNothing, checkintFor, codedPlainReply, codedEncryptedReply, answersC}
-use Rattle.places.specs.Read.{read-said}
+use Rattle.laws_places.specs.Read.{read-said}
 use Rattle.claims.specs.Places.{place-within}
 use Rattle.claims.specs.Refusals.{by-kind, Entry, write-parts, write-filled, write-numbers, write-rsa, write-plain, write-encrypted, rewrite, rewrite-record, recorded-rewrite, change-comment, write-report, Promise, EntryC, saltorchard-write-plain, saltorchard-write-rsa, saltorchard-write-encrypted, saltorchard-rewrite, saltorchard-change-comment, PromiseC}
 

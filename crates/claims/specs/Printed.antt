@@ -33,16 +33,16 @@ use Rattle.format.specs.Format.{PublicBytes, PrivateBytes, ofPoint, ofScalar, s
 use Rattle.format.specs.Laws.{section-length}
 use Rattle.format.specs.Lengths.{LengthsFit, blobLength, keypairLength, blob-length, content-length, plain-length}
 use Rattle.format.specs.Scalars.{fits-allowed}
-use Rattle.section.specs.Back.{KeyFits}
-use Rattle.section.specs.declared.Kind.the-variants as kind
-use Rattle.container.specs.declared.Fields.{Fields}
-use Rattle.container.specs.declared.ImageRead.the-variants as read
-use Rattle.container.specs.Container.{publicIn, privateIn, readAt}
-use Rattle.container.specs.Back.{plain-image-back, SealFits, encrypted-image-back}
-use Rattle.container.specs.Read.{ImageText, plain-text, encrypted-text, image-text}
-use Rattle.container.specs.FormLaws.{form-back, plain-of}
-use Rattle.report.specs.Report.{Summary, Plain, Encrypted, Refused, accepted, summaryOf, lines, reportOf}
-use Rattle.report.specs.Examples.{printed, oven7}
+use Rattle.reader_section.specs.Back.{KeyFits}
+use Rattle.reader_section.specs.declared.Kind.the-variants as kind
+use Rattle.reader_image.specs.declared.Fields.{Fields}
+use Rattle.reader_image.specs.declared.ImageRead.the-variants as read
+use Rattle.reader_image.specs.Container.{publicIn, privateIn, readAt}
+use Rattle.reader_image.specs.Back.{plain-image-back, SealFits, encrypted-image-back}
+use Rattle.reader_image.specs.Read.{ImageText, plain-text, encrypted-text, image-text}
+use Rattle.reader_image.specs.FormLaws.{form-back, plain-of}
+use Rattle.inspect_report.specs.Report.{Summary, Plain, Encrypted, Refused, accepted, summaryOf, lines, reportOf}
+use Rattle.inspect_report.specs.Examples.{printed, oven7}
 use Rattle.claims.specs.Form.{Stands}
 
 -- ---- plain images

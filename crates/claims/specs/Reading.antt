@@ -17,14 +17,14 @@ use Rattle.names.specs.declared.Algorithm.the-variants.{Elliptic as OnCurve, Rs
 use Rattle.format.specs.Format.{PublicBytes, PrivateBytes, ofPoint, ofScalar, ofModulus, ofNumbers, PublicFits, PrivateFits, publicLength, privateLength, pointTag, notZero, trimmed, filled, zerosAsked, writtenPair, paddingLength, blob, keypair, content, plainImage, writtenImage}
 use Rattle.format.specs.Scalars.{rule-may, allowed-own, trimmed-back, trimmed-fits}
 use Rattle.utf8.specs.Utf8.{utf8}
-use Rattle.section.specs.Back.{KeyFits}
-use Rattle.container.specs.Back.{PlainImageBack, plain-image-back}
+use Rattle.reader_section.specs.Back.{KeyFits}
+use Rattle.reader_image.specs.Back.{PlainImageBack, plain-image-back}
 use Rattle.buffer.specs.Puts.{take-splice}
-use Rattle.reply.specs.declared.Written.{Written}
-use Rattle.reply.specs.declared.Written.the-variants as written
-use Rattle.reply.specs.Reply.{unless, sized}
-use Rattle.plain.specs.Plain.{keyChecked, plainReply, plainLeft}
-use Rattle.plain.specs.Fits.{numbers-fit}
+use Rattle.writer_reply.specs.declared.Written.{Written}
+use Rattle.writer_reply.specs.declared.Written.the-variants as written
+use Rattle.writer_reply.specs.Reply.{unless, sized}
+use Rattle.writer_plain.specs.Plain.{keyChecked, plainReply, plainLeft}
+use Rattle.writer_plain.specs.Fits.{numbers-fit}
 
 -- ---- an accepted write meets every condition
 

@@ -11,31 +11,31 @@ use Rattle.names.specs.declared.Algorithm.{Algorithm}
 use Rattle.names.specs.declared.Algorithm.the-variants.{Elliptic as OnCurve, Rsa}
 use Rattle.names.specs.declared.Cipher.{Cipher}
 use Rattle.names.specs.declared.Kdf.{Kdf}
-use Rattle.codes.specs.Codes.{algorithmCoded, cipherCoded, kdfCoded}
+use Rattle.names_codes.specs.Codes.{algorithmCoded, cipherCoded, kdfCoded}
 use Rattle.format.specs.Format.{PublicBytes, PrivateBytes, ofPoint, ofScalar, scalarFilled, ofModulus, ofNumbers}
-use Rattle.material.specs.Material.{publicOf, privateOf, checkintOf}
-use Rattle.material.specs.declared.Material.{Material}
-use Rattle.material.specs.declared.Checkint.{Checkint}
-use Rattle.keys.specs.Keys.{onAlgorithm}
-use Rattle.key_laws.specs.Read.{by-algorithm}
-use Rattle.header.specs.Place.{by-cipher-name, by-kdf-name}
-use Rattle.section.specs.declared.Kind.{Kind}
-use Rattle.section.specs.declared.Kind.the-variants.{Plain, Encrypted}
-use Rattle.container.specs.declared.Fields.{Fields}
-use Rattle.container.specs.Container.{readAt}
-use Rattle.container.specs.FormLaws.{by-read}
-use Rattle.judge.specs.Judge.{isRead}
-use Rattle.reply.specs.Reply.{told, answers}
-use Rattle.reply.specs.declared.Written.{Written}
-use Rattle.reply.specs.declared.Written.the-variants as written
-use Rattle.plain.specs.Plain.{plainReply, plainLeft, isPlain}
-use Rattle.encrypted.specs.Encrypted.{encryptedReply, encryptedLeft, isEncrypted}
-use Rattle.writer.specs.Rewrite.{plainAgain, plainAgainLeft, recordReply, recordLeft, rewriteReply, rewriteLeft, isRewritten, handedReply, handedLeft, isHanded}
-use Rattle.report.specs.Report.{reportOf, reportReply, isReport}
+use Rattle.key_material.specs.Material.{publicOf, privateOf, checkintOf}
+use Rattle.key_material.specs.declared.Material.{Material}
+use Rattle.key_material.specs.declared.Checkint.{Checkint}
+use Rattle.key_public.specs.Keys.{onAlgorithm}
+use Rattle.laws_keys.specs.Read.{by-algorithm}
+use Rattle.reader_header.specs.Place.{by-cipher-name, by-kdf-name}
+use Rattle.reader_section.specs.declared.Kind.{Kind}
+use Rattle.reader_section.specs.declared.Kind.the-variants.{Plain, Encrypted}
+use Rattle.reader_image.specs.declared.Fields.{Fields}
+use Rattle.reader_image.specs.Container.{readAt}
+use Rattle.reader_image.specs.FormLaws.{by-read}
+use Rattle.handed_record.specs.Judge.{isRead}
+use Rattle.writer_reply.specs.Reply.{told, answers}
+use Rattle.writer_reply.specs.declared.Written.{Written}
+use Rattle.writer_reply.specs.declared.Written.the-variants as written
+use Rattle.writer_plain.specs.Plain.{plainReply, plainLeft, isPlain}
+use Rattle.writer_encrypted.specs.Encrypted.{encryptedReply, encryptedLeft, isEncrypted}
+use Rattle.writer_again.specs.Rewrite.{plainAgain, plainAgainLeft, recordReply, recordLeft, rewriteReply, rewriteLeft, isRewritten, handedReply, handedLeft, isHanded}
+use Rattle.inspect_report.specs.Report.{reportOf, reportReply, isReport}
 use Rattle.buffer.specs.Puts.{placed, fits}
-use Rattle.comment.specs.Change.{changeReply, changeLeft, isChange}
-use Rattle.numbers.specs.Numbers.{replyOf}
-use Rattle.numbers.specs.declared.Reply.{Reply}
+use Rattle.comment_change.specs.Change.{changeReply, changeLeft, isChange}
+use Rattle.c_numbers.specs.Numbers.{replyOf}
+use Rattle.c_numbers.specs.declared.Reply.{Reply}
 use Rattle.saltorchard.specs.Interface.{namesNothing, checkintFor, codedPlainReply, codedPlainLeft, codedEncryptedReply, codedEncryptedLeft, answersC}
 use Rattle.claims.specs.Change.{refused-stays}
 

@@ -20,26 +20,26 @@ use Rattle.names.specs.declared.Kdf.the-variants as kdf
 use Rattle.names.specs.Ciphers.{isNone, blockSize, tagLength}
 use Rattle.format.specs.Format.{PublicBytes, PrivateBytes, trimmed, filled, zerosAsked, blob, keypair, plainImage, writtenImage}
 use Rattle.format.specs.Scalars.{rule-may, written-own}
-use Rattle.keys.specs.declared.Public.{Public}
-use Rattle.section.specs.declared.Kind.the-variants.{Plain, Encrypted}
-use Rattle.header.specs.declared.Header.{Header}
-use Rattle.header.specs.Header.{onKdf}
-use Rattle.section.specs.declared.SectionRead.{SectionRead}
-use Rattle.section.specs.declared.SectionRead.the-variants as section-read
-use Rattle.section.specs.Section.{checkintsAt, entryAt, paddingAt, contentAt, plainAt, encryptedAt}
-use Rattle.section.specs.Back.{KeyFits}
-use Rattle.section.specs.Read.{by-entry, by-section}
-use Rattle.container.specs.declared.Fields.{Fields}
-use Rattle.container.specs.declared.ImageRead.the-variants as read
-use Rattle.container.specs.Container.{publicIn, privateIn, materialIn, kdfNamePlace, sectionAt, readAt}
-use Rattle.container.specs.Form.{rewritten, formOf}
-use Rattle.container.specs.Read.{halves, PlainText, ImageText, plain-text, encrypted-text, image-text}
-use Rattle.container.specs.FormLaws.{form-encrypted}
-use Rattle.container.specs.Back.{plain-image-back}
-use Rattle.reply.specs.declared.Written.{Written}
-use Rattle.reply.specs.declared.Written.the-variants as written
-use Rattle.plain.specs.Plain.{plainLeft, isPlain}
-use Rattle.writer.specs.Rewrite.{isRewritten}
+use Rattle.key_public.specs.declared.Public.{Public}
+use Rattle.reader_section.specs.declared.Kind.the-variants.{Plain, Encrypted}
+use Rattle.reader_header.specs.declared.Header.{Header}
+use Rattle.reader_header.specs.Header.{onKdf}
+use Rattle.reader_section.specs.declared.SectionRead.{SectionRead}
+use Rattle.reader_section.specs.declared.SectionRead.the-variants as section-read
+use Rattle.reader_section.specs.Section.{checkintsAt, entryAt, paddingAt, contentAt, plainAt, encryptedAt}
+use Rattle.reader_section.specs.Back.{KeyFits}
+use Rattle.reader_section.specs.Read.{by-entry, by-section}
+use Rattle.reader_image.specs.declared.Fields.{Fields}
+use Rattle.reader_image.specs.declared.ImageRead.the-variants as read
+use Rattle.reader_image.specs.Container.{publicIn, privateIn, materialIn, kdfNamePlace, sectionAt, readAt}
+use Rattle.reader_image.specs.Form.{rewritten, formOf}
+use Rattle.reader_image.specs.Read.{halves, PlainText, ImageText, plain-text, encrypted-text, image-text}
+use Rattle.reader_image.specs.FormLaws.{form-encrypted}
+use Rattle.reader_image.specs.Back.{plain-image-back}
+use Rattle.writer_reply.specs.declared.Written.{Written}
+use Rattle.writer_reply.specs.declared.Written.the-variants as written
+use Rattle.writer_plain.specs.Plain.{plainLeft, isPlain}
+use Rattle.writer_again.specs.Rewrite.{isRewritten}
 use Rattle.claims.specs.Reading.{Own, plain-accepted, plain-written, read-after-write}
 use Rattle.claims.specs.Again.{back-form}
 use Rattle.claims.specs.Form.{Stands, rewrite-written}

@@ -19,13 +19,13 @@ use Rattle.names.specs.declared.Algorithm.the-variants.{Elliptic as OnCurve, Rs
 use Rattle.mpint.specs.Mpint.{value, zerosBefore, bits}
 use Rattle.mpint.specs.Laws.{mpint-positive, bits-value}
 use Rattle.format.specs.Format.{PublicBytes, PublicFits}
-use Rattle.keys.specs.Keys.{pointPlace, modulusPlace, publicBytes}
-use Rattle.key_laws.specs.Read.{publicPlace}
-use Rattle.header.specs.Read.{header-text}
-use Rattle.container.specs.declared.Fields.{Fields}
-use Rattle.container.specs.declared.ImageRead.the-variants as read
-use Rattle.container.specs.Container.{publicIn, readAt}
-use Rattle.container.specs.Read.{halves}
+use Rattle.key_public.specs.Keys.{pointPlace, modulusPlace, publicBytes}
+use Rattle.laws_keys.specs.Read.{publicPlace}
+use Rattle.reader_header.specs.Read.{header-text}
+use Rattle.reader_image.specs.declared.Fields.{Fields}
+use Rattle.reader_image.specs.declared.ImageRead.the-variants as read
+use Rattle.reader_image.specs.Container.{publicIn, readAt}
+use Rattle.reader_image.specs.Read.{halves}
 
 -- a part of bytes is bytes
 part-bytes : (s : List ℕ) → AllBytes s → (p : Part) → AllBytes (viewOf s p)

@@ -27,18 +27,18 @@ use Rattle.mpint.specs.Mpint.{value, isMpint, zerosBefore, significant}
 use Rattle.mpint.specs.Laws.{mpint-same}
 use Rattle.format.specs.Format.{PublicBytes, PrivateBytes, ofPoint, ofScalar, standing, minimal, leadingZero, zeroLength, notZero, PublicFits, blob, keypair, plainImage, writtenImage}
 use Rattle.format.specs.Scalars.{standing-again, significant-length, significant-first, value-standing, mpint-standing, minimal-mpint, minimal-value}
-use Rattle.pairs.specs.Pairs.{privateBytes, isScalar, scalarAt}
-use Rattle.pairs.specs.Scalar.{scalar-some, scalar-short, scalar-stands}
-use Rattle.section.specs.Back.{KeyFits}
-use Rattle.section.specs.declared.Kind.the-variants.{Plain}
-use Rattle.container.specs.declared.Fields.{Fields}
-use Rattle.container.specs.declared.ImageRead.the-variants as read
-use Rattle.container.specs.Container.{readAt}
-use Rattle.container.specs.Form.{formOf}
-use Rattle.container.specs.Back.{plain-image-back}
-use Rattle.container.specs.FormLaws.{form-back, plain-of}
-use Rattle.reply.specs.declared.Written.the-variants as written
-use Rattle.plain.specs.Plain.{plainReply}
+use Rattle.key_pairs.specs.Pairs.{privateBytes, isScalar, scalarAt}
+use Rattle.key_pairs.specs.Scalar.{scalar-some, scalar-short, scalar-stands}
+use Rattle.reader_section.specs.Back.{KeyFits}
+use Rattle.reader_section.specs.declared.Kind.the-variants.{Plain}
+use Rattle.reader_image.specs.declared.Fields.{Fields}
+use Rattle.reader_image.specs.declared.ImageRead.the-variants as read
+use Rattle.reader_image.specs.Container.{readAt}
+use Rattle.reader_image.specs.Form.{formOf}
+use Rattle.reader_image.specs.Back.{plain-image-back}
+use Rattle.reader_image.specs.FormLaws.{form-back, plain-of}
+use Rattle.writer_reply.specs.declared.Written.the-variants as written
+use Rattle.writer_plain.specs.Plain.{plainReply}
 use Rattle.claims.specs.Reading.{elliptic-held}
 use Rattle.claims.specs.Form.{Stands, scalarIn, ecdsa-fits, ecdsa-may}
 

@@ -18,17 +18,17 @@ use Rattle.names.specs.declared.Kdf.{Kdf}
 use Rattle.names.specs.declared.Kdf.the-variants as kdf
 use Rattle.names.specs.Ciphers.{isNone, blockSize, tagLength}
 use Rattle.format.specs.Format.{PublicBytes, OptionsFit, blob, encryptedImage}
-use Rattle.keys.specs.declared.Public.{Public}
-use Rattle.keys.specs.declared.Blob.{Blob}
-use Rattle.keys.specs.declared.Blob.the-variants as answer
-use Rattle.keys.specs.Keys.{publicBytes, onBlob, blobAt}
-use Rattle.key_laws.specs.Read.{blob-read}
-use Rattle.container.specs.Back.{SealFits, EncryptedImageBack, encrypted-image-back}
+use Rattle.key_public.specs.declared.Public.{Public}
+use Rattle.key_public.specs.declared.Blob.{Blob}
+use Rattle.key_public.specs.declared.Blob.the-variants as answer
+use Rattle.key_public.specs.Keys.{publicBytes, onBlob, blobAt}
+use Rattle.laws_keys.specs.Read.{blob-read}
+use Rattle.reader_image.specs.Back.{SealFits, EncryptedImageBack, encrypted-image-back}
 use Rattle.buffer.specs.Puts.{take-splice}
-use Rattle.reply.specs.declared.Written.{Written}
-use Rattle.reply.specs.declared.Written.the-variants as written
-use Rattle.reply.specs.Reply.{refused, unless, sized}
-use Rattle.encrypted.specs.Encrypted.{optionsFit, encryptedReply, encryptedLeft}
+use Rattle.writer_reply.specs.declared.Written.{Written}
+use Rattle.writer_reply.specs.declared.Written.the-variants as written
+use Rattle.writer_reply.specs.Reply.{refused, unless, sized}
+use Rattle.writer_encrypted.specs.Encrypted.{optionsFit, encryptedReply, encryptedLeft}
 use Rattle.claims.specs.Reading.{held, sized-held}
 
 -- a blob of an accepted write is read

@@ -8,14 +8,14 @@ use mathlib.Core.List.{List, [], _∷_}
 use lib.ListN.{length, take, drop}
 use Rattle.fields.specs.Bytes.{AllBytes}
 use Rattle.fields.specs.declared.Fault.{Fault}
-use Rattle.container.specs.declared.Fields.{Fields}
-use Rattle.container.specs.Container.{publicIn, materialIn}
+use Rattle.reader_image.specs.declared.Fields.{Fields}
+use Rattle.reader_image.specs.Container.{publicIn, materialIn}
 use Rattle.buffer.specs.Puts.{zeros}
-use Rattle.reply.specs.declared.Written.{Written}
-use Rattle.reply.specs.declared.Written.the-variants as written
-use Rattle.reply.specs.Reply.{onWritten}
-use Rattle.plain.specs.Plain.{plainLeft}
-use Rattle.comment.specs.Change.{afresh, changeReply, changeLeft}
+use Rattle.writer_reply.specs.declared.Written.{Written}
+use Rattle.writer_reply.specs.declared.Written.the-variants as written
+use Rattle.writer_reply.specs.Reply.{onWritten}
+use Rattle.writer_plain.specs.Plain.{plainLeft}
+use Rattle.comment_change.specs.Change.{afresh, changeReply, changeLeft}
 use Rattle.claims.specs.Laid.{laid, laid-out}
 use Rattle.claims.specs.Change.{ChangeAccepted, change-accepted, change-laid, change-changes, refused-stays}
 use Rattle.claims.specs.Kept.{State, Kept, one-record, imageWith, reply-again, left-again}

@@ -18,15 +18,15 @@ use Rattle.names.specs.declared.Algorithm.{Algorithm}
 use Rattle.names.specs.declared.Algorithm.the-variants.{Elliptic as OnCurve}
 use Rattle.names.specs.declared.Elliptic.the-variants.{Ed25519}
 use Rattle.format.specs.Format.{PublicBytes, PrivateBytes, ofPoint, ofScalar, magic, blob, keypair, header, trimmed, filled, zerosAsked, writtenPair, paddingLength, content, section, plainImage, writtenImage}
-use Rattle.container.specs.declared.ImageRead.{ImageRead}
-use Rattle.container.specs.declared.ImageRead.the-variants as read
-use Rattle.container.specs.Container.{answersRead}
-use Rattle.container.specs.Back.{PlainImageBack, plain-image-back}
-use Rattle.container.specs.Form.{formOf}
-use Rattle.reply.specs.declared.Written.{Written}
-use Rattle.reply.specs.declared.Written.the-variants as written
-use Rattle.plain.specs.Plain.{plainReply, plainLeft, isPlain}
-use Rattle.comment.specs.Change.{afresh, changeReply, changeLeft, isChange}
+use Rattle.reader_image.specs.declared.ImageRead.{ImageRead}
+use Rattle.reader_image.specs.declared.ImageRead.the-variants as read
+use Rattle.reader_image.specs.Container.{answersRead}
+use Rattle.reader_image.specs.Back.{PlainImageBack, plain-image-back}
+use Rattle.reader_image.specs.Form.{formOf}
+use Rattle.writer_reply.specs.declared.Written.{Written}
+use Rattle.writer_reply.specs.declared.Written.the-variants as written
+use Rattle.writer_plain.specs.Plain.{plainReply, plainLeft, isPlain}
+use Rattle.comment_change.specs.Change.{afresh, changeReply, changeLeft, isChange}
 use Rattle.claims.specs.Reading.{Own, PlainAccepted, plain-accepted, plain-written}
 use Rattle.claims.specs.Again.{back-form}
 use Rattle.claims.specs.Demand.{Asked, demand-three}

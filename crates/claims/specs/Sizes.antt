@@ -17,11 +17,11 @@ use Rattle.utf8.specs.Laws.{ascii-utf8}
 use Rattle.format.specs.Format.{ofPoint, ofScalar, publicLength, privateLength, pointTag, scalarBytes, notZero, zeroLength, zerosAsked, paddingLength, writtenImage}
 use Rattle.format.specs.Scalars.{significant-own, rule-may, allowed-own, trimmed-fits}
 use Rattle.format.specs.Lengths.{pointBlobLength, contentLength, written-content-length, written-length}
-use Rattle.section.specs.Back.{KeyFits}
-use Rattle.container.specs.Back.{PlainImageBack, plain-image-back}
-use Rattle.reply.specs.declared.Written.the-variants as written
-use Rattle.reply.specs.Reply.{refused, sized}
-use Rattle.plain.specs.Plain.{keyChecked, plainReply}
+use Rattle.reader_section.specs.Back.{KeyFits}
+use Rattle.reader_image.specs.Back.{PlainImageBack, plain-image-back}
+use Rattle.writer_reply.specs.declared.Written.the-variants as written
+use Rattle.writer_reply.specs.Reply.{refused, sized}
+use Rattle.writer_plain.specs.Plain.{keyChecked, plainReply}
 
 -- public and private bytes that make a key: their lengths, the tag of a point, and a scalar that isn't zero
 pub record Key (a : Elliptic) (point scalar : List ℕ) : Type 0 where

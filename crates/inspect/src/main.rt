@@ -5,11 +5,11 @@ use fields::Part;
 use libc::STDERR_FILENO;
 use libc::STDIN_FILENO;
 use libc::STDOUT_FILENO;
-use reply::Written;
+use writer_reply::Written;
 
 fn inspect(image: &[u8]) {
     let mut text = [0u8; 256];
-    match report::write_report(image, &mut text) {
+    match inspect_report::write_report(image, &mut text) {
         Written::Refused(_) => {}
         Written::Length(n) => {
             let lines = Part {

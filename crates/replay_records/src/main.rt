@@ -7,19 +7,19 @@
 // encrypted), algorithm, cipher, KDF, rounds, checkint, padding and section, then start and length of
 // blob, point, scalar, comment, salt, ciphertext and tag, and then RSA's: bits, and start and length of
 // modulus, exponent, d, iqmp, p and q. What is said of RSA alone is left out where all of it is 0.
-use container::Fields;
-use container::ImageRead;
 use fields::Part;
-use header::Header;
-use keys::Public;
-use pairs::Private;
-use parts::Which;
-use reply::Written;
-use section::Kind;
-use section::Section;
-use telling::number_at;
-use telling::say_number;
-use telling::word;
+use key_pairs::Private;
+use key_public::Public;
+use reader_header::Header;
+use reader_image::Fields;
+use reader_image::ImageRead;
+use reader_parts::Which;
+use reader_section::Kind;
+use reader_section::Section;
+use replay_telling::number_at;
+use replay_telling::say_number;
+use replay_telling::word;
+use writer_reply::Written;
 
 // ---- the record's numbers, which follow the two lengths
 
@@ -29,7 +29,7 @@ fn lower(head: &[u8], i: u8) -> u32 {
 }
 
 fn number(head: &[u8], i: u8) -> usize {
-    telling::halves(number_at(head, (i as usize) * 8 + 8), lower(head, i))
+    replay_telling::halves(number_at(head, (i as usize) * 8 + 8), lower(head, i))
 }
 
 // A start, and the length that follows it.
@@ -70,11 +70,11 @@ fn private_of(head: &[u8]) -> Private {
 
 fn header_of(head: &[u8]) -> Header {
     Header {
-        cipher: telling::cipher_of(lower(head, 2)),
-        kdf: telling::kdf_of(lower(head, 3)),
+        cipher: replay_telling::cipher_of(lower(head, 2)),
+        kdf: replay_telling::kdf_of(lower(head, 3)),
         salt: place(head, 16, 17),
         rounds: lower(head, 4),
-        algorithm: telling::algorithm_of(lower(head, 1)),
+        algorithm: replay_telling::algorithm_of(lower(head, 1)),
         blob: place(head, 8, 9),
         public: public_of(head),
         section: number(head, 7),
@@ -106,9 +106,9 @@ fn say_written(written: Written) {
     match written {
         Written::Refused(f) => {
             let why = f.why;
-            telling::say_reply(why.number(), why.count(), f.at, 0);
+            replay_telling::say_reply(why.number(), why.count(), f.at, 0);
         }
-        Written::Length(length) => telling::say_reply(0, 0, 0, length),
+        Written::Length(length) => replay_telling::say_reply(0, 0, 0, length),
     }
 }
 
@@ -116,24 +116,24 @@ fn say_written(written: Written) {
 fn say_view(view: &[u8]) {
     say_number(view.len());
     if view.len() > 0 {
-        say_number(telling::rest_of(view) as usize);
+        say_number(replay_telling::rest_of(view) as usize);
     }
 }
 
 fn say_views(image: &[u8], f: Fields) {
     word(b"views");
-    say_view(parts::part(image, f, Which::Blob));
-    say_view(parts::part(image, f, Which::Point));
-    say_view(parts::part(image, f, Which::Scalar));
+    say_view(reader_parts::part(image, f, Which::Blob));
+    say_view(reader_parts::part(image, f, Which::Point));
+    say_view(reader_parts::part(image, f, Which::Scalar));
     say_later_views(image, f);
     word(b"\n");
 }
 
 fn say_later_views(image: &[u8], f: Fields) {
-    say_view(parts::comment(image, f));
-    say_view(parts::part(image, f, Which::Salt));
-    say_view(parts::part(image, f, Which::Ciphertext));
-    say_view(parts::part(image, f, Which::Tag));
+    say_view(reader_parts::comment(image, f));
+    say_view(reader_parts::part(image, f, Which::Salt));
+    say_view(reader_parts::part(image, f, Which::Ciphertext));
+    say_view(reader_parts::part(image, f, Which::Tag));
 }
 
 fn empty(view: &[u8]) -> bool {
@@ -142,12 +142,12 @@ fn empty(view: &[u8]) -> bool {
 
 // Whether each view of RSA's numbers is empty.
 fn no_rsa_views(image: &[u8], f: Fields) -> bool {
-    empty(parts::part(image, f, Which::Modulus))
-        & empty(parts::part(image, f, Which::Exponent))
-        & empty(parts::part(image, f, Which::D))
-        & empty(parts::part(image, f, Which::Iqmp))
-        & empty(parts::part(image, f, Which::P))
-        & empty(parts::part(image, f, Which::Q))
+    empty(reader_parts::part(image, f, Which::Modulus))
+        & empty(reader_parts::part(image, f, Which::Exponent))
+        & empty(reader_parts::part(image, f, Which::D))
+        & empty(reader_parts::part(image, f, Which::Iqmp))
+        & empty(reader_parts::part(image, f, Which::P))
+        & empty(reader_parts::part(image, f, Which::Q))
 }
 
 fn say_rsa_views(image: &[u8], f: Fields) {
@@ -155,12 +155,12 @@ fn say_rsa_views(image: &[u8], f: Fields) {
         return;
     }
     word(b"views-rsa");
-    say_view(parts::part(image, f, Which::Modulus));
-    say_view(parts::part(image, f, Which::Exponent));
-    say_view(parts::part(image, f, Which::D));
-    say_view(parts::part(image, f, Which::Iqmp));
-    say_view(parts::part(image, f, Which::P));
-    say_view(parts::part(image, f, Which::Q));
+    say_view(reader_parts::part(image, f, Which::Modulus));
+    say_view(reader_parts::part(image, f, Which::Exponent));
+    say_view(reader_parts::part(image, f, Which::D));
+    say_view(reader_parts::part(image, f, Which::Iqmp));
+    say_view(reader_parts::part(image, f, Which::P));
+    say_view(reader_parts::part(image, f, Which::Q));
     word(b"\n");
 }
 
@@ -195,7 +195,7 @@ fn say_section(section: Section) {
     let kind = section.kind;
     let private = section.private;
     word(b" 0 0 0");
-    say_number(judge::kind_code(kind) as usize);
+    say_number(handed_record::kind_code(kind) as usize);
     say_number(section.checkint as usize);
     say_number(section.padding);
     say_place(private.scalar);
@@ -208,10 +208,10 @@ fn say_section(section: Section) {
 
 fn say_section_read(image: &[u8], half: Header) {
     word(b"section");
-    match container::read_section(image, half) {
+    match reader_image::read_section(image, half) {
         ImageRead::Refused(f) => {
             let why = f.why;
-            telling::say_reply(why.number(), why.count(), f.at, 0);
+            replay_telling::say_reply(why.number(), why.count(), f.at, 0);
             word(b"\n");
         }
         ImageRead::Record(g) => say_section(g.section),
@@ -237,8 +237,8 @@ fn fill(lent: &mut [u8]) {
 fn handed_in(image: &[u8], f: Fields, lent: &mut [u8]) {
     fill(lent);
     word(b"record   ");
-    say_written(writer::rewrite_record(image, f, lent));
-    telling::say_buffer(lent);
+    say_written(writer_again::rewrite_record(image, f, lent));
+    replay_telling::say_buffer(lent);
     say_views(image, f);
     say_rsa_views(image, f);
     say_section_read(image, f.header);

@@ -13,11 +13,11 @@
 // A text is how many pieces it has, and then each piece: the length of a unit, the length of the piece, and
 // the unit, which is to be repeated over the piece.
 use fields::Part;
-use material::Checkint;
-use material::Material;
+use key_material::Checkint;
+use key_material::Material;
 use names::Algorithm;
 use names::Elliptic;
-use reply::Written;
+use writer_reply::Written;
 
 // ---- reading the file
 
@@ -25,7 +25,7 @@ use reply::Written;
 fn number(fd: i32) -> u32 {
     let mut head = [0u8; 4];
     io::read_full(fd, &mut head);
-    telling::number_at(&head, 0)
+    replay_telling::number_at(&head, 0)
 }
 
 // Each byte from `from` up to `end` becomes the one that stands `unit` before it.
@@ -131,7 +131,7 @@ fn checkint_of(derive: u32, value: u32) -> Checkint {
 
 // The kind of a key for the plain writer; one of RSA isn't stored.
 fn elliptic_of(code: u32) -> Elliptic {
-    let algorithm = telling::algorithm_of(code);
+    let algorithm = replay_telling::algorithm_of(code);
     match algorithm {
         Algorithm::Elliptic(kind) => kind,
         Algorithm::Rsa => Elliptic::Ed25519,
@@ -143,7 +143,7 @@ fn length_of(of: Given, n: usize) -> usize {
     if of.x == 0 {
         return n;
     }
-    telling::halves(of.y, of.z)
+    replay_telling::halves(of.y, of.z)
 }
 
 // ---- the calls
@@ -153,17 +153,17 @@ fn call_plain(of: Given, texts: &[u8], lent: &mut [u8]) -> Written {
     let private = between(texts, of.a, of.b);
     let comment = between(texts, of.b, of.c);
     let m = Material::new(elliptic_of(of.x), public, private);
-    plain::write_plain(m, checkint_of(of.y, of.z), comment, lent)
+    writer_plain::write_plain(m, checkint_of(of.y, of.z), comment, lent)
 }
 
 fn call_encrypted(of: Given, texts: &[u8], lent: &mut [u8]) -> Written {
-    let cipher = telling::cipher_of(of.x);
-    let kdf = telling::kdf_of(of.y);
+    let cipher = replay_telling::cipher_of(of.x);
+    let kdf = replay_telling::kdf_of(of.y);
     let salt = between(texts, 0, of.a);
     let blob = between(texts, of.a, of.b);
     let ciphertext = between(texts, of.b, of.c);
     let tag = between(texts, of.c, of.d);
-    encrypted::write_encrypted(cipher, kdf, salt, of.z, blob, ciphertext, tag, lent)
+    writer_encrypted::write_encrypted(cipher, kdf, salt, of.z, blob, ciphertext, tag, lent)
 }
 
 fn call_rsa(of: Given, texts: &[u8], lent: &mut [u8]) -> Written {
@@ -174,7 +174,7 @@ fn call_rsa(of: Given, texts: &[u8], lent: &mut [u8]) -> Written {
     let p = between(texts, of.d, of.e);
     let q = between(texts, of.e, of.f);
     let comment = between(texts, of.f, of.g);
-    plain_rsa::write_rsa(n, e, d, iqmp, p, q, checkint_of(of.y, of.z), comment, lent)
+    writer_rsa::write_rsa(n, e, d, iqmp, p, q, checkint_of(of.y, of.z), comment, lent)
 }
 
 // The entry with this code.
@@ -182,9 +182,9 @@ fn call(code: u32, of: Given, n: usize, texts: &[u8], lent: &mut [u8]) -> Writte
     match code {
         0 => call_plain(of, texts, lent),
         1 => call_encrypted(of, texts, lent),
-        2 => writer::rewrite(between(texts, 0, of.a), lent),
+        2 => writer_again::rewrite(between(texts, 0, of.a), lent),
         4 => call_rsa(of, texts, lent),
-        _ => comment::change_comment(lent, length_of(of, n), between(texts, 0, of.a)),
+        _ => comment_change::change_comment(lent, length_of(of, n), between(texts, 0, of.a)),
     }
 }
 
@@ -200,7 +200,7 @@ fn stored_call(fd: i32, code: u32, n: usize, lent: &mut [u8]) -> Written {
 fn say_entry(code: u32) {
     let names = b"plain    encryptedrewrite  change   rsa      ";
     let start = (code as usize) * 9;
-    telling::word(between(names, start, start + 9));
+    replay_telling::word(between(names, start, start + 9));
 }
 
 // The reply; answers the length of the image in the buffer from now on.
@@ -208,11 +208,11 @@ fn say_reply(written: Written, n: usize) -> usize {
     match written {
         Written::Refused(f) => {
             let why = f.why;
-            telling::say_reply(why.number(), why.count(), f.at, 0);
+            replay_telling::say_reply(why.number(), why.count(), f.at, 0);
             n
         }
         Written::Length(length) => {
-            telling::say_reply(0, 0, 0, length);
+            replay_telling::say_reply(0, 0, 0, length);
             length
         }
     }
@@ -226,7 +226,7 @@ fn called(fd: i32, n: usize, lent: &mut [u8]) -> usize {
     say_entry(code);
     let written = stored_call(fd, code, n, lent);
     let length = say_reply(written, n);
-    telling::say_buffer(lent);
+    replay_telling::say_buffer(lent);
     length
 }
 

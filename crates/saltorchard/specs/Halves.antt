@@ -10,18 +10,18 @@ use Rattle.fields.specs.Place.{clash, by-bool}
 use Rattle.names.specs.declared.Kdf.{Kdf}
 use Rattle.names.specs.declared.Kdf.the-variants as kdf
 use Rattle.format.specs.Format.{OptionsFit}
-use Rattle.header.specs.declared.Header.{Header}
-use Rattle.header.specs.declared.HeaderRead.the-variants as header-read
-use Rattle.header.specs.Header.{headerAt}
-use Rattle.header.specs.Read.{header-text}
-use Rattle.halves.specs.Halves.{isHeader, by-header, passes-header}
-use Rattle.container.specs.Container.{sectionReadAt}
-use Rattle.container.specs.Form.{sectionFormAt}
-use Rattle.numbers.specs.declared.Image.{Image}
-use Rattle.numbers.specs.Numbers.{halfImage, imageOf}
-use Rattle.handed.specs.declared.Half.the-variants as half
-use Rattle.handed.specs.Handed.{sameImage, halfOf}
-use Rattle.handed.specs.Laws.{image-same, image-self, half-own, half-numbers}
+use Rattle.reader_header.specs.declared.Header.{Header}
+use Rattle.reader_header.specs.declared.HeaderRead.the-variants as header-read
+use Rattle.reader_header.specs.Header.{headerAt}
+use Rattle.reader_header.specs.Read.{header-text}
+use Rattle.handed_header.specs.Halves.{isHeader, by-header, passes-header}
+use Rattle.reader_image.specs.Container.{sectionReadAt}
+use Rattle.reader_image.specs.Form.{sectionFormAt}
+use Rattle.c_numbers.specs.declared.Image.{Image}
+use Rattle.c_numbers.specs.Numbers.{halfImage, imageOf}
+use Rattle.c_handed.specs.declared.Half.the-variants as half
+use Rattle.c_handed.specs.Handed.{sameImage, halfOf}
+use Rattle.c_handed.specs.Laws.{image-same, image-self, half-own, half-numbers}
 use Rattle.saltorchard.specs.Interface.{forgedHalf, sectionC}
 
 options-rounds : (k : Kdf) (salt : List ℕ) (rounds : ℕ) → OptionsFit k salt rounds → rounds < 2 ^ 32

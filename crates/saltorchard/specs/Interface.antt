@@ -9,20 +9,20 @@ use lib.Dec.{eqb}
 use Rattle.fields.specs.Fields.{fault}
 use Rattle.fields.specs.declared.Refusal.the-variants.{Length, AlgorithmUnknown}
 use Rattle.names.specs.declared.Algorithm.the-variants.{Elliptic as OnCurve}
-use Rattle.codes.specs.Codes.{algorithmCoded, cipherCoded, kdfCoded}
+use Rattle.names_codes.specs.Codes.{algorithmCoded, cipherCoded, kdfCoded}
 use Rattle.format.specs.Format.{ofPoint, ofScalar}
-use Rattle.keys.specs.Keys.{onAlgorithmName, onAlgorithm}
-use Rattle.material.specs.Material.{derivedCheckint}
-use Rattle.header.specs.Header.{onCipherName, onKdfName, onHeaderRead, headerAt}
-use Rattle.container.specs.Form.{sectionFormAt}
-use Rattle.reply.specs.declared.Written.{Written}
-use Rattle.reply.specs.Reply.{refused, answers}
-use Rattle.plain.specs.Plain.{plainReply, plainLeft}
-use Rattle.encrypted.specs.Encrypted.{encryptedReply, encryptedLeft}
-use Rattle.numbers.specs.Numbers.{refusedImage, halfImage, imageOf, replyOf}
-use Rattle.numbers.specs.declared.Image.{Image}
-use Rattle.numbers.specs.declared.Reply.{Reply}
-use Rattle.handed.specs.Handed.{sameImage}
+use Rattle.key_public.specs.Keys.{onAlgorithmName, onAlgorithm}
+use Rattle.key_material.specs.Material.{derivedCheckint}
+use Rattle.reader_header.specs.Header.{onCipherName, onKdfName, onHeaderRead, headerAt}
+use Rattle.reader_image.specs.Form.{sectionFormAt}
+use Rattle.writer_reply.specs.declared.Written.{Written}
+use Rattle.writer_reply.specs.Reply.{refused, answers}
+use Rattle.writer_plain.specs.Plain.{plainReply, plainLeft}
+use Rattle.writer_encrypted.specs.Encrypted.{encryptedReply, encryptedLeft}
+use Rattle.c_numbers.specs.Numbers.{refusedImage, halfImage, imageOf, replyOf}
+use Rattle.c_numbers.specs.declared.Image.{Image}
+use Rattle.c_numbers.specs.declared.Reply.{Reply}
+use Rattle.c_handed.specs.Handed.{sameImage}
 
 -- the promise of a writer for C: it answers w in numbers, and leaves this in the buffer
 abbrev pub answersC : Written → List ℕ → Reply → List ℕ → Type 0

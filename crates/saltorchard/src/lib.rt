@@ -5,35 +5,35 @@ ghost use mathlib.Core.Path.{_≡_};
 ghost use lib.ListN.{length};
 ghost use Rattle.names.specs.declared.Algorithm.the-variants.{Rsa};
 ghost use Rattle.format.specs.Format.{ofModulus, ofNumbers};
-ghost use Rattle.header.specs.Header.{headerAt};
-ghost use Rattle.container.specs.Form.{formReadAt};
-ghost use Rattle.plain.specs.Plain.{plainReply, plainLeft};
-ghost use Rattle.writer.specs.Rewrite.{rewriteReply, rewriteLeft};
-ghost use Rattle.comment.specs.Change.{changeReply, changeLeft};
-ghost use Rattle.numbers.specs.Numbers.{imageOf, headerOf, replyOf};
+ghost use Rattle.reader_header.specs.Header.{headerAt};
+ghost use Rattle.reader_image.specs.Form.{formReadAt};
+ghost use Rattle.writer_plain.specs.Plain.{plainReply, plainLeft};
+ghost use Rattle.writer_again.specs.Rewrite.{rewriteReply, rewriteLeft};
+ghost use Rattle.comment_change.specs.Change.{changeReply, changeLeft};
+ghost use Rattle.c_numbers.specs.Numbers.{imageOf, headerOf, replyOf};
 ghost use Rattle.saltorchard.specs.Interface.{answersC, namesNothing, forgedHalf, sectionC, checkintFor, codedPlainReply, codedPlainLeft, codedEncryptedReply, codedEncryptedLeft};
-use codes::algorithm_coded;
-use codes::cipher_coded;
-use codes::kdf_coded;
-use container::FormRead;
+use c_handed::Half;
+use c_handed::half_of;
+use c_numbers::Image;
+use c_numbers::Reply;
+use c_numbers::header_of;
+use c_numbers::image_of;
+use c_numbers::reply_of;
 use fields::Fault;
 use fields::Refusal;
-use handed::Half;
-use handed::half_of;
 use names::Algorithm;
 use names::AlgorithmName;
 use names::CipherName;
 use names::KdfName;
-use numbers::Image;
-use numbers::Reply;
-use numbers::header_of;
-use numbers::image_of;
-use numbers::reply_of;
+use names_codes::algorithm_coded;
+use names_codes::cipher_coded;
+use names_codes::kdf_coded;
+use reader_image::FormRead;
 
 fn names_nothing() -> Reply
     ensures { λ r. ⌜ r ≡ replyOf namesNothing ⌝ }
 {
-    reply_of(reply::refused(Refusal::AlgorithmUnknown))
+    reply_of(writer_reply::refused(Refusal::AlgorithmUnknown))
 }
 
 fn forged_half() -> Image
@@ -51,7 +51,7 @@ fn checkint_of(derive: u8, given: u32, private: &[u8]) -> u32
     if derive == 0 {
         return given;
     }
-    material::derived_checkint(private)
+    key_material::derived_checkint(private)
 }
 
 // Its name is what counts: header and Rust crate refer to it, so that they link only with an archive of their own number.
@@ -66,7 +66,7 @@ pub extern "C" fn saltorchard_interface_6() -> u64
 pub extern "C" fn saltorchard_read(image: &[u8]) -> Image
     ensures { λ r. ⌜ r ≡ imageOf (formReadAt (now (image .entry))) ⌝ }
 {
-    image_of(container::read_with_form(image))
+    image_of(reader_image::read_with_form(image))
 }
 
 // Up to and with the public blob, whatever follows.
@@ -74,7 +74,7 @@ pub extern "C" fn saltorchard_read(image: &[u8]) -> Image
 pub extern "C" fn saltorchard_read_header(image: &[u8]) -> Image
     ensures { λ r. ⌜ r ≡ headerOf (headerAt (now (image .entry))) ⌝ }
 {
-    header_of(header::read_header(image))
+    header_of(reader_header::read_header(image))
 }
 
 // The section that goes on from a header, with all that a full read answers.
@@ -84,7 +84,7 @@ pub extern "C" fn saltorchard_read_section(image: &[u8], header: Image) -> Image
 {
     match half_of(header) {
         Half::Forged => forged_half(),
-        Half::Header(h) => image_of(container::read_section_with_form(image, h)),
+        Half::Header(h) => image_of(reader_image::read_section_with_form(image, h)),
     }
 }
 
@@ -105,7 +105,7 @@ pub extern "C" fn saltorchard_write_plain(
         AlgorithmName::Unknown => names_nothing(),
         AlgorithmName::Known(a) => match a {
             Algorithm::Rsa => names_nothing(),
-            Algorithm::Elliptic(e) => reply_of(plain::write_parts(
+            Algorithm::Elliptic(e) => reply_of(writer_plain::write_parts(
                 e,
                 public,
                 private,
@@ -132,7 +132,7 @@ pub extern "C" fn saltorchard_write_rsa(
 ) -> Reply
     ensures { λ r. ⌜ answersC (plainReply Rsa (ofModulus (now (n .entry)) (now (e .entry))) (ofNumbers (now (d .entry)) (now (iqmp .entry)) (now (p .entry)) (now (q .entry))) (checkintFor derive checkint (now (d .entry))) (now (comment .entry)) (length (now (out .entry)))) (plainLeft Rsa (ofModulus (now (n .entry)) (now (e .entry))) (ofNumbers (now (d .entry)) (now (iqmp .entry)) (now (p .entry)) (now (q .entry))) (checkintFor derive checkint (now (d .entry))) (now (comment .entry)) (now (out .entry))) r (now (out .exit)) ⌝ }
 {
-    reply_of(plain_rsa::write_parts(
+    reply_of(writer_rsa::write_parts(
         n,
         e,
         d,
@@ -163,7 +163,16 @@ pub extern "C" fn saltorchard_write_encrypted(
         CipherName::Known(c) => match kdf_coded(kdf) {
             KdfName::Unknown => names_nothing(),
             KdfName::Known(k) => {
-                reply_of(encrypted::write_encrypted(c, k, salt, rounds, blob, ciphertext, tag, out))
+                reply_of(writer_encrypted::write_encrypted(
+                    c,
+                    k,
+                    salt,
+                    rounds,
+                    blob,
+                    ciphertext,
+                    tag,
+                    out,
+                ))
             }
         },
     }
@@ -174,12 +183,12 @@ pub extern "C" fn saltorchard_write_encrypted(
 pub extern "C" fn saltorchard_rewrite(image: &[u8], out: &mut [u8]) -> Reply
     ensures { λ r. ⌜ answersC (rewriteReply (now (image .entry)) (length (now (out .entry)))) (rewriteLeft (now (image .entry)) (now (out .entry))) r (now (out .exit)) ⌝ }
 {
-    reply_of(writer::rewrite(image, out))
+    reply_of(writer_again::rewrite(image, out))
 }
 
 #[no_mangle]
 pub extern "C" fn saltorchard_change_comment(buffer: &mut [u8], n: usize, comment: &[u8]) -> Reply
     ensures { λ r. ⌜ answersC (changeReply (now (buffer .entry)) n (now (comment .entry))) (changeLeft (now (buffer .entry)) n (now (comment .entry))) r (now (buffer .exit)) ⌝ }
 {
-    reply_of(comment::change_comment(buffer, n, comment))
+    reply_of(comment_change::change_comment(buffer, n, comment))
 }

@@ -1,5 +1,5 @@
 -- `saltorchard::forged_half` meets its contract. Rests on the callee's contract.
-use Rattle.numbers.specs.Numbers.{imageOf}
+use Rattle.c_numbers.specs.Numbers.{imageOf}
 use borrow.Author.Needs.{needs}
 use Rattle.saltorchard.proofs.forged_half.Statement.{statement}
 use Rattle.saltorchard.proofs.forged_half.Tie as tie

@@ -2,7 +2,7 @@
 -- comparison with the image's own.
 use mathlib.Core.Path.{sym, _∙_, ap}
 use denote.Ref.{now}
-use Rattle.numbers.specs.Numbers.{imageOf}
+use Rattle.c_numbers.specs.Numbers.{imageOf}
 use Rattle.saltorchard.specs.Halves.{section-forged, section-half}
 use borrow.Author.Needs.{needs}
 use Rattle.saltorchard.proofs.saltorchard_read_section.Statement.{statement}

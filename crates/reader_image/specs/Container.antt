@@ -1,0 +1,110 @@
+-- Document 01, 'Bytes of the container', steps 6 and 7: the section that goes on from a header. Document 02, request One: the full read
+-- is the header read followed by the section's, and a section read of its own is handed a half. Request Five: a scalar is filled with zeros.
+use Prim.Native.Nat.{ℕ, _+_}
+use mathlib.Core.Path.{_≡_}
+use mathlib.Core.List.{List}
+use mathlib.Core.Bool.{cond}
+use lib.ListN.{length}
+use Rattle.fields.specs.Fields.{fault, absent}
+use Rattle.fields.specs.Refusals.{numberOf, countOf}
+use Rattle.fields.specs.declared.Refusal.the-variants.{Length, Crypto}
+use Rattle.fields.specs.declared.Fault.{Fault}
+use Rattle.fields.specs.Bytes.{string}
+use Rattle.reader_header.specs.declared.Header.{Header}
+use Rattle.names.specs.declared.Cipher.the-variants as cipher
+use Rattle.names.specs.Ciphers.{isNone, cipherName}
+use Rattle.reader_header.specs.Header.{onKdf, onHeaderRead, headerAt, noHeader}
+use Rattle.handed_header.specs.Halves.{isHeader}
+use Rattle.format.specs.Format.{PublicBytes, PrivateBytes, filled, magic}
+use Rattle.key_public.specs.Keys.{publicBytes}
+use Rattle.key_pairs.specs.Pairs.{scalarPlace, privateBytes}
+use Rattle.reader_section.specs.declared.Kind.the-variants.{Plain}
+use Rattle.reader_section.specs.declared.SectionRead.{SectionRead}
+use Rattle.reader_section.specs.declared.SectionRead.the-variants as section-read
+use Rattle.reader_section.specs.Section.{onSectionRead, plainAt, encryptedAt}
+use Rattle.reader_image.specs.declared.Fields.{Fields}
+use Rattle.reader_image.specs.declared.ImageRead.{ImageRead}
+use Rattle.reader_image.specs.declared.ImageRead.the-variants as read
+
+abbrev pub onRead : {R : Type 0} → ImageRead → (Fault → R) → (Fields → R) → R
+onRead (read.Refused f) refused accepted = refused f
+onRead (read.Record x) refused accepted = accepted x
+
+-- the KDF name begins after the magic and the cipher name `none`
+abbrev pub kdfNamePlace : ℕ
+kdfNamePlace = length magic + length (string (cipherName cipher.None))
+
+-- the section begins where the header says; cipher `none` with a KDF not `none`: 3, at the KDF name
+unfoldable pub sectionAt : List ℕ → Header → SectionRead
+sectionAt s h =
+    cond (isNone (h .cipher))
+    (onKdf (h .kdf)
+    (plainAt s (record { at = h .section; end = length s }) (h .algorithm) (h .public))
+    (section-read.Refused (fault Crypto kdfNamePlace)))
+    (encryptedAt s (record { at = h .section; end = length s }) (h .cipher))
+
+-- the record of a header and the section after it
+abbrev pub goOnAt : List ℕ → Header → ImageRead
+goOnAt s h = onSectionRead (sectionAt s h) read.Refused (λ x. read.Record (record { header = h; section = x }))
+
+-- the full read: the one followed by the other
+unfoldable pub readAt : List ℕ → ImageRead
+readAt s = onHeaderRead (headerAt s) read.Refused (λ h. goOnAt s h)
+
+-- the section read: a half that isn't what an accepted header read of the image gives is 1, at 0, before all else
+unfoldable pub sectionReadAt : List ℕ → Header → ImageRead
+sectionReadAt s half = cond (isHeader s half) (goOnAt s half) (read.Refused (fault Length 0))
+
+-- the bytes of a record's key
+abbrev pub publicIn : List ℕ → Fields → PublicBytes
+publicIn s f = publicBytes s (f .header .public)
+
+abbrev pub privateIn : List ℕ → Fields → PrivateBytes
+privateIn s f = privateBytes s (f .section .private)
+
+-- its private bytes as a writer takes them: a scalar is filled with zeros in front to SIZE
+abbrev pub materialIn : List ℕ → Fields → PrivateBytes
+materialIn s f = filled (f .header .algorithm) (privateIn s f)
+
+-- ---- the paper's reply to a read
+
+-- the record of a refused image: no place, no number; kind and names are the first of theirs
+abbrev pub noFields : Fields
+noFields =
+    record {
+      header = noHeader;
+      section =
+          record {
+            kind = Plain;
+            checkint = 0;
+            padding = 0;
+            private = scalarPlace absent;
+            comment = absent;
+            ciphertext = absent;
+            tag = absent;
+          };
+    }
+
+-- number, count, the place at which the failing field began, and the record
+pub record ToldRead : Type 0 where
+  pub number : ℕ
+  pub count : ℕ
+  pub at : ℕ
+  pub fields : Fields
+
+-- of each case of a read's answer
+unfoldable pub toldRead : ImageRead → ToldRead
+toldRead r =
+    onRead r
+    (λ f. record { number = numberOf (f .why); count = countOf (f .why); at = f .at; fields = noFields })
+    (λ x. record { number = 0; count = 0; at = 0; fields = x })
+
+-- the promise of a read: it answers this, which is this in the paper's numbers
+abbrev answersThis : ImageRead → ImageRead → Type 0
+answersThis w r = (r ≡ w) × (toldRead r ≡ toldRead w)
+
+abbrev pub answersRead : List ℕ → ImageRead → Type 0
+answersRead s r = answersThis (readAt s) r
+
+abbrev pub answersSection : List ℕ → Header → ImageRead → Type 0
+answersSection s half r = answersThis (sectionReadAt s half) r

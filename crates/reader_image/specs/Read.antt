@@ -1,0 +1,185 @@
+-- Inversion: an accepted image is the join of its fields, its scalar in the form that it had, for plain and for encrypted images.
+use Prim.Native.Nat.{ℕ, _+_, _-_, _≤_, _<_, _^_}
+use native.Mathlib.Omega.{arith}
+use mathlib.Core.Path.{_≡_, refl, sym, _∙_, ap}
+use mathlib.Core.Bool.{true, false}
+use mathlib.Core.List.{List, [], _++_, append-nil}
+use lib.ListN.{length, length-append}
+use lib.Seq.{slice, length-slice}
+use Rattle.fields.specs.Bytes.{string, AllBytes}
+use Rattle.fields.specs.Fields.{fault, viewOf}
+use Rattle.fields.specs.Place.{clash, by-bool}
+use Rattle.fields.specs.Rest.{rest}
+use Rattle.fields.specs.declared.Cursor.{Cursor}
+use Rattle.fields.specs.declared.Refusal.the-variants.{Crypto}
+use Rattle.names.specs.declared.Cipher.{Cipher}
+use Rattle.names.specs.declared.Cipher.the-variants as cipher
+use Rattle.names.specs.declared.Kdf.{Kdf}
+use Rattle.names.specs.declared.Kdf.the-variants as kdf
+use Rattle.names.specs.Ciphers.{isNone, none-only}
+use Rattle.format.specs.Format.{blob, keypair, section, header, plainImage, encryptedImage}
+use Rattle.laws_keys.specs.ReadPair.{IfScalar, Begins}
+use Rattle.reader_header.specs.declared.Header.{Header}
+use Rattle.reader_header.specs.declared.HeaderRead.the-variants as header-read
+use Rattle.reader_header.specs.Header.{onKdf, headerAt}
+use Rattle.reader_header.specs.Read.{HeaderText, header-text}
+use Rattle.handed_header.specs.Halves.{by-header}
+use Rattle.reader_section.specs.declared.Kind.the-variants.{Plain, Encrypted}
+use Rattle.reader_section.specs.declared.Section.{Section}
+use Rattle.reader_section.specs.declared.SectionRead.the-variants as section-read
+use Rattle.reader_section.specs.Section.{plainAt, encryptedAt}
+use Rattle.reader_section.specs.Back.{KeyFits}
+use Rattle.reader_section.specs.Read.{by-section, beforeComment, PlainRead, plain-read}
+use Rattle.reader_section.specs.ReadEncrypted.{EncryptedRead, encrypted-read}
+use Rattle.reader_image.specs.declared.Fields.{Fields}
+use Rattle.reader_image.specs.declared.ImageRead.the-variants as read
+use Rattle.reader_image.specs.Container.{publicIn, privateIn, kdfNamePlace, sectionAt, readAt}
+use Rattle.reader_image.specs.Back.{SealFits}
+
+-- the two reads of an accepted image
+pub halves : (s : List ℕ) (f : Fields) → readAt s ≡ read.Record f → (headerAt s ≡ header-read.Header (f .header)) × (sectionAt s (f .header) ≡ section-read.Section (f .section))
+unfolding readAt
+halves s f e =
+    by-header (headerAt s)
+    (λ g w. let i : read.Refused g ≡ read.Record f = rw w at e in clash cc)
+    (λ h w.
+    let i = rw w at e in
+    by-section (sectionAt s h)
+    (λ g v. let j : read.Refused g ≡ read.Record f = rw v at i in clash cc)
+    (λ x v.
+    let j : read.Record (record { header = h; section = x }) ≡ read.Record f = rw v at i in
+    let o : record { header = h; section = x } ≡ f = cc in
+    let oh : h ≡ f .header = ap (λ (y : Fields). y .header) o in
+    let ox : x ≡ f .section = ap (λ (y : Fields). y .section) o in
+    (w ∙ ap header-read.Header oh, rw (oh, ox) at v)))
+
+-- an accepted section is plain where there is no cipher and no KDF, and encrypted where there is a cipher
+data Sections (s : List ℕ) (h : Header) (x : Section) : Type 0 where
+  plain : cipher.None ≡ h .cipher → kdf.None ≡ h .kdf → plainAt s (record { at = h .section; end = length s }) (h .algorithm) (h .public) ≡ section-read.Section x → Sections s h x
+  encrypted : isNone (h .cipher) ≡ false → encryptedAt s (record { at = h .section; end = length s }) (h .cipher) ≡ section-read.Section x → Sections s h x
+
+sections : (s : List ℕ) (h : Header) (x : Section) → sectionAt s h ≡ section-read.Section x → Sections s h x
+unfolding sectionAt
+sections s h x e =
+    by-bool (isNone (h .cipher))
+    (λ w. let g = rw w at e in by-kdf (h .kdf) refl w g)
+    (λ w. encrypted w (rw w at e))
+  where
+    c : Cursor
+    c = record { at = h .section; end = length s }
+
+    by-kdf :
+        (k : Kdf) → k ≡ h .kdf → isNone (h .cipher) ≡ true
+        → onKdf k (plainAt s c (h .algorithm) (h .public)) (section-read.Refused (fault Crypto kdfNamePlace)) ≡ section-read.Section x → Sections s h x
+    by-kdf kdf.None q w g = plain (none-only (h .cipher) w) q g
+    by-kdf kdf.Bcrypt q w g = clash cc
+
+-- an accepted plain image
+pub record PlainText (s : List ℕ) (f : Fields) : Type 0 where
+  pub zeros : ℕ
+  pub fits : length s ≤ 65535
+  pub text :
+      s
+      ≡ plainImage (f .section .checkint) (blob (f .header .algorithm) (publicIn s f)) (keypair (f .header .algorithm) zeros (publicIn s f) (privateIn s f))
+      (viewOf s (f .section .comment))
+  pub key-fits : KeyFits (f .header .algorithm) zeros (publicIn s f) (privateIn s f) (viewOf s (f .section .comment))
+  pub checkint-fits : f .section .checkint < 2 ^ 32
+  pub begins : IfScalar (f .header .algorithm) (Begins s (f .section .private .scalar) zeros)
+  pub content : viewOf s (f .header .blob) ≡ blob (f .header .algorithm) (publicIn s f)
+  pub section-place : f .header .section ≡ length (header cipher.None kdf.None [] 0 (blob (f .header .algorithm) (publicIn s f)))
+  pub comment-place :
+      f .section .comment .start
+      ≡ f .header .section + 4 + beforeComment (keypair (f .header .algorithm) zeros (publicIn s f) (privateIn s f)) + 4
+
+-- an accepted encrypted image
+pub record EncryptedText (s : List ℕ) (f : Fields) : Type 0 where
+  pub fits : length s ≤ 65535
+  pub text :
+      s ≡ encryptedImage (f .header .cipher) (f .header .kdf) (viewOf s (f .header .salt)) (f .header .rounds) (viewOf s (f .header .blob))
+      (viewOf s (f .section .ciphertext)) (viewOf s (f .section .tag))
+  pub seal-fits :
+      SealFits (f .header .cipher) (f .header .kdf) (viewOf s (f .header .salt)) (f .header .rounds) (f .header .algorithm) (publicIn s f)
+      (viewOf s (f .section .ciphertext)) (viewOf s (f .section .tag))
+  pub content : viewOf s (f .header .blob) ≡ blob (f .header .algorithm) (publicIn s f)
+
+-- a header with neither cipher nor KDF has no options
+header-plain :
+    (c : Cipher) (k : Kdf) (salt : List ℕ) (rounds : ℕ) (key : List ℕ) → cipher.None ≡ c → kdf.None ≡ k
+    → header c k salt rounds key ≡ header cipher.None kdf.None [] 0 key
+unfolding header
+header-plain c k salt rounds key nc nk = rw (← nc, ← nk)
+
+-- a section begins where the header ends
+section-starts :
+    (s : List ℕ) (at : ℕ) (front : List ℕ) → at ≤ length s → s ≡ front ++ rest s (record { at = at; end = length s }) → at ≡ length front
+section-starts s at front h e =
+    let long : length s ≡ length front + (length s - at) =
+    ap length e ∙ length-append front (slice at (length s) s) ∙ ap (λ (n : ℕ). length front + n) (length-slice at (length s) s (omega arith)) in
+    omega arith
+
+module _ (s : List ℕ) (all : AllBytes s) (f : Fields) (e : readAt s ≡ read.Record f) where
+  head : HeaderText s all (f .header)
+  head = header-text s all (f .header) (halves s f e .0)
+
+  plain-joined :
+      cipher.None ≡ f .header .cipher → kdf.None ≡ f .header .kdf
+      → PlainRead s all (record { at = f .header .section; end = length s }) (f .header .algorithm) (f .header .public) (f .section) → PlainText s f
+  unfolding plainImage
+  plain-joined nc nk x =
+      let h = head in
+      let a = f .header .algorithm in
+      let key = blob a (publicIn s f) in
+      let body = section (f .section .checkint) (keypair a (x .zeros) (publicIn s f) (privateIn s f)) (viewOf s (f .section .comment)) in
+      let front : s ≡ header cipher.None kdf.None [] 0 key ++ rest s (record { at = f .header .section; end = length s }) =
+      h .text
+      ∙ ap (λ (o : List ℕ). o ++ rest s (record { at = f .header .section; end = length s }))
+      (header-plain (f .header .cipher) (f .header .kdf) (viewOf s (f .header .salt)) (f .header .rounds) key nc nk) in
+      record {
+        zeros = x .zeros;
+        fits = h .fits;
+        text = front ∙ ap (λ (t : List ℕ). header cipher.None kdf.None [] 0 key ++ t) (x .text ∙ sym (append-nil (string body)));
+        section-place = section-starts s (f .header .section) (header cipher.None kdf.None [] 0 key) (h .good) front;
+        comment-place = x .place;
+        key-fits = x .fits;
+        checkint-fits = x .checkint;
+        begins = x .begins;
+        content = h .content;
+      }
+
+  encrypted-joined :
+      isNone (f .header .cipher) ≡ false → EncryptedRead s all (record { at = f .header .section; end = length s }) (f .header .cipher) (f .section)
+      → EncryptedText s f
+  unfolding encryptedImage
+  encrypted-joined w x =
+      let h = head in
+      let front = header (f .header .cipher) (f .header .kdf) (viewOf s (f .header .salt)) (f .header .rounds) (viewOf s (f .header .blob)) in
+      let ciphertext = viewOf s (f .section .ciphertext) in
+      let tag = viewOf s (f .section .tag) in
+      record {
+        fits = h .fits;
+        text = rw (← h .content) at (h .text) ∙ ap (λ (t : List ℕ). front ++ t) (x .text ∙ ap (λ (t : List ℕ). string ciphertext ++ t) (sym (append-nil tag)));
+        seal-fits =
+            record {
+              encrypts = w;
+              options-fit = h .options-fit;
+              public = h .public-fits;
+              blocks = x .blocks;
+              tag-long = x .long;
+            };
+        content = h .content;
+      }
+
+  -- an accepted image is of one kind or the other, and the join of its fields either way
+  pub data ImageText : Type 0 where
+    plain-text : f .section .kind ≡ Plain → PlainText s f → ImageText
+    encrypted-text : f .section .kind ≡ Encrypted → EncryptedText s f → ImageText
+
+  pub image-text : ImageText
+  image-text = go (sections s (f .header) (f .section) (halves s f e .1))
+    where
+      c : Cursor
+      c = record { at = f .header .section; end = length s }
+
+      go : Sections s (f .header) (f .section) → ImageText
+      go (plain nc nk g) = let x = plain-read s all c (f .header .algorithm) (f .header .public) (f .section) g in plain-text (x .plain) (plain-joined nc nk x)
+      go (encrypted w g) = let x = encrypted-read s all c (f .header .cipher) (f .section) g in encrypted-text (x .encrypted) (encrypted-joined w x)

@@ -1,0 +1,167 @@
+// An image read whole, and its section read from a header half that is handed in. Both go through one
+// section step. The record's fields are plain data, places in the image among them.
+ghost use mathlib.Core.Path.{_≡_};
+ghost use Prim.Native.Nat.{_<_};
+ghost use Rattle.reader_image.specs.Container.{sectionAt, goOnAt, answersRead, answersSection};
+ghost use Rattle.reader_image.specs.Form.{scalarStands, scalarInForm, answersForm, answersSectionForm};
+ghost use Rattle.key_pairs.specs.Pairs.{beginsBefore};
+use fields::Cursor;
+use fields::Fault;
+use fields::Part;
+use fields::Refusal;
+use names::Algorithm;
+use names::Elliptic;
+use names::Kdf;
+use reader_header::Header;
+use reader_header::HeaderRead;
+use reader_section::Kind;
+use reader_section::Section;
+use reader_section::SectionRead;
+
+// What an accepted image holds.
+pub struct Fields {
+    pub header: Header,
+    pub section: Section,
+}
+
+pub enum ImageRead {
+    Record(Fields),
+    Refused(Fault),
+}
+
+// The section that goes on from a header. A plain one needs the KDF `none`, whose name begins at 23 after
+// the cipher's.
+fn section_step(image: &[u8], header: Header) -> SectionRead
+    ensures { λ r. ⌜ r ≡ sectionAt (now (image .entry)) header ⌝ }
+{
+    let at = header.section;
+    let end = image.len();
+    let c = Cursor { at: at, end: end };
+    let cipher = header.cipher;
+    let kdf = header.kdf;
+    let algorithm = header.algorithm;
+    let public = header.public;
+    if cipher.is_none() {
+        match kdf {
+            Kdf::None => return reader_section::read_plain(c, image, algorithm, public),
+            Kdf::Bcrypt => {
+                return SectionRead::Refused(Fault {
+                    why: Refusal::Crypto,
+                    at: 23,
+                });
+            }
+        }
+    }
+    reader_section::read_encrypted(c, image, cipher)
+}
+
+// The record of a header and the section after it.
+fn go_on(image: &[u8], header: Header) -> ImageRead
+    ensures { λ r. ⌜ r ≡ goOnAt (now (image .entry)) header ⌝ }
+{
+    match section_step(image, header) {
+        SectionRead::Refused(f) => ImageRead::Refused(f),
+        SectionRead::Section(x) => ImageRead::Record(Fields {
+            header: header,
+            section: x,
+        }),
+    }
+}
+
+// The full read: the header read, then the section.
+pub fn read(image: &[u8]) -> ImageRead
+    ensures { λ r. ⌜ answersRead (now (image .entry)) r ⌝ }
+{
+    match reader_header::read_header(image) {
+        HeaderRead::Refused(f) => ImageRead::Refused(f),
+        HeaderRead::Header(h) => go_on(image, h),
+    }
+}
+
+// The section read. The half is judged first, by a header read of the image.
+pub fn read_section(image: &[u8], half: Header) -> ImageRead
+    ensures { λ r. ⌜ answersSection (now (image .entry)) half r ⌝ }
+{
+    if handed_header::is_header(image, half) {
+        return go_on(image, half);
+    }
+    ImageRead::Refused(Fault {
+        why: Refusal::Length,
+        at: 0,
+    })
+}
+
+// Does the string that holds a part begin so many bytes before it? Its length's last byte then stands there.
+fn begins_before(image: &[u8], part: Part, zeros: usize) -> bool
+    requires { ⌜ zeros < 2 ⌝ }
+    ensures { λ r. ⌜ r ≡ beginsBefore (now (image .entry)) part zeros ⌝ }
+{
+    let start = part.start;
+    let length = part.length;
+    if start <= zeros {
+        return false;
+    }
+    let last = fields::byte(image, start - (zeros + 1)) as usize;
+    if last < zeros {
+        return false;
+    }
+    last - zeros == length
+}
+
+// Does a scalar stand as the writer would write it? A seed always does.
+fn scalar_stands(image: &[u8], e: Elliptic, scalar: Part) -> bool
+    ensures { λ r. ⌜ r ≡ scalarStands (now (image .entry)) e scalar ⌝ }
+{
+    match e {
+        Elliptic::Ed25519 => true,
+        Elliptic::Ecdsa(_) => {
+            if key_public::needs_leading_zero(fields::view(image, scalar)) {
+                return begins_before(image, scalar, 1);
+            }
+            begins_before(image, scalar, 0)
+        }
+    }
+}
+
+// Does the scalar of an accepted image stand so? RSA has none.
+fn scalar_in_form(image: &[u8], f: Fields) -> bool
+    ensures { λ r. ⌜ r ≡ scalarInForm (now (image .entry)) f ⌝ }
+{
+    let header = f.header;
+    let algorithm = header.algorithm;
+    let section = f.section;
+    let kind = section.kind;
+    let private = section.private;
+    match kind {
+        Kind::Encrypted => true,
+        Kind::Plain => match algorithm {
+            Algorithm::Elliptic(e) => scalar_stands(image, e, private.scalar),
+            Algorithm::Rsa => true,
+        },
+    }
+}
+
+pub enum FormRead {
+    Record(Fields, bool),
+    Refused(Fault),
+}
+
+// The full read, and whether the image is in the writer's form.
+pub fn read_with_form(image: &[u8]) -> FormRead
+    ensures { λ r. ⌜ answersForm (now (image .entry)) r ⌝ }
+{
+    match read(image) {
+        ImageRead::Refused(f) => FormRead::Refused(f),
+        ImageRead::Record(fields) => FormRead::Record(fields, scalar_in_form(image, fields)),
+    }
+}
+
+// The section read, and whether the image is in the writer's form.
+pub fn read_section_with_form(image: &[u8], half: Header) -> FormRead
+    ensures { λ r. ⌜ answersSectionForm (now (image .entry)) half r ⌝ }
+{
+    match read_section(image, half) {
+        ImageRead::Refused(f) => FormRead::Refused(f),
+        ImageRead::Record(fields) => FormRead::Record(fields, scalar_in_form(image, fields)),
+    }
+}

@@ -1,0 +1,13 @@
+-- `reader_section::encrypted` meets its contract. Rests on the callee's contract alone.
+use borrow.Author.Needs.{needs}
+use Rattle.reader_section.proofs.encrypted.Statement.{statement}
+use Rattle.reader_section.proofs.encrypted.Tie as tie
+
+at-scalar-requires : tie.Need-at-scalar-requires
+at-scalar-requires c κs = search needs
+
+returns : tie.Need-returns
+returns c = rw (c .at-scalar .ensures)
+
+pub encrypted-spec : {M : Type 1} → statement M
+encrypted-spec = tie.close (tie.spec at-scalar-requires returns)

@@ -1,0 +1,70 @@
+-- The plain writer's tests of a key, and what fits the format: a key that fits passes them, and RSA's numbers that pass them fit.
+use mathlib.Core.Path.{_≡_}
+use mathlib.Core.Bool.{true}
+use borrow.Author.Tests.{eq-eqb}
+use Rattle.fields.specs.Bytes.{both-true}
+use Rattle.names.specs.declared.Algorithm.{Algorithm}
+use Rattle.names.specs.declared.Algorithm.the-variants.{Elliptic as OnCurve, Rsa}
+use Rattle.mpint.specs.Mpint.{isMpint, modulusFits, atMost}
+use Rattle.format.specs.Format.{PublicBytes, PrivateBytes, filled, ModulusFits, NumbersFit, PublicFits, PrivateFits}
+use Rattle.format.specs.Scalars.{filled-private, filled-zero, fits-allowed, fits-some}
+use Rattle.writer_reply.specs.declared.Written.{Written}
+use Rattle.writer_plain.specs.Plain.{allMpints, sizesFit, keyChecked}
+
+-- a key that fits passes the plain writer's first tests, its scalar filled
+pub checks-pass :
+    (a : Algorithm) (key : PublicBytes) (x : PrivateBytes) (next : Written) → PublicFits a key → PrivateFits a key x
+    → keyChecked a key (filled a x) next ≡ next
+unfolding keyChecked allMpints sizesFit
+checks-pass (OnCurve e) key x next fits fit =
+    rw (
+      eq-eqb _ _ (fits .0),
+      eq-eqb _ _ (filled-private e (x .scalar) (fits-allowed e (x .scalar) (fit .0))),
+      fits .1,
+      filled-zero e (x .scalar),
+      fits-some e (x .scalar) (fit .0),
+    )
+checks-pass Rsa key x next fits fit =
+    let n = fits .0 in
+    let m = fit .0 in
+    rw (
+      n .modulus,
+      n .exponent,
+      m .mpint-d,
+      m .mpint-iqmp,
+      m .mpint-p,
+      m .mpint-q,
+      n .size,
+      n .exponent-size,
+      m .size-d,
+      m .size-iqmp,
+      m .size-p,
+      m .size-q,
+    )
+
+-- six numbers that pass them fit
+pub numbers-fit : (key : PublicBytes) (x : PrivateBytes) → allMpints key x ≡ true → sizesFit key x ≡ true → ModulusFits (key .modulus) (key .exponent) × NumbersFit (key .modulus) (x .d) (x .iqmp) (x .p) (x .q)
+unfolding allMpints sizesFit
+numbers-fit key x m s =
+    let m₅ = both-true _ (isMpint (x .q)) m in
+    let m₄ = both-true _ (isMpint (x .p)) (m₅ .0) in
+    let m₃ = both-true _ (isMpint (x .iqmp)) (m₄ .0) in
+    let m₂ = both-true _ (isMpint (x .d)) (m₃ .0) in
+    let m₁ = both-true _ (isMpint (key .exponent)) (m₂ .0) in
+    let s₅ = both-true _ (atMost (x .q) (key .modulus)) s in
+    let s₄ = both-true _ (atMost (x .p) (key .modulus)) (s₅ .0) in
+    let s₃ = both-true _ (atMost (x .iqmp) (key .modulus)) (s₄ .0) in
+    let s₂ = both-true _ (atMost (x .d) (key .modulus)) (s₃ .0) in
+    let s₁ = both-true (modulusFits (key .modulus)) (atMost (key .exponent) (key .modulus)) (s₂ .0) in (
+      record { modulus = m₁ .0; exponent = m₁ .1; size = s₁ .0; exponent-size = s₁ .1 },
+      record {
+        mpint-d = m₂ .1;
+        mpint-iqmp = m₃ .1;
+        mpint-p = m₄ .1;
+        mpint-q = m₅ .1;
+        size-d = s₂ .1;
+        size-iqmp = s₃ .1;
+        size-p = s₄ .1;
+        size-q = s₅ .1;
+      },
+    )
