@@ -4,10 +4,11 @@
     python3 tools/differences.py                a line for each id; exit 1 if one is not as the document says
     python3 tools/differences.py --write DIR    also writes each as DIR/D1.bin and, with its armour on, DIR/D1.key
 
-Without OpenSSH 9.2 its half is left out, and the script says so: the document speaks of no other version. The crate's half is what it
-answered when oracle/answers.txt was made (stored_answers.py). The images are the same each time. Their keys are throw-away ones: the Ed25519 pair is RFC 8032's first test, the ECDSA scalars
-come from images.py, and what OpenSSH must have written itself is the corpus's, but for the one file below that has a
-cipher of OpenSSH's which document 01 lacks. Those of RSA keys are in differences_rsa.py.
+Without OpenSSH 9.2 its half is left out, and the script says so: the document speaks of no other version. The crate's
+half is what it answered when oracle/answers.txt was made (stored_answers.py). The images are the same each time.
+Their keys are throw-away ones: the Ed25519 pair is RFC 8032's first test, the ECDSA scalars come from images.py, and
+what OpenSSH must have written itself is the corpus's, but for the one file below that has a cipher of OpenSSH's which
+document 01 lacks. Those of RSA keys are in differences_rsa.py.
 """
 import base64
 import itertools
