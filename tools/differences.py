@@ -4,10 +4,11 @@
     python3 tools/differences.py                a line for each id; exit 1 if one is not as the document says
     python3 tools/differences.py --write DIR    also writes each as DIR/D1.bin and, with its armour on, DIR/D1.key
 
-Without OpenSSH 9.2 its half is left out, and the script says so: the document speaks of no other version. The crate's half is what it
-answered when oracle/answers.txt was made (stored_answers.py). The images are the same each time. Their keys are throw-away ones: the Ed25519 pair is RFC 8032's first test, the ECDSA scalars
-come from images.py, and what OpenSSH must have written itself is the corpus's, but for the one file below that has a
-cipher of OpenSSH's which document 01 lacks. Those of RSA keys are in differences_rsa.py.
+Without OpenSSH 9.2 its half is left out, and the script says so: the document speaks of no other version. The crate's
+half is what it answered when oracle/answers.txt was made (stored_answers.py). The images are the same each time.
+Their keys are throw-away ones: the Ed25519 pair is RFC 8032's first test, the ECDSA scalars come from images.py, and
+what OpenSSH must have written itself is the corpus's, but for the one file below that has a cipher of OpenSSH's which
+document 01 lacks. Those of RSA keys are in differences_rsa.py.
 """
 import base64
 import itertools
@@ -283,11 +284,16 @@ def said_by_crate(answer):
     return f"`TrailingData`, {count}" if number == "6" else f"`{ERRORS.get(told, told)}`"
 
 
-def crate_answers(cases):
-    """What the crate answered to each; nothing where no answer to that very image is stored."""
-    named = {answer.name: answer for answer in answers() if answer.name.startswith("D")}
-    kept = {case.id: named.get(case.id) for case in cases}
-    return {case.id: said_by_crate(kept[case.id]) if kept[case.id] and kept[case.id].image == case.image else "" for case in cases}
+def crate_answers():
+    """The crate's stored answers to the rows, by their ids."""
+    return {answer.name: answer for answer in answers() if answer.name.startswith("D")}
+
+
+def row_of(case, crate):
+    """What the document's row must say; nothing of the crate where no answer to that very image is stored."""
+    stored_answer = crate.get(case.id)
+    known = stored_answer is not None and stored_answer.image == case.image
+    return case.id, case.here, case.openssh, said_by_crate(stored_answer) if known else ""
 
 
 def said_by_document():
@@ -342,10 +348,10 @@ def main():
     differing = compare(cases, with_openssh) + compare_written(cases)
     if not with_openssh:
         print(f"no ssh-keygen of {OPENSSH} here: OpenSSH's half was left out")
-    crate = crate_answers(cases)
-    for row, right in itertools.zip_longest(said_by_document(), [(case.id, case.here, case.openssh, crate[case.id]) for case in cases]):
-        if row != right:
-            print("DIFFERS: docs/DIFFERENCES.md has", row, "for", right)
+    crate = crate_answers()
+    for said, right in itertools.zip_longest(said_by_document(), [row_of(case, crate) for case in cases]):
+        if said != right:
+            print("DIFFERS: docs/DIFFERENCES.md has", said, "for", right)
             differing += 1
     sys.exit(1 if differing else 0)
 

@@ -29,8 +29,8 @@ from fields import LIMIT, MAGIC, content
 from real_files import ROOT, RUN, said
 
 PACKAGES = [
-    "libmina-sshd-java", "libssh", "jsch", "bouncycastle", "golang-go.crypto", "keepassxc", "erlang", "openssh", "paramiko", "python-asyncssh",
-    "ruby-net-ssh", "libssh2", "twisted", "rust-ssh-key", "node-sshpk", "php-phpseclib3",
+    "libmina-sshd-java", "libssh", "jsch", "bouncycastle", "golang-go.crypto", "keepassxc", "erlang", "openssh", "paramiko",
+    "python-asyncssh", "ruby-net-ssh", "libssh2", "twisted", "rust-ssh-key", "node-sshpk", "php-phpseclib3",
 ]
 SUITES = ["sid", "trixie", "bookworm"]
 ARCHIVE = ROOT / "target" / "staticlib" / "libsaltorchard.a"
