@@ -1,9 +1,9 @@
 #!/usr/bin/env python3
-"""Makes the stored vectors of crates/replay_images, crates/replay_writing and crates/replay_records anew: the images, the calls and
+"""Makes the stored vectors of crates/replay_images, replay_writing, replay_records and replay_halves anew: the images, the calls and
 the records handed in, and what must be answered to each; and for the Rust tests the images of cases_places.py once more, each
 with its place and its field.
 
-    python3 tools/make_vectors.py            writes data/ and stdout of the three crates, and the file for the Rust tests
+    python3 tools/make_vectors.py            writes data/ and stdout of the four crates, and the file for the Rust tests
     python3 tools/make_vectors.py --check    only compares them with what would be written; exit status 1 if they differ
 
 It comes out the same each time: the images are made here or stored in tools/corpus, and the answers are those of model.py
@@ -56,6 +56,7 @@ CRATES = ROOT / "crates"
 REPLAY = CRATES / "replay_images"
 WRITING = CRATES / "replay_writing"
 RECORDS = CRATES / "replay_records"
+HALVES = CRATES / "replay_halves"
 PLACES = ROOT / "bindings" / "rust" / "tests" / "data" / "places"
 MUST_OCCUR = {
     "read": [0, 1, 2, 3, 4, 5, 6, 7, 11],
@@ -180,10 +181,10 @@ def rows():
 # ---- records handed in
 
 
-def handed():
+def handed(cases):
     """Every record with its image once, in the order in which they were made."""
     once = {}
-    for case in itertools.chain(record_cases(), half_record_cases(), rsa_record_cases()):
+    for case in cases:
         reply, after = records.answer(case)
         hold_call(case.title, case.reply, reply, calls.filled(case.room), after)
         hold_reply(f"{case.title}, its section", case.section, case.image, records.section_answer(case))
@@ -206,19 +207,20 @@ def counted(vectors, answers, by_hand):
 
 def made():
     """The files by their paths, and how often each entry gives each reply number."""
-    vectors, written, by_hand = images(), rows(), handed()
+    vectors, written = images(), rows()
+    by_hand = {RECORDS: handed(record_cases()), HALVES: handed(itertools.chain(half_record_cases(), rsa_record_cases()))}
     data = b"".join(len(image).to_bytes(4, "big") + image for image in vectors)
     text = "".join(expected(image) for image in vectors)
     answers = [answer for row in written.values() for answer in row]
     lines = "".join(calls.line(call.entry, reply, after) for call, reply, after in answers)
-    count = counted(vectors, answers, by_hand.values())
+    count = counted(vectors, answers, [case for once in by_hand.values() for case in once.values()])
     files = {
         REPLAY / "data" / "vectors": data,
         REPLAY / "stdout": text.encode(),
         WRITING / "data" / "calls": b"".join(written),
         WRITING / "stdout": lines.encode(),
-        RECORDS / "data" / "records": b"".join(by_hand),
-        RECORDS / "stdout": "".join(map(records.lines, by_hand.values())).encode(),
+        **{crate / "data" / "records": b"".join(once) for crate, once in by_hand.items()},
+        **{crate / "stdout": "".join(map(records.lines, once.values())).encode() for crate, once in by_hand.items()},
         PLACES: "".join(map(cases_places.stored, cases_places.rows())).encode(),
     }
     return files, count, vectors

@@ -1,4 +1,5 @@
-"""Records that are handed in by hand with an image: how they are stored for crates/replay_records, and what it must print.
+"""Records that are handed in by hand with an image: how they are stored for crates/replay_records and
+replay_halves, and what these must print.
 
 In the file of records every number is big-endian. A vector is the image's length and the lent buffer's, 4 bytes each, the
 record's 35 numbers, 8 bytes each, so that places near 2**64 can be tried, and the image's bytes. The numbers are kind (1 plain,

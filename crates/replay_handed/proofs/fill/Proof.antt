@@ -1,12 +1,12 @@
--- `replay_records::fill` is safe and ends. The loop's invariant: the buffer keeps its length. The measure is what is left of it.
+-- `replay_handed::fill` is safe and ends. The loop's invariant: the buffer keeps its length. The measure is what is left of it.
 -- Assumes nothing.
 use mathlib.Core.Path.{_≡_, refl}
 use Prim.Native.Nat.{_≤_, _-_}
 use native.Mathlib.Omega.{arith}
 use borrow.Author.Needs.{needs}
 use lib.ListN.{length, length-set}
-use Rattle.replay_records.proofs.fill.Statement.{statement}
-use Rattle.replay_records.proofs.fill.Tie as tie
+use Rattle.replay_handed.proofs.fill.Statement.{statement}
+use Rattle.replay_handed.proofs.fill.Tie as tie
 
 abbrev Inv-loop : tie.InvT-loop
 Inv-loop lent₀ i₀ lent i = (i ≤ length lent₀) × (length lent ≡ length lent₀)

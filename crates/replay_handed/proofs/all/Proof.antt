@@ -1,8 +1,8 @@
--- `replay_records::all` is safe and ends. The measure is the number of turns that are left; nothing has to hold from turn to turn.
+-- `replay_handed::all` is safe and ends. The measure is the number of turns that are left; nothing has to hold from turn to turn.
 -- Assumes nothing.
 use native.Mathlib.Omega.{arith}
-use Rattle.replay_records.proofs.all.Statement.{statement}
-use Rattle.replay_records.proofs.all.Tie as tie
+use Rattle.replay_handed.proofs.all.Statement.{statement}
+use Rattle.replay_handed.proofs.all.Tie as tie
 
 abbrev Inv-loop : tie.InvT-loop
 Inv-loop fd turns₀ turns = Unit {0}

@@ -1,0 +1,4 @@
+// Replays the stored header halves, each handed in within a record, and the records of RSA keys.
+fn main() {
+    replay_handed::replay_records();
+}

@@ -1,0 +1,308 @@
+// Replays records that are handed in by hand, for the programs that do so: reads them from the file `records`,
+// has each written again with its image, and writes the reply, the whole lent buffer afterwards, what the views
+// of it are, and what the section read makes of its header half.
+//
+// Every number in the file is big-endian. A vector is the image's length and the lent buffer's, four bytes
+// each, the record's 35 numbers, eight bytes each, and the image. The numbers are kind (1 plain, 2
+// encrypted), algorithm, cipher, KDF, rounds, checkint, padding and section, then start and length of
+// blob, point, scalar, comment, salt, ciphertext and tag, and then RSA's: bits, and start and length of
+// modulus, exponent, d, iqmp, p and q. What is said of RSA alone is left out where all of it is 0.
+ghost use mathlib.Core.Path.{_≡_};
+use fields::Part;
+use key_pairs::Private;
+use key_public::Public;
+use reader_header::Header;
+use reader_image::Fields;
+use reader_image::ImageRead;
+use reader_parts::Which;
+use reader_section::Kind;
+use reader_section::Section;
+use replay_telling::number_at;
+use replay_telling::say_number;
+use replay_telling::word;
+use writer_reply::Written;
+
+// ---- the record's numbers, which follow the two lengths
+
+// The lower half of the i-th number.
+fn lower(head: &[u8], i: u8) -> u32 {
+    number_at(head, (i as usize) * 8 + 12)
+}
+
+fn number(head: &[u8], i: u8) -> usize {
+    replay_telling::halves(number_at(head, (i as usize) * 8 + 8), lower(head, i))
+}
+
+// A start, and the length that follows it.
+fn place(head: &[u8], i: u8, j: u8) -> Part {
+    Part {
+        start: number(head, i),
+        length: number(head, j),
+    }
+}
+
+// ---- the record
+
+fn kind_of(code: u32) -> Kind {
+    if code == 1 {
+        return Kind::Plain;
+    }
+    Kind::Encrypted
+}
+
+fn public_of(head: &[u8]) -> Public {
+    Public {
+        point: place(head, 10, 11),
+        modulus: place(head, 23, 24),
+        exponent: place(head, 25, 26),
+        bits: number(head, 22),
+    }
+}
+
+fn private_of(head: &[u8]) -> Private {
+    Private {
+        scalar: place(head, 12, 13),
+        d: place(head, 27, 28),
+        iqmp: place(head, 29, 30),
+        p: place(head, 31, 32),
+        q: place(head, 33, 34),
+    }
+}
+
+fn header_of(head: &[u8]) -> Header {
+    Header {
+        cipher: replay_telling::cipher_of(lower(head, 2)),
+        kdf: replay_telling::kdf_of(lower(head, 3)),
+        salt: place(head, 16, 17),
+        rounds: lower(head, 4),
+        algorithm: replay_telling::algorithm_of(lower(head, 1)),
+        blob: place(head, 8, 9),
+        public: public_of(head),
+        section: number(head, 7),
+    }
+}
+
+fn section_of(head: &[u8]) -> Section {
+    Section {
+        kind: kind_of(lower(head, 0)),
+        checkint: lower(head, 5),
+        padding: number(head, 6),
+        private: private_of(head),
+        comment: place(head, 14, 15),
+        ciphertext: place(head, 18, 19),
+        tag: place(head, 20, 21),
+    }
+}
+
+fn record_of(head: &[u8]) -> Fields {
+    Fields {
+        header: header_of(head),
+        section: section_of(head),
+    }
+}
+
+// ---- what is said of it
+
+fn say_written(written: Written) {
+    match written {
+        Written::Refused(f) => {
+            let why = f.why;
+            replay_telling::say_reply(why.number(), why.count(), f.at, 0);
+        }
+        Written::Length(length) => replay_telling::say_reply(0, 0, 0, length),
+    }
+}
+
+// A view's length, and where that isn't 0 what remains of it modulo the prime.
+fn say_view(view: &[u8]) {
+    say_number(view.len());
+    if view.len() > 0 {
+        say_number(replay_telling::rest_of(view) as usize);
+    }
+}
+
+fn say_views(image: &[u8], f: Fields) {
+    word(b"views");
+    say_view(reader_parts::part(image, f, Which::Blob));
+    say_view(reader_parts::part(image, f, Which::Point));
+    say_view(reader_parts::part(image, f, Which::Scalar));
+    say_later_views(image, f);
+    word(b"\n");
+}
+
+fn say_later_views(image: &[u8], f: Fields) {
+    say_view(reader_parts::comment(image, f));
+    say_view(reader_parts::part(image, f, Which::Salt));
+    say_view(reader_parts::part(image, f, Which::Ciphertext));
+    say_view(reader_parts::part(image, f, Which::Tag));
+}
+
+fn empty(view: &[u8]) -> bool {
+    view.len() == 0
+}
+
+// Whether each view of RSA's numbers is empty.
+fn no_rsa_views(image: &[u8], f: Fields) -> bool {
+    empty(reader_parts::part(image, f, Which::Modulus))
+        & empty(reader_parts::part(image, f, Which::Exponent))
+        & empty(reader_parts::part(image, f, Which::D))
+        & empty(reader_parts::part(image, f, Which::Iqmp))
+        & empty(reader_parts::part(image, f, Which::P))
+        & empty(reader_parts::part(image, f, Which::Q))
+}
+
+fn say_rsa_views(image: &[u8], f: Fields) {
+    if no_rsa_views(image, f) {
+        return;
+    }
+    word(b"views-rsa");
+    say_view(reader_parts::part(image, f, Which::Modulus));
+    say_view(reader_parts::part(image, f, Which::Exponent));
+    say_view(reader_parts::part(image, f, Which::D));
+    say_view(reader_parts::part(image, f, Which::Iqmp));
+    say_view(reader_parts::part(image, f, Which::P));
+    say_view(reader_parts::part(image, f, Which::Q));
+    word(b"\n");
+}
+
+// ---- what the section read says of its header half
+
+fn say_place(part: Part) {
+    say_number(part.start);
+    say_number(part.length);
+}
+
+fn absent(part: Part) -> bool {
+    (part.start == 0) & (part.length == 0)
+}
+
+fn no_rsa(private: Private) -> bool {
+    absent(private.d) & absent(private.iqmp) & absent(private.p) & absent(private.q)
+}
+
+fn say_rsa(private: Private) {
+    if no_rsa(private) {
+        return;
+    }
+    word(b"section-rsa");
+    say_place(private.d);
+    say_place(private.iqmp);
+    say_place(private.p);
+    say_place(private.q);
+    word(b"\n");
+}
+
+fn say_section(section: Section) {
+    let kind = section.kind;
+    let private = section.private;
+    word(b" 0 0 0");
+    say_number(handed_record::kind_code(kind) as usize);
+    say_number(section.checkint as usize);
+    say_number(section.padding);
+    say_place(private.scalar);
+    say_place(section.comment);
+    say_place(section.ciphertext);
+    say_place(section.tag);
+    word(b"\n");
+    say_rsa(private);
+}
+
+fn say_section_read(image: &[u8], half: Header) {
+    word(b"section");
+    match reader_image::read_section(image, half) {
+        ImageRead::Refused(f) => {
+            let why = f.why;
+            replay_telling::say_reply(why.number(), why.count(), f.at, 0);
+            word(b"\n");
+        }
+        ImageRead::Record(g) => say_section(g.section),
+    }
+}
+
+// ---- the call
+
+// The i-th byte of a buffer before it is lent: never 0, and no run of one byte.
+fn stale(i: usize) -> u8 {
+    let seven = b"\xa1\xb2\xc3\xd4\xe5\xf6\x97";
+    fields::byte(seven, i % 7)
+}
+
+fn fill(lent: &mut [u8]) {
+    let mut i: usize = 0;
+    while i < lent.len() {
+        lent[i] = stale(i);
+        i += 1;
+    }
+}
+
+fn handed_in(image: &[u8], f: Fields, lent: &mut [u8]) {
+    fill(lent);
+    word(b"record   ");
+    say_written(writer_again::rewrite_record(image, f, lent));
+    replay_telling::say_buffer(lent);
+    say_views(image, f);
+    say_rsa_views(image, f);
+    say_section_read(image, f.header);
+}
+
+// ---- the vectors
+
+// The image; as many bytes as there are, if that is no more than the room for it.
+fn image_into(fd: i32, room: &mut [u8], length: usize) -> usize {
+    if room.len() < length {
+        return 0;
+    }
+    io::read_full(fd, &mut room[0..length])
+}
+
+fn replay(image: &[u8], head: &[u8]) {
+    let mut buffer = [0u8; 66000];
+    let length = number_at(head, 4) as usize;
+    if length > 66000 {
+        return;
+    }
+    handed_in(image, record_of(head), &mut buffer[0..length]);
+}
+
+// A vector, of which all but the image has been read.
+fn vector(fd: i32, head: &[u8]) {
+    let mut room = [0u8; 66000];
+    let n = image_into(fd, &mut room, number_at(head, 0) as usize);
+    let whole = Part {
+        start: 0,
+        length: n,
+    };
+    replay(fields::view(&room, whole), head);
+}
+
+// One vector; whether there was one.
+fn one(fd: i32) -> bool {
+    let mut head = [0u8; 288];
+    let got = io::read_full(fd, &mut head);
+    if got < 288 {
+        return false;
+    }
+    vector(fd, &head);
+    true
+}
+
+// A proved loop has to end, so it counts its turns down.
+fn all(fd: i32) {
+    let mut turns = u64::MAX;
+    while turns > 0 && one(fd) {
+        turns -= 1;
+    }
+}
+
+pub fn replay_records()
+    ensures { λ r. ⌜ r ≡ tt ⌝ }
+{
+    let path = b"records";
+    let fd = os::open_read(path);
+    if fd < 0 {
+        os::fail(path);
+        return;
+    }
+    all(fd);
+    libc::close(fd);
+}
