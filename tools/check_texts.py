@@ -105,10 +105,31 @@ def contracts_document():
 
 def named_functions():
     """Each `crate::name` that a document names is a function or a type there."""
-    for path in ["README.md", *glob.glob("docs/**/*.md", recursive=True)]:
+    for path in documents():
         for crate, name in re.findall(r"`(\w+)::(?:\w+::)?(\w+)", open(path, encoding="utf-8").read()):
             if os.path.isdir(f"crates/{crate}") and not re.search(r"\b%s\b" % name, all_text(f"crates/{crate}/src/*.rt")):
                 yield f"{path} names {crate}::{name}, which isn't there"
+
+
+def documents():
+    found = glob.glob("**/*.md", recursive=True)
+    return [path for path in found if "target" not in path.split("/")]
+
+
+def cited_files():
+    """Each file that a document links to, each path below crates/, and each specification or proof cited as crate/File is there."""
+    for path in documents():
+        here, text = os.path.dirname(path), open(path, encoding="utf-8").read()
+        for link in set(re.findall(r"\]\((?!https?:)([^)#\s]+)", text)):
+            if not os.path.exists(os.path.join(here, link)):
+                yield f"{path} links to {link}, which isn't there"
+        within = re.findall(r"(?<![\w./(-])[a-z]\w*/(?:specs|proofs|src|must-fail)/[\w/.-]*\w", text)
+        for named in {*re.findall(r"(?<![\w/])crates/\w[\w/.-]*\w", text), *(f"crates/{name}" for name in within if not os.path.exists(os.path.join(here, name)))}:
+            if not os.path.exists(named):
+                yield f"{path} names {named}, which isn't there"
+        for crate, name in set(re.findall(r"(?<![\w./-])([a-z]\w*)/([A-Z]\w+)(?![\w.-])", text)):
+            if not any(os.path.exists(f"crates/{crate}/{folder}/{name}.antt") for folder in ("specs", "proofs")):
+                yield f"{path} names {crate}/{name}, which isn't there"
 
 
 def licences():
@@ -122,7 +143,7 @@ def licences():
 
 
 def main():
-    wrong = list(licences()) + list(contracts()) + list(texts()) + list(contracts_document()) + list(named_functions())
+    wrong = list(licences()) + list(cited_files()) + list(contracts()) + list(texts()) + list(contracts_document()) + list(named_functions())
     wrong += check_places.faults() + check_entries.faults()
     for line in wrong:
         print(line)
