@@ -37,7 +37,7 @@ if command -v ssh-keygen >/dev/null; then
     new_key rsa -t rsa -b 1024 -N ""
     new_key locked -t ed25519 -N throw-away -a 1
 else
-    echo "ssh-keygen isn't here: no new keys of it"
+    echo "ssh-keygen isn't here: no new keys of it" >&2
 fi
 
 compare --files "$root/tools/corpus" --files "$work/rows" --files "$work/new" "$@"

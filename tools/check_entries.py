@@ -12,7 +12,7 @@ BY_HAND = {"recorded-rewrite": (("record_writing", "rewrite"), "isHanded")}
 # Their functions put bytes where they fit and answer a place: they refuse nothing.
 PUTS = ("buffer", "names_spelling")
 
-LENT = re.compile(r"&(?:'\w+ )?mut \[u8\]")
+LENT = re.compile(r"&(?:'\w+ )?mut \[u8[\];]")
 FUNCTION = re.compile(r'\bpub (?:extern "C" )?fn (\w+)(?:<[^>]*>)?\(([^)]*)\)(?:\s*->\s*(\w+))?(?:\s*ensures \{ λ \w+\. ⌜ (\w+))?')
 THEOREM = re.compile(
     r"^pub (\S+)-listed :\s+Listed \d+ (\S+)-kinds\.ps (\S+)-kinds\.r (\S+)-reads\.Post\s+\(λ κs a r s\.\s+PromiseC? \((\S+) ", re.M

@@ -1,8 +1,8 @@
 #!/usr/bin/env python3
 """What the gate holds the texts to, beside the proofs: every public function of a library has a contract that asks nothing,
 a theorem NAME-determined and a place in docs/CONTRACTS.md, every proof and specification file says at its top what it is, nothing
-names a place outside the project, what docs/CONTRACTS.md names is there, its table of places is that of cases_places.py, and the claims' list of entries is whole. It
-reads text and proves nothing."""
+names a place outside the project, what docs/CONTRACTS.md names is there, its table of places is that of cases_places.py, the claims'
+list of entries is whole, what a document links to is there, and README's counts are the tree's. It reads text and proves nothing."""
 import glob
 import os
 import re
@@ -124,12 +124,26 @@ def cited_files():
             if not os.path.exists(os.path.join(here, link)):
                 yield f"{path} links to {link}, which isn't there"
         within = re.findall(r"(?<![\w./(-])[a-z]\w*/(?:specs|proofs|src|must-fail)/[\w/.-]*\w", text)
-        for named in {*re.findall(r"(?<![\w/])crates/\w[\w/.-]*\w", text), *(f"crates/{name}" for name in within if not os.path.exists(os.path.join(here, name)))}:
+        below = [f"crates/{name}" for name in within if not os.path.exists(os.path.join(here, name))]
+        for named in {*re.findall(r"(?<![\w/])crates/\w[\w/.-]*\w", text), *below}:
             if not os.path.exists(named):
                 yield f"{path} names {named}, which isn't there"
         for crate, name in set(re.findall(r"(?<![\w./-])([a-z]\w*)/([A-Z]\w+)(?![\w.-])", text)):
             if not any(os.path.exists(f"crates/{crate}/{folder}/{name}.antt") for folder in ("specs", "proofs")):
                 yield f"{path} names {crate}/{name}, which isn't there"
+
+
+def counts():
+    """README's figures say how many crates, public functions and must-fail edits there are."""
+    sources = [without_comments(open(path, encoding="utf-8").read()) for path in glob.glob("crates/*/src/lib.rt")]
+    said = open("README.md", encoding="utf-8").read()
+    for row in (
+        f"lines of Rattle in {len(os.listdir('crates'))} crates",
+        f"| public functions | {sum(len(list(public_functions(text))) for text in sources)}, ",
+        f"| must-fail edits | {len(glob.glob('crates/*/must-fail/*.edit'))}, ",
+    ):
+        if row not in said:
+            yield f"README.md doesn't say: {row}"
 
 
 def licences():
@@ -143,7 +157,8 @@ def licences():
 
 
 def main():
-    wrong = list(licences()) + list(cited_files()) + list(contracts()) + list(texts()) + list(contracts_document()) + list(named_functions())
+    checks = (licences, counts, cited_files, contracts, texts, contracts_document, named_functions)
+    wrong = [line for check in checks for line in check()]
     wrong += check_places.faults() + check_entries.faults()
     for line in wrong:
         print(line)

@@ -4,7 +4,15 @@
 set -eu
 root=$(cd "$(dirname "$0")/.." && pwd)
 command -v rt >/dev/null 2>&1 || exec "$root/target/bin/$1"
-kit=$(dirname "$(dirname "$(rt doc)")")
+guide=$(rt doc </dev/null) || guide=
+case $guide in
+/*) ;;
+*)
+    echo "run_program.sh: rt doesn't say where the kit is" >&2
+    exit 2
+    ;;
+esac
+kit=$(dirname "$(dirname "$guide")")
 tools=$kit/on/$(uname -m)/toolchain
 [ -d "$tools" ] || tools=$kit/toolchain
 emulator=$tools/bin/qemu-x86_64
