@@ -309,7 +309,8 @@ def nobody_else(folder):
     planted.chmod(0o755)
     lost = with_script(folder, "rt", f'[ "$1" = check ] || exit 1\nexec {shutil.which("rt")} "$@"')
     hold("an rt that doesn't know its kit", ask(given=IMAGE, env=lost, cwd=folder)[:2], (2, ""))
-    hold("awk isn't there", ask(given=text_of(lines_of(IMAGE)), env=without(folder, "awk"))[:2], (2, ""))
+    for tool in ("awk", "base64", "grep", "head"):
+        hold(f"{tool} isn't there", ask(given=text_of(lines_of(IMAGE)), env=without(folder, tool))[:2], (2, ""))
 
 
 def stale(folder):
