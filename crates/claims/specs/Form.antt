@@ -1,48 +1,39 @@
 -- Demand 2, the form: write after read gives the image exactly where it is in the form. Of accepted plain images every one of a key that isn't
 -- ECDSA's is in the form, and of ECDSA's those whose scalar stands as RFC 4251's mpint; two things break it, a needless zero before the
 -- scalar, and a missing one. Every accepted encrypted image is in the form.
-use Prim.Native.Nat.{ℕ, zero, suc, _+_, _≤_, _<_, _^_}
+use Prim.Native.Nat.{ℕ, zero, suc, _+_, _≤_, _<_}
 use native.Mathlib.Omega.{arith}
 use mathlib.Core.Path.{_≡_, refl, sym, _∙_, ap, ap₂}
 use mathlib.Core.Bool.{Bool, true, false}
 use mathlib.Core.List.{List}
-use borrow.Author.Tests.{eq-eqb, ne-eqb, eqb-false, le-leb, leb-true, leb-false}
+use borrow.Author.Tests.{eq-eqb, ne-eqb, eqb-false, le-leb, leb-true}
 use lib.Dec.{leb, eqb}
 use lib.ListN.{length, take, getD}
 use Rattle.fields.specs.Bytes.{AllBytes, sameBytes, same-true, same-self}
-use Rattle.fields.specs.Fields.{whole, viewOf}
-use Rattle.fields.specs.Place.{clash, by-bool}
-use Rattle.fields.specs.Rest.{rest-whole, view-length}
-use Rattle.fields.specs.Room.{view-out}
+use Rattle.fields.specs.Fields.{viewOf}
+use Rattle.fields.specs.Place.{clash}
 use Rattle.names.specs.declared.Elliptic.the-variants.{Ed25519, Ecdsa}
 use Rattle.names.specs.declared.Algorithm.{Algorithm}
 use Rattle.names.specs.declared.Algorithm.the-variants.{Elliptic as OnCurve, Rsa}
 use Rattle.names.specs.declared.Curve.{Curve}
-use Rattle.names.specs.declared.Kdf.{Kdf}
 use Rattle.names.specs.Algorithms.{sizeOf}
-use Rattle.names.specs.declared.Kdf.the-variants as kdf
 use Rattle.mpint.specs.Mpint.{isMpint}
-use Rattle.format.specs.Format.{PrivateBytes, OptionsFit, PrivateFits, MayStand, standing, leadingZero, zeroLength, zerosAsked, blob, keypair, plainImage, writtenImage, encryptedImage}
+use Rattle.format.specs.Format.{PrivateBytes, PrivateFits, MayStand, standing, leadingZero, zeroLength, zerosAsked, blob, keypair, plainImage}
 use Rattle.key_pairs.specs.Pairs.{privateBytes}
-use Rattle.fields.specs.declared.Part.{Part}
 use Rattle.format.specs.Laws.{standing-same}
 use Rattle.format.specs.Scalars.{mpint-standing}
-use Rattle.laws_keys.specs.Back.{blob-back}
 use Rattle.reader_section.specs.declared.Kind.the-variants.{Plain, Encrypted}
 use Rattle.reader_image.specs.declared.Fields.{Fields}
 use Rattle.reader_image.specs.declared.ImageRead.the-variants as read
-use Rattle.reader_image.specs.Container.{publicIn, privateIn, materialIn, readAt}
+use Rattle.reader_image.specs.Container.{publicIn, privateIn, readAt}
 use Rattle.reader_image.specs.Form.{rewritten, formOf}
-use Rattle.reader_image.specs.Read.{PlainText, EncryptedText, ImageText, plain-text, encrypted-text, image-text}
+use Rattle.reader_image.specs.Read.{PlainText, ImageText, plain-text, encrypted-text, image-text}
 use Rattle.reader_image.specs.FormLaws.{scalar-short, form-agrees, form-encrypted, plain-of}
 use Rattle.buffer.specs.Puts.{splice, take-splice}
 use Rattle.writer_reply.specs.declared.Written.the-variants as written
 use Rattle.writer_reply.specs.Reply.{left, sized}
-use Rattle.writer_plain.specs.Plain.{plainLeft}
-use Rattle.writer_encrypted.specs.Encrypted.{optionsFit, encryptedReply, encryptedLeft}
-use Rattle.writer_again.specs.Rewrite.{plainAgain, plainAgainLeft, recordReply, recordLeft, rewriteReply, rewriteLeft}
-use Rattle.comment_change.specs.Change.{afresh, afreshReply}
-use Rattle.comment_change.specs.Afresh.{afresh-sized}
+use Rattle.writer_again.specs.Rewrite.{rewriteReply, rewriteLeft}
+use Rattle.writer_again.specs.Sized.{record-sized, record-left, image-small}
 use Rattle.claims.specs.Reading.{sized-held}
 
 -- ---- which images are in the form
@@ -177,66 +168,19 @@ rsa-in-form s all f e rsa = go (image-text s all f e)
 
 -- ---- write after read
 
--- a part is no longer than its image
-part-within : (s : List ℕ) (p : Part) → length (viewOf s p) ≤ length s
-part-within s p =
-    by-bool (leb (p .start + p .length) (length s))
-    (λ w.
-    let inside = leb-true (p .start + p .length) (length s) w in
-    omega (arith, view-length s p inside, inside))
-    (λ w. rw (view-out s p (leb-false (p .start + p .length) (length s) w) .0) (omega arith))
-
 pub sized-fits : (image : List ℕ) (room : ℕ) → length image ≤ 65535 → length image ≤ room → sized image room ≡ written.Length (length image)
 unfolding sized
 sized-fits image room h k = rw (le-leb _ _ h, le-leb _ _ k)
 
-options-told : (k : Kdf) (salt : List ℕ) (rounds : ℕ) → OptionsFit k salt rounds → optionsFit k salt rounds ≡ true
-options-told kdf.None salt rounds h = rw (h .0, h .1)
-options-told kdf.Bcrypt salt rounds h = refl
-
 module _ (s : List ℕ) (all : AllBytes s) (f : Fields) (e : readAt s ≡ read.Record f) where
-  -- an accepted image's record passes every test of its writer but size and room
-  plain-again : PlainText s f → (room : ℕ)
-      → plainAgain s f room ≡ sized (writtenImage (f .section .checkint) (f .header .algorithm) (publicIn s f) (materialIn s f) (viewOf s (f .section .comment))) room
-  unfolding plainAgain afreshReply afresh
-  plain-again p room = afresh-sized s f p (viewOf s (f .section .comment)) (p .key-fits .text) room
-
-  encrypted-again : EncryptedText s f → (room : ℕ) → encryptedReply (f .header .cipher) (f .header .kdf) (viewOf s (f .header .salt)) (f .header .rounds)
-      (viewOf s (f .header .blob)) (viewOf s (f .section .ciphertext)) (viewOf s (f .section .tag)) room
-      ≡ sized (encryptedImage (f .header .cipher) (f .header .kdf) (viewOf s (f .header .salt)) (f .header .rounds) (viewOf s (f .header .blob))
-      (viewOf s (f .section .ciphertext)) (viewOf s (f .section .tag))) room
-  unfolding encryptedReply
-  encrypted-again p room =
-      let key = viewOf s (f .header .blob) in
-      let fits = p .seal-fits in
-      let whole-good : (0 ≤ length key) × (length key ≤ length key) = (omega arith, omega arith) in
-      let short : length key < 2 ^ 32 = omega (arith, p .fits, part-within s (f .header .blob)) in
-      let b = blob-back key (whole key) whole-good short (f .header .algorithm) (publicIn s f) (fits .public) (rest-whole key ∙ p .content) in
-      rw (fits .encrypts, options-told (f .header .kdf) (viewOf s (f .header .salt)) (f .header .rounds) (fits .options-fit), b .read, eq-eqb _ _ (fits .blocks), eq-eqb _ _ (fits .tag-long))
-
-  -- so a rewrite is refused for size and room only
+  -- a rewrite is refused for size and room only
   pub rewrite-sized : (room : ℕ) → rewriteReply s room ≡ sized (rewritten s f) room
-  unfolding rewriteReply recordReply rewritten plainAgain
-  rewrite-sized room = rw e (go (image-text s all f e))
-    where
-      go : ImageText s all f e → recordReply s f room ≡ sized (rewritten s f) room
-      go (plain-text kind p) = rw kind (plain-again p room)
-      go (encrypted-text kind p) = rw kind (encrypted-again p room)
+  unfolding rewriteReply
+  rewrite-sized room = rw e (record-sized s all f e room)
 
   rewrite-left : (old : List ℕ) → rewriteLeft s old ≡ left (sized (rewritten s f) (length old)) (rewritten s f) old
-  unfolding rewriteLeft recordLeft rewritten plainAgain plainAgainLeft plainLeft encryptedLeft
-  rewrite-left old = rw e (go (image-text s all f e))
-    where
-      go : ImageText s all f e → recordLeft s f old ≡ left (sized (rewritten s f) (length old)) (rewritten s f) old
-      go (plain-text kind p) = rw (kind, plain-again p (length old))
-      go (encrypted-text kind p) = rw (kind, encrypted-again p (length old))
-
-  image-small : length s ≤ 65535
-  image-small = go (image-text s all f e)
-    where
-      go : ImageText s all f e → length s ≤ 65535
-      go (plain-text kind p) = p .fits
-      go (encrypted-text kind p) = p .fits
+  unfolding rewriteLeft
+  rewrite-left old = rw e (record-left s all f e old)
 
   -- in the form, writing the record into a buffer with room gives the image
   pub rewrite-in-form :
@@ -245,7 +189,7 @@ module _ (s : List ℕ) (all : AllBytes s) (f : Fields) (e : readAt s ≡ read.R
   rewrite-in-form old form room =
       let same : rewritten s f ≡ s = same-true (rewritten s f) s form in
       let fit : 0 + length s ≤ length old = omega arith in
-      let answer : sized (rewritten s f) (length old) ≡ written.Length (length s) = rw same (sized-fits s (length old) image-small room) in
+      let answer : sized (rewritten s f) (length old) ≡ written.Length (length s) = rw same (sized-fits s (length old) (image-small s all f e) room) in
       let end : length s ≡ 0 + length s = omega arith in
       (rewrite-sized (length old) ∙ answer, rw (rewrite-left old, answer, same) (ap (λ (i : ℕ). take i (splice old 0 s)) end ∙ take-splice old 0 s fit))
 

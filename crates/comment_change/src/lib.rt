@@ -11,7 +11,7 @@ ghost use Rattle.comment_change.specs.Shell.{shellAt, isRenewed};
 use fields::Fault;
 use fields::Refusal;
 use reader_image::Fields;
-use reader_image::FormRead;
+use reader_image::ImageRead;
 use reader_section::Kind;
 use writer_reply::Written;
 
@@ -88,8 +88,11 @@ pub fn change_comment(lent: &mut [u8], n: usize, comment: &[u8]) -> Written
     if lent.len() < n {
         return writer_reply::refused(Refusal::Length);
     }
-    match reader_image::read_with_form(&lent[..n]) {
-        FormRead::Refused(f) => Written::Refused(f),
-        FormRead::Record(f, form) => change_record(lent, n, f, form, comment),
+    match reader_image::read(&lent[..n]) {
+        ImageRead::Refused(f) => Written::Refused(f),
+        ImageRead::Record(f) => {
+            let form = reader_image::scalar_in_form(&lent[..n], f);
+            change_record(lent, n, f, form, comment)
+        }
     }
 }

@@ -27,10 +27,9 @@ use Rattle.reader_section.specs.Back.{KeyFits}
 use Rattle.reader_image.specs.declared.Fields.{Fields}
 use Rattle.reader_image.specs.declared.ImageRead.{ImageRead}
 use Rattle.reader_image.specs.declared.ImageRead.the-variants as read
-use Rattle.reader_image.specs.declared.FormRead.the-variants as form-read
 use Rattle.reader_image.specs.Back.{PlainImageBack}
 use Rattle.reader_image.specs.Container.{publicIn, privateIn, readAt}
-use Rattle.reader_image.specs.Form.{rewritten, formOf, formReadAt, scalarStands, scalarInForm}
+use Rattle.reader_image.specs.Form.{rewritten, formOf, scalarStands, scalarInForm}
 use Rattle.reader_image.specs.Read.{PlainText, EncryptedText, ImageText, plain-text, encrypted-text, image-text}
 
 -- a scalar is short, and RSA has none
@@ -126,29 +125,11 @@ form-scalar s all f e = go (image-text s all f e)
     go (plain-text plain p) = form-agrees s f p plain ∙ sym (scalar-agrees s f p plain)
     go (encrypted-text encrypted p) = form-encrypted s f p encrypted ∙ sym (scalar-encrypted s f encrypted)
 
--- ---- what a read with the form says of the read
+-- ---- by what a read answered
 
 pub by-read : {P : Type 0} (w : ImageRead) → ((g : Fault) → w ≡ read.Refused g → P) → ((f : Fields) → w ≡ read.Record f → P) → P
 by-read (read.Refused g) refused record′ = refused g refl
 by-read (read.Record f) refused record′ = record′ f refl
-
-pub form-refused : (s : List ℕ) (g : Fault) → formReadAt s ≡ form-read.Refused g → readAt s ≡ read.Refused g
-unfolding formReadAt
-form-refused s g e =
-    by-read (readAt s)
-    (λ h w. let i : form-read.Refused h ≡ form-read.Refused g = rw w at e in w ∙ ap read.Refused (let o : h ≡ g = cc in o))
-    (λ f w. let i = rw w at e in clash cc)
-
-pub form-record : (s : List ℕ) (f : Fields) (form : Bool) → formReadAt s ≡ form-read.Record f form → (readAt s ≡ read.Record f) × (form ≡ formOf s f)
-unfolding formReadAt
-form-record s f form e =
-    by-read (readAt s)
-    (λ h w. let i = rw w at e in clash cc)
-    (λ h w.
-    let i : form-read.Record h (formOf s h) ≡ form-read.Record f form = rw w at e in
-    let o : h ≡ f = cc in
-    let b : formOf s h ≡ form = cc in
-    (w ∙ ap read.Record o, sym b ∙ ap (formOf s) o))
 
 -- an accepted image whose record is plain
 pub plain-of : (s : List ℕ) (all : AllBytes s) (f : Fields) → readAt s ≡ read.Record f → f .section .kind ≡ Plain → PlainText s f

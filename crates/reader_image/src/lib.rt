@@ -2,7 +2,7 @@
 // section step. The record's fields are plain data, places in the image among them.
 ghost use mathlib.Core.Path.{_≡_};
 ghost use Prim.Native.Nat.{_<_};
-ghost use Rattle.reader_image.specs.Container.{sectionAt, goOnAt, answersRead, answersSection};
+ghost use Rattle.reader_image.specs.Container.{sectionAt, answersRead, answersSection};
 ghost use Rattle.reader_image.specs.Form.{scalarStands, scalarInForm, answersForm, answersSectionForm};
 ghost use Rattle.key_pairs.specs.Pairs.{beginsBefore};
 use fields::Cursor;
@@ -55,26 +55,19 @@ fn section_step(image: &[u8], header: Header) -> SectionRead
     reader_section::read_encrypted(c, image, cipher)
 }
 
-// The record of a header and the section after it.
-fn go_on(image: &[u8], header: Header) -> ImageRead
-    ensures { λ r. ⌜ r ≡ goOnAt (now (image .entry)) header ⌝ }
-{
-    match section_step(image, header) {
-        SectionRead::Refused(f) => ImageRead::Refused(f),
-        SectionRead::Section(x) => ImageRead::Record(Fields {
-            header: header,
-            section: x,
-        }),
-    }
-}
-
 // The full read: the header read, then the section.
 pub fn read(image: &[u8]) -> ImageRead
     ensures { λ r. ⌜ answersRead (now (image .entry)) r ⌝ }
 {
     match reader_header::read_header(image) {
         HeaderRead::Refused(f) => ImageRead::Refused(f),
-        HeaderRead::Header(h) => go_on(image, h),
+        HeaderRead::Header(h) => match section_step(image, h) {
+            SectionRead::Refused(f) => ImageRead::Refused(f),
+            SectionRead::Section(x) => ImageRead::Record(Fields {
+                header: h,
+                section: x,
+            }),
+        },
     }
 }
 
@@ -83,7 +76,13 @@ pub fn read_section(image: &[u8], half: Header) -> ImageRead
     ensures { λ r. ⌜ answersSection (now (image .entry)) half r ⌝ }
 {
     if handed_header::is_header(image, half) {
-        return go_on(image, half);
+        return match section_step(image, half) {
+            SectionRead::Refused(f) => ImageRead::Refused(f),
+            SectionRead::Section(x) => ImageRead::Record(Fields {
+                header: half,
+                section: x,
+            }),
+        };
     }
     ImageRead::Refused(Fault {
         why: Refusal::Length,
@@ -123,8 +122,9 @@ fn scalar_stands(image: &[u8], e: Elliptic, scalar: Part) -> bool
     }
 }
 
-// Does the scalar of an accepted image stand so? RSA has none.
-fn scalar_in_form(image: &[u8], f: Fields) -> bool
+// Does the scalar of a record stand so? RSA has none. For an image's own record that says whether the image is in
+// the writer's form.
+pub fn scalar_in_form(image: &[u8], f: Fields) -> bool
     ensures { λ r. ⌜ r ≡ scalarInForm (now (image .entry)) f ⌝ }
 {
     let header = f.header;

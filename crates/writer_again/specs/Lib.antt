@@ -1,1 +1,2 @@
 pub mod Rewrite
+pub mod Sized

@@ -1,4 +1,7 @@
 // An image's record written again.
+ghost use Prim.Native.Nat.{_≤_};
+ghost use lib.ListN.{length};
+ghost use Rattle.writer_reply.specs.Reply.{isSized};
 ghost use Rattle.writer_again.specs.Rewrite.{isPlainAgain, isRewrite, isRewritten, isHanded};
 use fields::Refusal;
 use names::Algorithm;
@@ -61,13 +64,29 @@ fn write_record(image: &[u8], f: Fields, out: &mut [u8]) -> Written
     }
 }
 
-// An image's record written again, with its own checkint where it is plain.
+// An image written as it is.
+fn write_as_is(image: &[u8], out: &mut [u8]) -> Written
+    requires { ⌜ length (now image) ≤ 65535 ⌝ }
+    ensures { λ r. ⌜ isSized (now (image .entry)) (now (out .entry)) r (now (out .exit)) ⌝ }
+{
+    if out.len() < image.len() {
+        return writer_reply::refused(Refusal::Room);
+    }
+    Written::Length(buffer::put(out, 0, image))
+}
+
+// An image's record written again, with its own checkint where it is plain. In the form that is the image itself.
 pub fn rewrite(image: &[u8], out: &mut [u8]) -> Written
     ensures { λ r. ⌜ isRewritten (now (image .entry)) (now (out .entry)) r (now (out .exit)) ⌝ }
 {
     match reader_image::read(image) {
         ImageRead::Refused(f) => Written::Refused(f),
-        ImageRead::Record(f) => write_record(image, f, out),
+        ImageRead::Record(f) => {
+            if reader_image::scalar_in_form(image, f) {
+                return write_as_is(image, out);
+            }
+            write_record(image, f, out)
+        }
     }
 }
 

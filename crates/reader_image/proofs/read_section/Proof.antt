@@ -1,6 +1,7 @@
--- `reader_image::read_section` meets its contract: the judgement picks the case of `sectionReadAt`. Assumes nothing.
-use mathlib.Core.Path.{refl, ap}
-use Rattle.reader_image.specs.Container.{sectionReadAt, toldRead}
+-- `reader_image::read_section` meets its contract: the judgement and what the section step answered pick the case of `sectionReadAt`.
+-- Assumes nothing.
+use mathlib.Core.Path.{refl}
+use Rattle.reader_image.specs.Container.{sectionReadAt}
 use borrow.Author.Needs.{needs}
 use Rattle.reader_image.proofs.read_section.Statement.{statement}
 use Rattle.reader_image.proofs.read_section.Tie as tie
@@ -8,16 +9,35 @@ use Rattle.reader_image.proofs.read_section.Tie as tie
 is-header-requires : tie.Need-is-header-requires
 is-header-requires c κs = search needs
 
-go-on-requires : tie.Need-go-on-requires
-go-on-requires c κs = search needs
+section-step-requires : tie.Need-section-step-requires
+section-step-requires c κs = search needs
+
+enum-known-f : tie.Need-enum-known-f
+enum-known-f c = search needs
+
+enum-known-x : tie.Need-enum-known-x
+enum-known-x c = search needs
 
 returns : tie.Need-returns
 unfolding sectionReadAt
-returns c = rw (← c .before .before .is-header .ensures, c .before .if1 .taken) (c .go-on .ensures, ap toldRead (c .go-on .ensures))
+returns c = rw (← c .before .before .before .before .before .is-header .ensures, c .before .before .before .before .if1 .taken, ← c .before .before .before .section-step .ensures, c .before .f .given .1) (refl, refl)
 
 returns-2 : tie.Need-returns-2
 unfolding sectionReadAt
-returns-2 c = rw (← c .before .is-header .ensures, c .if1 .left) (refl, refl)
+returns-2 c = rw (← c .before .before .before .before .before .is-header .ensures, c .before .before .before .before .if1 .taken, ← c .before .before .before .section-step .ensures, c .before .x .given .1) (refl, refl)
+
+returns-3 : tie.Need-returns-3
+unfolding sectionReadAt
+returns-3 c = rw (← c .before .is-header .ensures, c .if1 .left) (refl, refl)
 
 pub read-section-spec : {M : Type 1} → statement M
-read-section-spec = tie.close (tie.spec is-header-requires go-on-requires returns returns-2)
+read-section-spec =
+    tie.close
+    (tie.spec
+    is-header-requires
+    section-step-requires
+    enum-known-f
+    enum-known-x
+    returns
+    returns-2
+    returns-3)
