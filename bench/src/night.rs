@@ -1,0 +1,243 @@
+//! The night's job: each file of a folder is read whole, rewritten and compared with what was written, and the answers are counted.
+//! No name of a file and no byte of one is printed.
+
+use crate::images::LIMIT;
+use crate::night_files::{Folder, Made};
+use crate::passes::opaque;
+use crate::rounds::{in_rounds, median, order, rounds, WARM_UP};
+use crate::yardstick;
+use saltorchard::raw::{self, Reply};
+use std::collections::BTreeMap;
+use std::fs::{self, File};
+use std::io::{self, Read};
+use std::path::{Path, PathBuf};
+use std::time::Instant;
+
+/// What is said of a file.
+#[derive(Clone, Copy, PartialEq)]
+pub enum Verdict {
+    /// It was read from disk, and nobody was asked.
+    NotAsked,
+    /// It can't be read from disk.
+    NotRead,
+    /// Written again, it is the same.
+    Equal,
+    /// Written again, it is another.
+    NotInForm,
+    /// By its number; 0 where there are none.
+    Refused(u64),
+}
+use Verdict::*;
+
+/// Who does the job: by the image and a lent buffer to write to.
+pub struct Worker {
+    pub name: &'static str,
+    pub judge: fn(&[u8], &mut [u8]) -> Verdict,
+    /// What it must say of a file that was made so.
+    pub of_made: fn(Made) -> Verdict,
+}
+
+pub const FILES_ALONE: Worker = Worker { name: "files alone", judge: |_, _| NotAsked, of_made: |_| NotAsked };
+pub const LIBRARY: Worker =
+    Worker { name: "library", judge: |image, out| verdict(raw::rewrite(image, out), image, out), of_made: our_verdict };
+pub const YARDSTICK: Worker = Worker {
+    name: "yardstick",
+    judge: |image, out| verdict(yardstick::rewrite(image, out), image, out),
+    of_made: our_verdict,
+};
+
+fn verdict(reply: Reply, image: &[u8], out: &[u8]) -> Verdict {
+    match reply.number {
+        0 if out[..reply.length as usize] == *image => Equal,
+        0 => NotInForm,
+        number => Refused(number),
+    }
+}
+
+fn our_verdict(made: Made) -> Verdict {
+    match made {
+        Made::InForm => Equal,
+        Made::ZeroMissing | Made::ZeroBefore | Made::FullWidth => NotInForm,
+        Made::CutShort => Refused(1),
+    }
+}
+
+/// The job over the folder's files, or over made ones below `target`, by the files alone, the library, the yardstick, and whoever
+/// comes after these.
+pub fn run(workers: &[Worker], folder: Option<&Path>, target: &str, only_check: bool) -> Result<(), String> {
+    if let Some(folder) = folder {
+        return over(workers, folder, &[], only_check);
+    }
+    let made = Folder::filled(target).map_err(|why| format!("the night's files can't be made: {}", why))?;
+    over(workers, &made.path, &made.made, only_check)
+}
+
+fn over(workers: &[Worker], folder: &Path, made: &[Made], only_check: bool) -> Result<(), String> {
+    let (files, left_out) = files_of(folder).map_err(|why| format!("the folder can't be read: {}", why))?;
+    if files.is_empty() {
+        return Err("the folder has no file".to_string());
+    }
+    let mut job = Job { files, image: vec![0; LIMIT + 1], out: vec![0; LIMIT] };
+    let said: Vec<Vec<Verdict>> = workers.iter().map(|worker| job.pass(worker).verdicts).collect();
+    hold_to_made(workers, &said, made)?;
+    hold_alike(&said[1], &said[2])?;
+    println!("{} files; {} entries of the folder are none and were left out.\n", job.files.len(), left_out);
+    print_counts(workers, &said);
+    if only_check {
+        println!("The night's job ran once. No times: this was a check.");
+        return Ok(());
+    }
+    print_times(workers, job.files.len(), &job.times(workers, &said)?);
+    Ok(())
+}
+
+/// The files in the order of their names, and how many entries aren't files.
+fn files_of(folder: &Path) -> io::Result<(Vec<PathBuf>, usize)> {
+    let mut paths = fs::read_dir(folder)?.map(|entry| Ok(entry?.path())).collect::<io::Result<Vec<_>>>()?;
+    let entries = paths.len();
+    paths.retain(|path| fs::metadata(path).map_or(false, |found| found.is_file()));
+    paths.sort();
+    let left_out = entries - paths.len();
+    Ok((paths, left_out))
+}
+
+struct Job {
+    files: Vec<PathBuf>,
+    image: Vec<u8>,
+    out: Vec<u8>,
+}
+
+struct Pass {
+    verdicts: Vec<Verdict>,
+    milliseconds: f64,
+}
+
+impl Job {
+    fn pass(&mut self, worker: &Worker) -> Pass {
+        let judge = opaque(worker.judge);
+        let mut verdicts = Vec::with_capacity(self.files.len());
+        let start = Instant::now();
+        for path in &self.files {
+            verdicts.push(match read_whole(path, &mut self.image) {
+                Ok(length) => judge(&self.image[..length], &mut self.out),
+                Err(_) => NotRead,
+            });
+        }
+        Pass { milliseconds: start.elapsed().as_secs_f64() * 1e3, verdicts }
+    }
+
+    /// Each worker's median milliseconds, where each says the same in all rounds.
+    fn times(&mut self, workers: &[Worker], said: &[Vec<Verdict>]) -> Result<Vec<f64>, String> {
+        let mut changed = false;
+        let rounds = in_rounds(workers.len(), |turn| {
+            let mut times = vec![0.0; workers.len()];
+            for seat in order(workers.len(), turn) {
+                let pass = self.pass(&workers[seat]);
+                changed |= pass.verdicts != said[seat];
+                times[seat] = pass.milliseconds;
+            }
+            times
+        });
+        if changed {
+            return Err("what is said of a file changed from one round to another: did the file?".to_string());
+        }
+        Ok((0..workers.len()).map(|seat| median(rounds.iter().map(|times| times[seat]).collect())).collect())
+    }
+}
+
+/// How long the file is; of one that fills the buffer no more is read.
+fn read_whole(path: &Path, buffer: &mut [u8]) -> io::Result<usize> {
+    let mut file = File::open(path)?;
+    let mut length = 0;
+    while length < buffer.len() {
+        match file.read(&mut buffer[length..])? {
+            0 => break,
+            count => length += count,
+        }
+    }
+    Ok(length)
+}
+
+fn hold_to_made(workers: &[Worker], said: &[Vec<Verdict>], made: &[Made]) -> Result<(), String> {
+    if made.is_empty() {
+        return Ok(());
+    }
+    for (worker, said) in workers.iter().zip(said) {
+        let right: Vec<Verdict> = made.iter().map(|made| (worker.of_made)(*made)).collect();
+        if right.len() != said.len() || right != *said {
+            let wrong = right.iter().zip(said).filter(|(right, said)| right != said).count();
+            return Err(format!(
+                "{}: {} of {} made files were judged otherwise than made",
+                worker.name,
+                wrong,
+                made.len()
+            ));
+        }
+    }
+    Ok(())
+}
+
+fn hold_alike(library: &[Verdict], yardstick: &[Verdict]) -> Result<(), String> {
+    match library.iter().zip(yardstick).filter(|(ours, theirs)| ours != theirs).count() {
+        0 => Ok(()),
+        wrong => Err(format!("library and yardstick say different things of {} files", wrong)),
+    }
+}
+
+fn print_counts(workers: &[Worker], said: &[Vec<Verdict>]) {
+    println!("| | the same again | not in the form | refused | not to be read |\n|---|---|---|---|---|");
+    for (worker, said) in workers.iter().zip(said).skip(1) {
+        let count = |which: fn(&Verdict) -> bool| said.iter().filter(|verdict| which(verdict)).count();
+        let (equal, other) = (count(|verdict| *verdict == Equal), count(|verdict| *verdict == NotInForm));
+        let (refused, not_read) = (count(is_refused), count(|verdict| *verdict == NotRead));
+        println!("| {} | {} | {} | {} | {} |", worker.name, equal, other, refused, not_read);
+    }
+    println!();
+    print_refused(&said[1]);
+    for (worker, theirs) in workers.iter().zip(said).skip(3) {
+        print_differences(worker.name, &said[1], theirs);
+    }
+}
+
+fn is_refused(verdict: &Verdict) -> bool {
+    matches!(verdict, Refused(_))
+}
+
+fn print_refused(library: &[Verdict]) {
+    let mut counts = BTreeMap::new();
+    for verdict in library {
+        if let Refused(number) = verdict {
+            *counts.entry(number).or_insert(0) += 1;
+        }
+    }
+    for (number, count) in counts {
+        println!("Refused by the library with number {}: {}.", number, count);
+    }
+}
+
+fn print_differences(name: &str, library: &[Verdict], theirs: &[Verdict]) {
+    let count = |which: fn(&Verdict, &Verdict) -> bool| {
+        library.iter().zip(theirs).filter(|(ours, theirs)| which(ours, theirs)).count()
+    };
+    println!(
+        "Of files in the form the {} writes {} otherwise and refuses {}. Of those that aren't it gives {} back as they are and \
+         refuses {}. Of those that the library refuses it reads {}.",
+        name,
+        count(|ours, theirs| *ours == Equal && *theirs == NotInForm),
+        count(|ours, theirs| *ours == Equal && is_refused(theirs)),
+        count(|ours, theirs| *ours == NotInForm && *theirs == Equal),
+        count(|ours, theirs| *ours == NotInForm && is_refused(theirs)),
+        count(|ours, theirs| is_refused(ours) && !is_refused(theirs)),
+    );
+}
+
+fn print_times(workers: &[Worker], files: usize, times: &[f64]) {
+    println!("\nMedians of {} rounds after {} to warm up; no buffer is cleared.\n", rounds(workers.len()), WARM_UP);
+    println!("| | ms a night | µs a file | library to it | both without the files alone |\n|---|---|---|---|---|");
+    let (alone, library) = (times[0], times[1]);
+    for (seat, (worker, time)) in workers.iter().zip(times).enumerate() {
+        let without = if seat == 0 { String::new() } else { format!("{:.2}", (library - alone) / (time - alone)) };
+        print!("| {} | {:.2} | {:.2} |", worker.name, time, time * 1e3 / files as f64);
+        println!(" {:.2} | {} |", library / time, without);
+    }
+}
