@@ -14,7 +14,7 @@ mod same;
 mod timing;
 mod yardstick;
 
-use rounds::{in_rounds, median, order, print_head, print_row};
+use rounds::{in_rounds, median, order, print_head, print_row, print_waiting, ROUNDS};
 use std::ffi::OsString;
 use std::path::Path;
 use std::process::exit;
@@ -61,7 +61,7 @@ fn table(seats: Seats, only_check: bool) -> Result<(), String> {
         println!("Every job ran once. No times: this was a check.");
         return Ok(());
     }
-    let rounds = in_rounds(seats.len(), |turn| round(&mut groups, &seats, turn));
+    let rounds = in_rounds(ROUNDS, |turn| round(&mut groups, &seats, turn));
     if seats[LIBRARY] != LIBRARY {
         println!("The yardstick sits in all four seats: every ratio is to be near 1.");
     }
@@ -85,7 +85,7 @@ fn round(groups: &mut [Group; GROUPS], seats: &Seats, turn: usize) -> Round {
 }
 
 fn print_table(groups: &[Group; GROUPS], rounds: &[Round]) {
-    print_head(&COMPETITORS);
+    print_head(ROUNDS, &COMPETITORS);
     for (job, name) in JOBS.iter().enumerate() {
         for (which, images) in [(&[0, 1][..], "all but RSA"), (&[0], "small"), (&[1], "long"), (&[2], "RSA")] {
             let calls = which.iter().map(|&group| groups[group].calls(job)).sum();
@@ -94,6 +94,7 @@ fn print_table(groups: &[Group; GROUPS], rounds: &[Round]) {
         }
     }
     println!("\nTimes are nanoseconds a call; the last three are the library's time to the other's.");
+    print_waiting();
 }
 
 /// The median time of each seat for these groups together.

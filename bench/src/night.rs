@@ -4,7 +4,7 @@
 use crate::images::LIMIT;
 use crate::night_files::{Folder, Made};
 use crate::passes::opaque;
-use crate::rounds::{in_rounds, median, order, rounds, WARM_UP};
+use crate::rounds::{in_rounds, median, order, print_rounds, print_waiting};
 use crate::yardstick;
 use saltorchard::raw::{self, Reply};
 use std::collections::BTreeMap;
@@ -28,6 +28,8 @@ pub enum Verdict {
     Refused(u64),
 }
 use Verdict::*;
+
+const ROUNDS_A_SEAT: usize = 8;
 
 /// Who does the job: by the image and a lent buffer to write to.
 pub struct Worker {
@@ -87,7 +89,8 @@ fn over(workers: &[Worker], folder: &Path, made: &[Made], only_check: bool) -> R
         println!("The night's job ran once. No times: this was a check.");
         return Ok(());
     }
-    print_times(workers, job.files.len(), &job.times(workers, &said)?);
+    let nights = job.nights(workers, &said)?;
+    print_times(workers, job.files.len(), &nights);
     Ok(())
 }
 
@@ -126,10 +129,10 @@ impl Job {
         Pass { milliseconds: start.elapsed().as_secs_f64() * 1e3, verdicts }
     }
 
-    /// Each worker's median milliseconds, where each says the same in all rounds.
-    fn times(&mut self, workers: &[Worker], said: &[Vec<Verdict>]) -> Result<Vec<f64>, String> {
+    /// The milliseconds of all workers in each round, where each says the same in all rounds.
+    fn nights(&mut self, workers: &[Worker], said: &[Vec<Verdict>]) -> Result<Vec<Vec<f64>>, String> {
         let mut changed = false;
-        let rounds = in_rounds(workers.len(), |turn| {
+        let nights = in_rounds(ROUNDS_A_SEAT * workers.len(), |turn| {
             let mut times = vec![0.0; workers.len()];
             for seat in order(workers.len(), turn) {
                 let pass = self.pass(&workers[seat]);
@@ -141,7 +144,7 @@ impl Job {
         if changed {
             return Err("what is said of a file changed from one round to another: did the file?".to_string());
         }
-        Ok((0..workers.len()).map(|seat| median(rounds.iter().map(|times| times[seat]).collect())).collect())
+        Ok(nights)
     }
 }
 
@@ -231,13 +234,20 @@ fn print_differences(name: &str, library: &[Verdict], theirs: &[Verdict]) {
     );
 }
 
-fn print_times(workers: &[Worker], files: usize, times: &[f64]) {
-    println!("\nMedians of {} rounds after {} to warm up; no buffer is cleared.\n", rounds(workers.len()), WARM_UP);
-    println!("| | ms a night | µs a file | library to it | both without the files alone |\n|---|---|---|---|---|");
-    let (alone, library) = (times[0], times[1]);
-    for (seat, (worker, time)) in workers.iter().zip(times).enumerate() {
-        let without = if seat == 0 { String::new() } else { format!("{:.2}", (library - alone) / (time - alone)) };
-        print!("| {} | {:.2} | {:.2} |", worker.name, time, time * 1e3 / files as f64);
-        println!(" {:.2} | {} |", library / time, without);
+/// A round's times less that of the files alone are of the same round, since a disk and a machine have better rounds and worse.
+fn print_times(workers: &[Worker], files: usize, nights: &[Vec<f64>]) {
+    print_rounds(nights.len());
+    println!("| | ms a night | µs a file | library to it | less the files alone, µs a file | library to it |");
+    println!("|---|---|---|---|---|---|");
+    let whole = |seat: usize| median(nights.iter().map(|night| night[seat]).collect());
+    let beside = |seat: usize| median(nights.iter().map(|night| night[seat] - night[0]).collect());
+    for (seat, worker) in workers.iter().enumerate() {
+        print!("| {} | {:.2} | {:.2} |", worker.name, whole(seat), whole(seat) * 1e3 / files as f64);
+        print!(" {:.2} |", whole(1) / whole(seat));
+        match seat {
+            0 => println!(" | |"),
+            _ => println!(" {:.2} | {:.2} |", beside(seat) * 1e3 / files as f64, beside(1) / beside(seat)),
+        }
     }
+    print_waiting();
 }

@@ -1,18 +1,16 @@
 //! Rounds in which all take turns, their medians, and a table's rows.
 
-pub const WARM_UP: usize = 4;
+const WARM_UP: usize = 4;
+/// Of a table of four.
+pub const ROUNDS: usize = 16;
 
-/// So many rounds that each seat begins equally often, and each comes after each of its neighbours equally often.
-pub const fn rounds(seats: usize) -> usize {
-    4 * seats
-}
-
-/// What each round gives, after those to warm up.
-pub fn in_rounds<T>(seats: usize, mut round: impl FnMut(usize) -> T) -> Vec<T> {
+/// What each round gives, after those to warm up. Of an even multiple of the seats in rounds each seat begins equally often, and
+/// each comes after each of its neighbours equally often.
+pub fn in_rounds<T>(rounds: usize, mut round: impl FnMut(usize) -> T) -> Vec<T> {
     for turn in 0..WARM_UP {
         round(turn);
     }
-    (0..rounds(seats)).map(round).collect()
+    (0..rounds).map(round).collect()
 }
 
 /// The seats in turn: who begins changes with each round, the direction each time that all have begun.
@@ -26,9 +24,23 @@ pub fn median(mut values: Vec<f64>) -> f64 {
     (values[(values.len() - 1) / 2] + values[values.len() / 2]) / 2.0
 }
 
+pub fn print_rounds(rounds: usize) {
+    println!("\nMedians of {} rounds after {} to warm up; no buffer is cleared.\n", rounds, WARM_UP);
+}
+
+/// How much other work was in the way since the program began, where the system tells it.
+pub fn print_waiting() {
+    let told = std::fs::read_to_string("/proc/self/schedstat").unwrap_or_default();
+    let seconds: Vec<f64> =
+        told.split_whitespace().filter_map(|word| word.parse().ok()).map(|ns: f64| ns / 1e9).collect();
+    if let [ran, waited, ..] = seconds[..] {
+        println!("\nThe program ran for {:.2} s and waited for other work for {:.2} s.", ran, waited);
+    }
+}
+
 /// The head of a table with the times of all, and the first one's to each other's.
-pub fn print_head(competitors: &[&str]) {
-    println!("\nMedians of {} rounds after {} to warm up; no buffer is cleared.\n", rounds(competitors.len()), WARM_UP);
+pub fn print_head(rounds: usize, competitors: &[&str]) {
+    print_rounds(rounds);
     print!("| job | images | calls | mean bytes |");
     competitors.iter().for_each(|name| print!(" {} ns |", name));
     competitors[1..].iter().for_each(|name| print!(" to {} |", name));

@@ -26,7 +26,7 @@ mod timing;
 #[path = "../../src/yardstick.rs"]
 mod yardstick;
 
-use rounds::{in_rounds, median, order, print_head, print_row};
+use rounds::{in_rounds, median, order, print_head, print_row, print_waiting, ROUNDS};
 use std::ffi::OsString;
 use std::path::Path;
 use std::process::exit;
@@ -58,14 +58,17 @@ fn over_night(folder: Option<&Path>, only_check: bool) -> Result<(), String> {
 fn table(only_check: bool) -> Result<(), String> {
     let images = mixed::all();
     let otherwise = same::everywhere(&images)?;
-    println!("Library, yardstick and crate read the {} images alike; the crate writes {otherwise} otherwise.", images.len());
+    println!(
+        "Library, yardstick and crate read the {} images alike; the crate writes {otherwise} otherwise.",
+        images.len()
+    );
     let mut groups = timing::groups(&images);
     if only_check {
         round(&mut groups, 0);
         println!("Every job ran once. No times: this was a check.");
         return Ok(());
     }
-    let rounds = in_rounds(COMPETITORS.len(), |turn| round(&mut groups, turn));
+    let rounds = in_rounds(ROUNDS, |turn| round(&mut groups, turn));
     print_table(&groups, &rounds);
     Ok(())
 }
@@ -86,7 +89,7 @@ fn round(groups: &mut [Group], turn: usize) -> Round {
 }
 
 fn print_table(groups: &[Group], rounds: &[Round]) {
-    print_head(&COMPETITORS);
+    print_head(ROUNDS, &COMPETITORS);
     for (job, name) in JOBS.iter().enumerate() {
         for (place, group) in groups.iter().enumerate() {
             let time = |competitor: usize| median(rounds.iter().map(|round| round[job][place][competitor]).collect());
@@ -94,4 +97,5 @@ fn print_table(groups: &[Group], rounds: &[Round]) {
         }
     }
     println!("\nTimes are nanoseconds a call; the last three are the library's time to the other's.");
+    print_waiting();
 }
