@@ -34,18 +34,14 @@ fn main() {
     let result = match (words.first().and_then(|word| word.to_str()), words.len()) {
         (None, 0) => table(seats, false),
         (Some("--same"), 1) => table([YARDSTICK; COMPETITORS.len()], false),
-        (Some("--check"), 1) => table(seats, true).and_then(|()| over_night(None, true)),
-        (Some("--night"), 1 | 2) => over_night(folder, false),
+        (Some("--check"), 1) => table(seats, true).and_then(|()| night::run(&[], None, TARGET, true)),
+        (Some("--night"), 1 | 2) => night::run(&[], folder, TARGET, false),
         _ => Err(USAGE.to_string()),
     };
     if let Err(why) = result {
         eprintln!("{}", why);
         exit(1)
     }
-}
-
-fn over_night(folder: Option<&Path>, only_check: bool) -> Result<(), String> {
-    night::run(&[night::FILES_ALONE, night::LIBRARY, night::YARDSTICK], folder, TARGET, only_check)
 }
 
 fn table(seats: Seats, only_check: bool) -> Result<(), String> {

@@ -31,22 +31,33 @@ use Verdict::*;
 
 const ROUNDS_A_SEAT: usize = 8;
 
-/// Who does the job: by the image and a lent buffer to write to.
+/// Who does the job.
+#[derive(Clone, Copy)]
 pub struct Worker {
     pub name: &'static str,
+    /// Of an image, with a lent buffer to write to.
     pub judge: fn(&[u8], &mut [u8]) -> Verdict,
     /// What it must say of a file that was made so.
     pub of_made: fn(Made) -> Verdict,
 }
 
-pub const FILES_ALONE: Worker = Worker { name: "files alone", judge: |_, _| NotAsked, of_made: |_| NotAsked };
-pub const LIBRARY: Worker =
-    Worker { name: "library", judge: |image, out| verdict(raw::rewrite(image, out), image, out), of_made: our_verdict };
-pub const YARDSTICK: Worker = Worker {
-    name: "yardstick",
-    judge: |image, out| verdict(yardstick::rewrite(image, out), image, out),
-    of_made: our_verdict,
-};
+/// These do it always; others come after them.
+const ALWAYS: [Worker; 3] = [
+    Worker { name: "files alone", judge: |_, _| NotAsked, of_made: |_| NotAsked },
+    Worker {
+        name: "library",
+        judge: |image, out| verdict(raw::rewrite(image, out), image, out),
+        of_made: right_verdict,
+    },
+    Worker {
+        name: "yardstick",
+        judge: |image, out| verdict(yardstick::rewrite(image, out), image, out),
+        of_made: right_verdict,
+    },
+];
+const ALONE: usize = 0;
+const LIBRARY: usize = 1;
+const YARDSTICK: usize = 2;
 
 fn verdict(reply: Reply, image: &[u8], out: &[u8]) -> Verdict {
     match reply.number {
@@ -56,7 +67,7 @@ fn verdict(reply: Reply, image: &[u8], out: &[u8]) -> Verdict {
     }
 }
 
-fn our_verdict(made: Made) -> Verdict {
+pub fn right_verdict(made: Made) -> Verdict {
     match made {
         Made::InForm => Equal,
         Made::ZeroMissing | Made::ZeroBefore | Made::FullWidth => NotInForm,
@@ -64,14 +75,14 @@ fn our_verdict(made: Made) -> Verdict {
     }
 }
 
-/// The job over the folder's files, or over made ones below `target`, by the files alone, the library, the yardstick, and whoever
-/// comes after these.
-pub fn run(workers: &[Worker], folder: Option<&Path>, target: &str, only_check: bool) -> Result<(), String> {
+/// The job over the folder's files, or over made ones below `target`.
+pub fn run(others: &[Worker], folder: Option<&Path>, target: &str, only_check: bool) -> Result<(), String> {
+    let workers = [&ALWAYS[..], others].concat();
     if let Some(folder) = folder {
-        return over(workers, folder, &[], only_check);
+        return over(&workers, folder, &[], only_check);
     }
     let made = Folder::filled(target).map_err(|why| format!("the night's files can't be made: {}", why))?;
-    over(workers, &made.path, &made.made, only_check)
+    over(&workers, &made.path, &made.made, only_check)
 }
 
 fn over(workers: &[Worker], folder: &Path, made: &[Made], only_check: bool) -> Result<(), String> {
@@ -82,8 +93,8 @@ fn over(workers: &[Worker], folder: &Path, made: &[Made], only_check: bool) -> R
     let mut job = Job { files, image: vec![0; LIMIT + 1], out: vec![0; LIMIT] };
     let said: Vec<Vec<Verdict>> = workers.iter().map(|worker| job.pass(worker).verdicts).collect();
     hold_to_made(workers, &said, made)?;
-    hold_alike(&said[1], &said[2])?;
-    println!("{} files; {} entries of the folder are none and were left out.\n", job.files.len(), left_out);
+    hold_alike(&said[LIBRARY], &said[YARDSTICK])?;
+    println!("{} files. Entries of the folder that aren't files: {}.\n", job.files.len(), left_out);
     print_counts(workers, &said);
     if only_check {
         println!("The night's job ran once. No times: this was a check.");
@@ -188,17 +199,17 @@ fn hold_alike(library: &[Verdict], yardstick: &[Verdict]) -> Result<(), String> 
 }
 
 fn print_counts(workers: &[Worker], said: &[Vec<Verdict>]) {
-    println!("| | the same again | not in the form | refused | not to be read |\n|---|---|---|---|---|");
-    for (worker, said) in workers.iter().zip(said).skip(1) {
+    println!("| | the same again | not in the form | refused | can't be read |\n|---|---|---|---|---|");
+    for (worker, said) in workers.iter().zip(said).skip(LIBRARY) {
         let count = |which: fn(&Verdict) -> bool| said.iter().filter(|verdict| which(verdict)).count();
         let (equal, other) = (count(|verdict| *verdict == Equal), count(|verdict| *verdict == NotInForm));
         let (refused, not_read) = (count(is_refused), count(|verdict| *verdict == NotRead));
         println!("| {} | {} | {} | {} | {} |", worker.name, equal, other, refused, not_read);
     }
     println!();
-    print_refused(&said[1]);
-    for (worker, theirs) in workers.iter().zip(said).skip(3) {
-        print_differences(worker.name, &said[1], theirs);
+    print_refused(&said[LIBRARY]);
+    for (worker, theirs) in workers.iter().zip(said).skip(ALWAYS.len()) {
+        print_differences(worker.name, &said[LIBRARY], theirs);
     }
 }
 
@@ -240,13 +251,13 @@ fn print_times(workers: &[Worker], files: usize, nights: &[Vec<f64>]) {
     println!("| | ms a night | µs a file | library to it | less the files alone, µs a file | library to it |");
     println!("|---|---|---|---|---|---|");
     let whole = |seat: usize| median(nights.iter().map(|night| night[seat]).collect());
-    let beside = |seat: usize| median(nights.iter().map(|night| night[seat] - night[0]).collect());
+    let beside = |seat: usize| median(nights.iter().map(|night| night[seat] - night[ALONE]).collect());
     for (seat, worker) in workers.iter().enumerate() {
         print!("| {} | {:.2} | {:.2} |", worker.name, whole(seat), whole(seat) * 1e3 / files as f64);
-        print!(" {:.2} |", whole(1) / whole(seat));
+        print!(" {:.2} |", whole(LIBRARY) / whole(seat));
         match seat {
-            0 => println!(" | |"),
-            _ => println!(" {:.2} | {:.2} |", beside(seat) * 1e3 / files as f64, beside(1) / beside(seat)),
+            ALONE => println!(" | |"),
+            _ => println!(" {:.2} | {:.2} |", beside(seat) * 1e3 / files as f64, beside(LIBRARY) / beside(seat)),
         }
     }
     print_waiting();

@@ -4,8 +4,8 @@ const WARM_UP: usize = 4;
 /// Of a table of four.
 pub const ROUNDS: usize = 16;
 
-/// What each round gives, after those to warm up. Of an even multiple of the seats in rounds each seat begins equally often, and
-/// each comes after each of its neighbours equally often.
+/// What each round gives, after those to warm up. Where there are twice as many rounds as seats, or four times and so on, each seat
+/// begins equally often, and each comes after each of its neighbours equally often.
 pub fn in_rounds<T>(rounds: usize, mut round: impl FnMut(usize) -> T) -> Vec<T> {
     for turn in 0..WARM_UP {
         round(turn);

@@ -30,6 +30,7 @@ use rounds::{in_rounds, median, order, print_head, print_row, print_waiting, ROU
 use std::ffi::OsString;
 use std::path::Path;
 use std::process::exit;
+use theirs::CRATE;
 use timing::{Group, COMPETITORS, JOBS};
 
 /// Below it the night's files are made.
@@ -41,18 +42,14 @@ fn main() {
     let folder = words.get(1).map(Path::new);
     let result = match (words.first().and_then(|word| word.to_str()), words.len()) {
         (None, 0) => table(false),
-        (Some("--check"), 1) => table(true).and_then(|()| over_night(None, true)),
-        (Some("--night"), 1 | 2) => over_night(folder, false),
+        (Some("--check"), 1) => table(true).and_then(|()| night::run(&[CRATE], None, TARGET, true)),
+        (Some("--night"), 1 | 2) => night::run(&[CRATE], folder, TARGET, false),
         _ => Err(USAGE.to_string()),
     };
     if let Err(why) = result {
         eprintln!("{why}");
         exit(1)
     }
-}
-
-fn over_night(folder: Option<&Path>, only_check: bool) -> Result<(), String> {
-    night::run(&[night::FILES_ALONE, night::LIBRARY, night::YARDSTICK, theirs::CRATE], folder, TARGET, only_check)
 }
 
 fn table(only_check: bool) -> Result<(), String> {

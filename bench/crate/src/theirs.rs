@@ -1,7 +1,7 @@
 //! The crate's part of the jobs.
 
 use crate::images::LIMIT;
-use crate::night::{Verdict, Worker, LIBRARY};
+use crate::night::{right_verdict, Verdict, Worker};
 use crate::night_files::Made;
 use ssh_key::{Error, PrivateKey};
 use std::ops::Deref;
@@ -30,6 +30,6 @@ fn of_made(made: Made) -> Verdict {
     match made {
         Made::FullWidth => Verdict::Equal,
         Made::CutShort => Verdict::Refused(0),
-        _ => (LIBRARY.of_made)(made),
+        _ => right_verdict(made),
     }
 }
