@@ -1,7 +1,16 @@
 #!/usr/bin/env bash
-# Builds the bench against the archive and runs it: the answers compared, then the times as a table. Under an emulator times
-# mean nothing, so there it only compares the answers and runs each job once. The archive is made by `rt staticlib saltorchard`.
+# Builds the bench against the archive and runs it. The archive is made by `rt staticlib saltorchard`.
+#
+#     bench/run.sh                  the answers compared, then the times as a table
+#     bench/run.sh --check          the answers compared, and each job and the night's run once; no times
+#     bench/run.sh --same           the table with the yardstick in all four seats
+#     bench/run.sh --night [DIR]    the night's job over made files, or over the files of DIR
+#
+# Under an emulator times mean nothing, so there it does what --check does.
 set -euo pipefail
+if [ $# -gt 1 ] && [[ $2 != /* ]]; then
+    set -- "$1" "$PWD/$2" "${@:3}"
+fi
 cd "$(dirname "$0")"
 # shellcheck source=../tools/x86_64.sh
 . ../tools/x86_64.sh

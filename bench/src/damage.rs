@@ -6,7 +6,7 @@ use saltorchard::raw::{self, Image, Part};
 const ED25519: u64 = 0;
 const RSA: u64 = 4;
 
-fn end(part: Part) -> usize {
+pub fn end(part: Part) -> usize {
     (part.start + part.length) as usize
 }
 
@@ -198,7 +198,8 @@ fn not_quite_utf8(random: &mut Random, comment: &[u8]) -> Vec<u8> {
     [&comment[..middle], wrong, &comment[middle..]].concat()
 }
 
-fn with_section(image: &[u8], record: &Image, private: &[u8], comment: &[u8], more_padding: usize) -> Vec<u8> {
+/// The plain image with this private string and comment, and so much padding more than it needs.
+pub fn with_section(image: &[u8], record: &Image, private: &[u8], comment: &[u8], more_padding: usize) -> Vec<u8> {
     let section = end(record.blob) + 4;
     let mut copy = image[..section + 8 + record.blob.length as usize].to_vec();
     copy.extend(strings(&[private, comment]));

@@ -9,7 +9,7 @@ pub const LIMIT: usize = 65_535;
 const SEED: u64 = 0x5a17_04c8;
 
 /// SIZE of each algorithm, by its code.
-const SIZES: [usize; 4] = [32, 32, 48, 66];
+pub const SIZES: [usize; 4] = [32, 32, 48, 66];
 /// Block and tag length of each cipher, by its code.
 const CIPHERS: [(usize, usize); 10] =
     [(8, 0), (8, 0), (16, 0), (16, 0), (16, 0), (16, 0), (16, 0), (16, 0), (16, 16), (16, 16)];
@@ -43,7 +43,7 @@ fn rsa_images() -> Vec<Vec<u8>> {
 }
 
 /// Of four images three are plain; most keys have 2,048 to 4,096 bits.
-fn one_rsa(random: &mut Random) -> Vec<u8> {
+pub fn one_rsa(random: &mut Random) -> Vec<u8> {
     let bits = random.one_of(&[1_024, 2_048, 2_048, 3_072, 3_072, 3_072, 4_096, 8_192]);
     match random.within(0, 4) {
         0 => {
@@ -56,7 +56,7 @@ fn one_rsa(random: &mut Random) -> Vec<u8> {
 }
 
 /// Of ten images four are Ed25519, three ECDSA, one for each curve, and three encrypted.
-fn one(random: &mut Random, long: bool) -> Vec<u8> {
+pub fn one(random: &mut Random, long: bool) -> Vec<u8> {
     match random.within(0, 10) {
         0..=3 => plain(random, 0, long),
         4 => plain(random, 1, long),

@@ -2,6 +2,7 @@
 
 use crate::images::{Images, LIMIT};
 use crate::model;
+use crate::passes::{copy, opaque, read_pass, rewrite_pass};
 use crate::random::Random;
 use crate::yardstick;
 use saltorchard::raw;
@@ -176,47 +177,6 @@ impl Change {
         changed.extend_from_slice(&buffer[..longer_length]);
         Change { start, shorter, longer, shorter_length, longer_length }
     }
-}
-
-/// The value, by a way that the compiler doesn't see through: what is called isn't taken into the loop that calls it, and what
-/// it answers isn't dropped.
-fn opaque<T: Copy>(value: T) -> T {
-    // SAFETY: the reference is to a live value of a type that may be copied.
-    unsafe { std::ptr::read_volatile(&value) }
-}
-
-fn copy(image: &[u8], out: &mut [u8]) -> usize {
-    out[..image.len()].copy_from_slice(image);
-    image.len()
-}
-
-fn read_pass<R>(images: &[Vec<u8>], read: fn(&[u8]) -> R, number: fn(&R) -> u64) -> Duration {
-    let read = opaque(read);
-    let mut refused = 0;
-    let start = Instant::now();
-    for image in images {
-        refused += number(&read(image));
-    }
-    let took = start.elapsed();
-    assert_eq!(opaque(refused), 0, "an image was refused");
-    took
-}
-
-fn rewrite_pass<R>(
-    images: &[Vec<u8>],
-    out: &mut [u8],
-    rewrite: fn(&[u8], &mut [u8]) -> R,
-    length: fn(&R) -> usize,
-) -> Duration {
-    let rewrite = opaque(rewrite);
-    let mut written = 0;
-    let start = Instant::now();
-    for image in images {
-        written += length(&rewrite(image, out));
-    }
-    let took = start.elapsed();
-    assert_eq!(opaque(written), images.iter().map(Vec::len).sum(), "a wrong length was written");
-    took
 }
 
 fn change_pass<R>(
