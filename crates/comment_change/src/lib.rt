@@ -91,7 +91,12 @@ pub fn change_comment(lent: &mut [u8], n: usize, comment: &[u8]) -> Written
     match reader_image::read(&lent[..n]) {
         ImageRead::Refused(f) => Written::Refused(f),
         ImageRead::Record(f) => {
-            let form = reader_image::scalar_in_form(&lent[..n], f);
+            let header = f.header;
+            let section = f.section;
+            let private = section.private;
+            let kind = section.kind;
+            let algorithm = header.algorithm;
+            let form = reader_image::scalar_in_form(&lent[..n], kind, algorithm, private.scalar);
             change_record(lent, n, f, form, comment)
         }
     }

@@ -9,6 +9,7 @@ use Rattle.fields.specs.Fields.{viewOf}
 use Rattle.fields.specs.declared.Fault.{Fault}
 use Rattle.format.specs.Format.{leadingZero, zeroLength, writtenImage, encryptedImage}
 use Rattle.fields.specs.declared.Part.{Part}
+use Rattle.names.specs.declared.Algorithm.{Algorithm}
 use Rattle.names.specs.declared.Elliptic.{Elliptic}
 use Rattle.key_public.specs.Keys.{onAlgorithm, onElliptic}
 use Rattle.key_pairs.specs.Pairs.{beginsBefore}
@@ -72,9 +73,10 @@ answersSectionForm s half r = answersThis (sectionFormAt s half) r
 unfoldable pub scalarStands : List ℕ → Elliptic → Part → Bool
 scalarStands s e scalar = onElliptic e true (λ k. beginsBefore s scalar (zeroLength (leadingZero (viewOf s scalar))))
 
--- RSA has none
-unfoldable pub scalarInForm : List ℕ → Fields → Bool
-scalarInForm s f =
-    onKind (f .section .kind)
-    (onAlgorithm (f .header .algorithm) (λ e. scalarStands s e (f .section .private .scalar)) true)
-    true
+-- RSA has none, and of an encrypted image none is known
+unfoldable pub scalarInForm : List ℕ → Kind → Algorithm → Part → Bool
+scalarInForm s kind a scalar = onKind kind (onAlgorithm a (λ e. scalarStands s e scalar) true) true
+
+-- of a record's own
+abbrev pub recordInForm : List ℕ → Fields → Bool
+recordInForm s f = scalarInForm s (f .section .kind) (f .header .algorithm) (f .section .private .scalar)

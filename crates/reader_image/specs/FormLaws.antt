@@ -29,7 +29,7 @@ use Rattle.reader_image.specs.declared.ImageRead.{ImageRead}
 use Rattle.reader_image.specs.declared.ImageRead.the-variants as read
 use Rattle.reader_image.specs.Back.{PlainImageBack}
 use Rattle.reader_image.specs.Container.{publicIn, privateIn, readAt}
-use Rattle.reader_image.specs.Form.{rewritten, formOf, scalarStands, scalarInForm}
+use Rattle.reader_image.specs.Form.{rewritten, formOf, scalarStands, scalarInForm, recordInForm}
 use Rattle.reader_image.specs.Read.{PlainText, EncryptedText, ImageText, plain-text, encrypted-text, image-text}
 
 -- a scalar is short, and RSA has none
@@ -94,7 +94,7 @@ zero-small false = omega arith
 -- the same, by the byte at which the length of the scalar's string would end
 scalar-agrees :
     (s : List ℕ) (f : Fields) (p : PlainText s f) → f .section .kind ≡ Plain
-    → scalarInForm s f ≡ eqb (zerosAsked (f .header .algorithm) (privateIn s f)) (p .zeros)
+    → recordInForm s f ≡ eqb (zerosAsked (f .header .algorithm) (privateIn s f)) (p .zeros)
 unfolding scalarInForm scalarStands privateBytes
 scalar-agrees s f p plain = rw plain (go (f .header .algorithm) (p .key-fits .may) (p .begins))
   where
@@ -114,14 +114,14 @@ pub form-encrypted : (s : List ℕ) (f : Fields) → EncryptedText s f → f .se
 unfolding formOf rewritten
 form-encrypted s f p encrypted = rw encrypted (ap (λ (t : List ℕ). sameBytes t s) (sym (p .text)) ∙ same-self s)
 
-scalar-encrypted : (s : List ℕ) (f : Fields) → f .section .kind ≡ Encrypted → scalarInForm s f ≡ true
+scalar-encrypted : (s : List ℕ) (f : Fields) → f .section .kind ≡ Encrypted → recordInForm s f ≡ true
 unfolding scalarInForm
 scalar-encrypted s f encrypted = rw encrypted
 
-pub form-scalar : (s : List ℕ) → AllBytes s → (f : Fields) → readAt s ≡ read.Record f → formOf s f ≡ scalarInForm s f
+pub form-scalar : (s : List ℕ) → AllBytes s → (f : Fields) → readAt s ≡ read.Record f → formOf s f ≡ recordInForm s f
 form-scalar s all f e = go (image-text s all f e)
   where
-    go : ImageText s all f e → formOf s f ≡ scalarInForm s f
+    go : ImageText s all f e → formOf s f ≡ recordInForm s f
     go (plain-text plain p) = form-agrees s f p plain ∙ sym (scalar-agrees s f p plain)
     go (encrypted-text encrypted p) = form-encrypted s f p encrypted ∙ sym (scalar-encrypted s f encrypted)
 

@@ -3,7 +3,7 @@
 ghost use mathlib.Core.Path.{_≡_};
 ghost use Prim.Native.Nat.{_<_};
 ghost use Rattle.reader_image.specs.Container.{sectionAt, answersRead, answersSection};
-ghost use Rattle.reader_image.specs.Form.{scalarStands, scalarInForm, answersForm, answersSectionForm};
+ghost use Rattle.reader_image.specs.Form.{scalarStands, scalarInForm, recordInForm, answersForm, answersSectionForm};
 ghost use Rattle.key_pairs.specs.Pairs.{beginsBefore};
 use fields::Cursor;
 use fields::Fault;
@@ -122,23 +122,30 @@ fn scalar_stands(image: &[u8], e: Elliptic, scalar: Part) -> bool
     }
 }
 
-// Does the scalar of a record stand so? RSA has none. For an image's own record that says whether the image is in
-// the writer's form.
-pub fn scalar_in_form(image: &[u8], f: Fields) -> bool
-    ensures { λ r. ⌜ r ≡ scalarInForm (now (image .entry)) f ⌝ }
+// Does it stand so, in a section of this kind and of a key of this algorithm? RSA has none, and of an encrypted image none is
+// known. Of an image's own record, that is whether the image is in the writer's form.
+pub fn scalar_in_form(image: &[u8], kind: Kind, algorithm: Algorithm, scalar: Part) -> bool
+    ensures { λ r. ⌜ r ≡ scalarInForm (now (image .entry)) kind algorithm scalar ⌝ }
 {
-    let header = f.header;
-    let algorithm = header.algorithm;
-    let section = f.section;
-    let kind = section.kind;
-    let private = section.private;
     match kind {
         Kind::Encrypted => true,
         Kind::Plain => match algorithm {
-            Algorithm::Elliptic(e) => scalar_stands(image, e, private.scalar),
+            Algorithm::Elliptic(e) => scalar_stands(image, e, scalar),
             Algorithm::Rsa => true,
         },
     }
+}
+
+// The same of a record.
+fn record_in_form(image: &[u8], f: Fields) -> bool
+    ensures { λ r. ⌜ r ≡ recordInForm (now (image .entry)) f ⌝ }
+{
+    let header = f.header;
+    let section = f.section;
+    let private = section.private;
+    let kind = section.kind;
+    let algorithm = header.algorithm;
+    scalar_in_form(image, kind, algorithm, private.scalar)
 }
 
 pub enum FormRead {
@@ -152,7 +159,7 @@ pub fn read_with_form(image: &[u8]) -> FormRead
 {
     match read(image) {
         ImageRead::Refused(f) => FormRead::Refused(f),
-        ImageRead::Record(fields) => FormRead::Record(fields, scalar_in_form(image, fields)),
+        ImageRead::Record(fields) => FormRead::Record(fields, record_in_form(image, fields)),
     }
 }
 
@@ -162,6 +169,6 @@ pub fn read_section_with_form(image: &[u8], half: Header) -> FormRead
 {
     match read_section(image, half) {
         ImageRead::Refused(f) => FormRead::Refused(f),
-        ImageRead::Record(fields) => FormRead::Record(fields, scalar_in_form(image, fields)),
+        ImageRead::Record(fields) => FormRead::Record(fields, record_in_form(image, fields)),
     }
 }

@@ -82,7 +82,12 @@ pub fn rewrite(image: &[u8], out: &mut [u8]) -> Written
     match reader_image::read(image) {
         ImageRead::Refused(f) => Written::Refused(f),
         ImageRead::Record(f) => {
-            if reader_image::scalar_in_form(image, f) {
+            let header = f.header;
+            let section = f.section;
+            let private = section.private;
+            let kind = section.kind;
+            let algorithm = header.algorithm;
+            if reader_image::scalar_in_form(image, kind, algorithm, private.scalar) {
                 return write_as_is(image, out);
             }
             write_record(image, f, out)

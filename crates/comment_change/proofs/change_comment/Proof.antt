@@ -65,15 +65,15 @@ slice-reshare-prefix-scalar-in-form : tie.Need-slice-reshare-prefix-scalar-in-fo
 slice-reshare-prefix-scalar-in-form c = search needs
 
 slice-aggregate-scalar-in-form : tie.Need-slice-aggregate-scalar-in-form
-slice-aggregate-scalar-in-form c = sym (length-take-le (c .before .before .before .before .before .before .before .before .before .before .args .n) (c .before .before .before .before .before .before .before .before .before .before .args .lent .now) (c .before .before .before .before .before .before .if2 .left))
+slice-aggregate-scalar-in-form c = sym (length-take-le (c .before .before .before .before .before .before .before .before .before .before .before .before .before .args .n) (c .before .before .before .before .before .before .before .before .before .before .before .before .before .args .lent .now) (c .before .before .before .before .before .before .before .before .before .if2 .left))
 
 scalar-in-form-requires : tie.Need-scalar-in-form-requires
 scalar-in-form-requires c κs = search needs
 
 change-record-requires : tie.Need-change-record-requires
 change-record-requires c κs =
-    let k = c .before .before .before in
-    ((c .before .before .before .before .before .before .before .before .before .if1 .left, c .before .before .before .before .before .before .before .before .if2 .left), (accepted k, c .before .scalar-in-form .ensures ∙ sym (form-scalar (image-of k) (all-of k) (record-of k) (accepted k))))
+    let k = c .before .before .before .before .before .before in
+    ((c .before .before .before .before .before .before .before .before .before .before .before .before .if1 .left, c .before .before .before .before .before .before .before .before .before .before .before .if2 .left), (accepted k, c .before .scalar-in-form .ensures ∙ sym (form-scalar (image-of k) (all-of k) (record-of k) (accepted k))))
 
 same-length : tie.Need-same-length
 same-length c = search needs
@@ -87,7 +87,7 @@ same-length-2 c = search needs
 
 returns-4 : tie.Need-returns-4
 unfolding changeReply changeLeft acceptedLeft
-returns-4 c = rw (le-leb _ _ (c .before .before .before .before .before .before .before .before .before .before .before .before .if1 .left), le-leb _ _ (c .before .before .before .before .before .before .before .before .before .before .before .if2 .left), accepted (c .before .before .before .before .before .before)) (answered _ _ _ _ (c .before .before .change-record .ensures))
+returns-4 c = rw (le-leb _ _ (c .before .before .before .before .before .before .before .before .before .before .before .before .before .before .before .if1 .left), le-leb _ _ (c .before .before .before .before .before .before .before .before .before .before .before .before .before .before .if2 .left), accepted (c .before .before .before .before .before .before .before .before .before)) (answered _ _ _ _ (c .before .before .change-record .ensures))
 
 pub change-comment-spec : {M : Type 1} → statement M
 change-comment-spec =

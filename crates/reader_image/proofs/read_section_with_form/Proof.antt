@@ -19,8 +19,8 @@ enum-known-f c = search needs
 enum-known-fields : tie.Need-enum-known-fields
 enum-known-fields c = search needs
 
-scalar-in-form-requires : tie.Need-scalar-in-form-requires
-scalar-in-form-requires c κs = search needs
+record-in-form-requires : tie.Need-record-in-form-requires
+record-in-form-requires c κs = search needs
 
 returns : tie.Need-returns
 unfolding sectionFormAt
@@ -34,7 +34,7 @@ returns-2 c = let start = c .before .before .before .before .before in
     let answered = sym (c .before .before .before .before .read-section .ensures .0) ∙ c .before .before .fields .given .1 in
     let accepted = section-read image (start .before .args .half) record′ answered in
     let form = form-scalar image (λ i. start .shared-slice-known .given i .fits) record′ accepted in
-    let same = ap (form-read.Record record′) (c .scalar-in-form .ensures ∙ sym form) in
+    let same = ap (form-read.Record record′) (c .record-in-form .ensures ∙ sym form) in
     rw (← c .before .before .before .before .read-section .ensures .0, c .before .before .fields .given .1) (same, ap toldForm same)
 
 pub read-section-with-form-spec : {M : Type 1} → statement M
@@ -44,6 +44,6 @@ read-section-with-form-spec =
     read-section-requires
     enum-known-f
     enum-known-fields
-    scalar-in-form-requires
+    record-in-form-requires
     returns
     returns-2)

@@ -17,8 +17,8 @@ enum-known-f c = search needs
 enum-known-fields : tie.Need-enum-known-fields
 enum-known-fields c = search needs
 
-scalar-in-form-requires : tie.Need-scalar-in-form-requires
-scalar-in-form-requires c κs = search needs
+record-in-form-requires : tie.Need-record-in-form-requires
+record-in-form-requires c κs = search needs
 
 returns : tie.Need-returns
 unfolding formReadAt
@@ -30,7 +30,7 @@ returns-2 c = let start = c .before .before .before .before .before in
     let record′ = c .before .before .fields .given .0 .0 in
     let accepted = sym (c .before .before .before .before .read .ensures .0) ∙ c .before .before .fields .given .1 in
     let form = form-scalar (now (start .before .args .image)) (λ i. start .shared-slice-known .given i .fits) record′ accepted in
-    let same = ap (form-read.Record record′) (c .scalar-in-form .ensures ∙ sym form) in
+    let same = ap (form-read.Record record′) (c .record-in-form .ensures ∙ sym form) in
     rw (← c .before .before .before .before .read .ensures .0, c .before .before .fields .given .1) (same, ap toldForm same)
 
 pub read-with-form-spec : {M : Type 1} → statement M
@@ -40,6 +40,6 @@ read-with-form-spec =
     read-requires
     enum-known-f
     enum-known-fields
-    scalar-in-form-requires
+    record-in-form-requires
     returns
     returns-2)

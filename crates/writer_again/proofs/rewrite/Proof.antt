@@ -42,7 +42,7 @@ scalar-in-form-requires : tie.Need-scalar-in-form-requires
 scalar-in-form-requires c κs = search needs
 
 write-as-is-requires : tie.Need-write-as-is-requires
-write-as-is-requires c κs = let k = c .before .before .before in image-small (image-of k) (all-of k) (record-of k) (accepted k)
+write-as-is-requires c κs = let k = c .before .before .before .before .before .before in image-small (image-of k) (all-of k) (record-of k) (accepted k)
 
 same-length : tie.Need-same-length
 same-length c = search needs
@@ -50,7 +50,7 @@ same-length c = search needs
 returns : tie.Need-returns
 unfolding rewriteReply rewriteLeft
 returns c =
-    let k = c .before .before .before .before .before .before in
+    let k = c .before .before .before .before .before .before .before .before .before in
     let form = form-scalar (image-of k) (all-of k) (record-of k) (accepted k) ∙ sym (c .before .before .before .before .before .scalar-in-form .ensures) ∙ c .before .before .before .before .if1 .taken in
     rw (accepted k) (in-form-again (image-of k) (all-of k) (record-of k) (accepted k) form _ _ _ (c .before .before .write-as-is .ensures))
 
@@ -66,7 +66,7 @@ same-length-2 c = search needs
 
 returns-3 : tie.Need-returns-3
 unfolding rewriteReply rewriteLeft
-returns-3 c = rw (accepted (c .before .before .before .before .before .before)) (c .before .before .write-record .ensures)
+returns-3 c = rw (accepted (c .before .before .before .before .before .before .before .before .before)) (c .before .before .write-record .ensures)
 
 pub rewrite-spec : {M : Type 1} → statement M
 rewrite-spec =
