@@ -12,7 +12,7 @@ use lib.ListN.{length, getD}
 use lib.Dec.{leb, eqb}
 use Rattle.utf8.specs.Utf8.{_to_, Row, UTF8-char, InRow, done, next, Octets, end, char, lies, rest, utf8From, utf8}
 
-lies-is : (low high b : ℕ) → lies (low to high) b ≡ true → (low ≤ b) × (b ≤ high)
+pub lies-is : (low high b : ℕ) → lies (low to high) b ≡ true → (low ≤ b) × (b ≤ high)
 lies-is low high b e =
     let f = and-eq-true-iff (leb low b) (leb b high) .0 e in
     (leb-true low b (f .0), leb-true b high (f .1))

@@ -1,8 +1,11 @@
 // Is a text UTF-8 (RFC 3629)?
 ghost use mathlib.Core.Path.{_≡_};
-ghost use Prim.Native.Nat.{_+_, _≤_, _<_, min};
+ghost use Prim.Native.Nat.{_+_, _/_, _≤_, _<_};
+ghost use mathlib.Core.Bool.{true};
+ghost use lib.Count.{trailingZeros};
 ghost use lib.ListN.{length, drop};
 ghost use Rattle.utf8.specs.Utf8.{_to_, UTF8-char, rest, utf8};
+ghost use Rattle.utf8.specs.Laws.{leaves};
 ghost use Rattle.utf8.specs.Steps.{asciiRun, topBits, liesAt, ranges, Ends};
 
 // What is left of a character after its first byte: a byte from .0 to .1, and then .2 bytes from 0x80 to 0xBF.
@@ -12,33 +15,6 @@ struct Rest(u8, u8, u8);
 enum Found {
     End(usize),
     Nothing,
-}
-
-// What is left of the character that a byte other than ASCII begins. Where it begins none, no byte lies from 1 to 0.
-// The length first: the characters of a text mostly have one length, so the processor guesses the branch right.
-fn rest_of(lead: u8) -> Rest
-    requires { ⌜ 0x80 ≤ lead ⌝ }
-    ensures { λ r. ⌜ ranges r ≡ rest lead UTF8-char ⌝ }
-{
-    if lead < 0xE0 {
-        if lead < 0xC2 {
-            return Rest(1, 0, 0);
-        }
-        return Rest(0x80, 0xBF, 0);
-    }
-    if lead < 0xF0 {
-        return match lead {
-            0xE0 => Rest(0xA0, 0xBF, 1),
-            0xED => Rest(0x80, 0x9F, 1),
-            _ => Rest(0x80, 0xBF, 1),
-        };
-    }
-    match lead {
-        0xF0 => Rest(0x90, 0xBF, 2),
-        0xF1..=0xF3 => Rest(0x80, 0xBF, 2),
-        0xF4 => Rest(0x80, 0x8F, 2),
-        _ => Rest(1, 0, 0),
-    }
 }
 
 // Does a byte from low to high stand at the place?
@@ -78,6 +54,57 @@ fn end_of(text: &[u8], from: usize, left: Rest) -> Found
     Found::Nothing
 }
 
+// Where the characters end that stand from the place on, one after another, all of one row: their first bytes lie from low to high, and
+// this is left after each. The place's own first byte is known to.
+fn past_row(text: &[u8], from: usize, low: u8, high: u8, left: Rest) -> Found
+    requires { ⌜ from < length (now text) ⌝ }
+    requires { ⌜ leaves low high (ranges left) ≡ true ⌝ }
+    ensures { λ r. ⌜ Ends (now (text .entry)) (from + 1) (ranges left) r ⌝ }
+{
+    let mut at = from;
+    loop {
+        match end_of(text, at + 1, left) {
+            Found::Nothing => return Found::Nothing,
+            Found::End(end) => {
+                if lies_at(text, end, low, high) {
+                    at = end;
+                } else {
+                    return Found::End(end);
+                }
+            }
+        }
+    }
+}
+
+// The same, of the row that a byte other than ASCII begins, which stands at the place. The length first: the characters of a text mostly
+// have one length, so the processor guesses the branch right.
+fn past_others(text: &[u8], from: usize, lead: u8) -> Found
+    requires { ⌜ from < length (now text) ⌝ }
+    requires { ⌜ 0x80 ≤ lead ⌝ }
+    ensures { λ r. ⌜ Ends (now (text .entry)) (from + 1) (rest lead UTF8-char) r ⌝ }
+{
+    if lead < 0xE0 {
+        if lead < 0xC2 {
+            return Found::Nothing;
+        }
+        return past_row(text, from, 0xC2, 0xDF, Rest(0x80, 0xBF, 0));
+    }
+    if lead < 0xF0 {
+        return match lead {
+            0xE0 => past_row(text, from, 0xE0, 0xE0, Rest(0xA0, 0xBF, 1)),
+            0xE1..=0xEC => past_row(text, from, 0xE1, 0xEC, Rest(0x80, 0xBF, 1)),
+            0xED => past_row(text, from, 0xED, 0xED, Rest(0x80, 0x9F, 1)),
+            _ => past_row(text, from, 0xEE, 0xEF, Rest(0x80, 0xBF, 1)),
+        };
+    }
+    match lead {
+        0xF0 => past_row(text, from, 0xF0, 0xF0, Rest(0x90, 0xBF, 2)),
+        0xF1..=0xF3 => past_row(text, from, 0xF1, 0xF3, Rest(0x80, 0xBF, 2)),
+        0xF4 => past_row(text, from, 0xF4, 0xF4, Rest(0x80, 0x8F, 2)),
+        _ => Found::Nothing,
+    }
+}
+
 // A byte as a number of 64 bits.
 fn wide(x: u8) -> u64
     ensures { λ r. ⌜ (r ≡ x) × (r < 256) ⌝ }
@@ -99,29 +126,12 @@ fn top_bits(text: &[u8], at: usize) -> u64
     number & 0x8080808080808080
 }
 
-// How many of the eight bytes at the place are ASCII, up to the first that is not. Below the lowest top bit that is set stand eight zeros
-// for each of them, and seven more.
-fn ascii_of_eight(text: &[u8], at: usize) -> usize
-    requires { ⌜ at + 8 ≤ length (now text) ⌝ }
-    ensures { λ r. ⌜ r ≡ min 8 (asciiRun (drop at (now (text .entry)))) ⌝ }
+// How many ASCII bytes stand before the first other one, from the top bits, which aren't all 0: below the lowest that is set stand eight
+// zeros for each of them, and seven more.
+fn before_top(tops: u64) -> usize
+    ensures { λ r. ⌜ r ≡ trailingZeros 64 tops / 8 ⌝ }
 {
-    let tops = top_bits(text, at);
-    if tops == 0 {
-        return 8;
-    }
     (u64::trailing_zeros(tops) as usize) / 8
-}
-
-// The same of sixteen, in two steps.
-fn ascii_of_sixteen(text: &[u8], at: usize) -> usize
-    requires { ⌜ at + 16 ≤ length (now text) ⌝ }
-    ensures { λ r. ⌜ r ≡ min 16 (asciiRun (drop at (now (text .entry)))) ⌝ }
-{
-    let first = ascii_of_eight(text, at);
-    if first < 8 {
-        return first;
-    }
-    8 + ascii_of_eight(text, at + 8)
 }
 
 // Where the ASCII ends that begins at the place, a byte at a time.
@@ -135,42 +145,93 @@ fn past_bytes(text: &[u8], from: usize) -> usize
     at
 }
 
-// The same, eight bytes at a step, and the last seven or fewer one at a time. Two steps to a round of the loop: with one the processor
-// would spend as much on the round as on the step.
+// The same, of the text's last eight bytes.
+fn past_last(text: &[u8], from: usize) -> usize
+    requires { ⌜ from + 8 ≡ length (now text) ⌝ }
+    ensures { λ r. ⌜ r ≡ from + asciiRun (drop from (now (text .entry))) ⌝ }
+{
+    let tops = top_bits(text, from);
+    if tops == 0 {
+        return from + 8;
+    }
+    from + before_top(tops)
+}
+
+// From any place, eight bytes at a step, and two steps to a round of the loop: with one the processor would spend as much on the round as on the
+// step. The last eight bytes are one step, whatever of them was looked at before.
 fn past_ascii(text: &[u8], from: usize) -> usize
     requires { ⌜ from ≤ length (now text) ⌝ }
     ensures { λ r. ⌜ r ≡ from + asciiRun (drop from (now (text .entry))) ⌝ }
 {
     let n = text.len();
+    if n - from < 8 {
+        return past_bytes(text, from);
+    }
+    let last = n - 8;
     let mut at = from;
-    while 16 <= n - at {
-        let k = ascii_of_sixteen(text, at);
-        if k < 16 {
-            return at + k;
+    while at + 8 < last {
+        let tops = top_bits(text, at);
+        if tops != 0 {
+            return at + before_top(tops);
+        }
+        let more = top_bits(text, at + 8);
+        if more != 0 {
+            return at + 8 + before_top(more);
         }
         at += 16;
     }
-    if n - at < 8 {
-        return past_bytes(text, at);
+    if last <= at {
+        return past_last(text, last);
     }
-    let k = ascii_of_eight(text, at);
-    if k < 8 {
-        return at + k;
+    let tops = top_bits(text, at);
+    if tops != 0 {
+        return at + before_top(tops);
     }
-    past_bytes(text, at + 8)
+    past_last(text, last)
 }
 
-// Is the text UTF-8? ASCII passes as far as it goes, anything else a character at a time.
+// Are the 128 bytes at the place ASCII? Or'ed together they have no top bit then. Compiled, the loop is vector code.
+fn ascii_block(text: &[u8], at: usize) -> bool
+    requires { ⌜ at + 128 ≤ length (now text) ⌝ }
+    ensures { λ r. ⌜ (r ≡ true → 128 ≤ asciiRun (drop at (now (text .entry)))) ⌝ }
+{
+    let mut all: u8 = 0;
+    let mut k: usize = 0;
+    while k < 128 {
+        all = all | text[at + k];
+        k += 1;
+    }
+    all < 0x80
+}
+
+// How far blocks of ASCII go at the beginning of the text.
+fn past_blocks(text: &[u8]) -> usize
+    ensures { λ r. ⌜ r ≤ asciiRun (now (text .entry)) ⌝ }
+{
+    let n = text.len();
+    let mut at: usize = 0;
+    while 128 <= n - at {
+        if ascii_block(text, at) {
+            at += 128;
+        } else {
+            return at;
+        }
+    }
+    at
+}
+
+// Is the text UTF-8? A text that is ASCII passes by blocks. After another character a block would mostly be tried in vain: from there on
+// ASCII passes by the run, and so do the characters of a row.
 pub fn is_utf8(text: &[u8]) -> bool
     ensures { λ r. ⌜ r ≡ utf8 (now (text .entry)) ⌝ }
 {
-    let mut i: usize = 0;
+    let mut i = past_blocks(text);
     while i < text.len() {
         let b = text[i];
         if b < 0x80 {
             i = past_ascii(text, i);
         } else {
-            match end_of(text, i + 1, rest_of(b)) {
+            match past_others(text, i, b) {
                 Found::Nothing => return false,
                 Found::End(at) => i = at,
             }
