@@ -11,7 +11,7 @@ ghost use Rattle.utf8.specs.Steps.{asciiRun, topBits, liesAt, ranges, En
 // What is left of a character after its first byte: a byte from .0 to .1, and then .2 bytes from 0x80 to 0xBF.
 struct Rest(u8, u8, u8);
 
-// Where a character ends, if it stands there whole.
+// Where characters end, if they stand there whole.
 enum Found {
     End(usize),
     Nothing,
@@ -54,8 +54,8 @@ fn end_of(text: &[u8], from: usize, left: Rest) -> Found
     Found::Nothing
 }
 
-// Where the characters end that stand from the place on, one after another, all of one row: their first bytes lie from low to high, and
-// this is left after each. The place's own first byte is known to.
+// Where the characters of one row end, from the place on: a first byte lies from low to high, as the one at the place is known to, and
+// this is left after it. Compiled, each row has a loop of its own, whose bounds are constants.
 fn past_row(text: &[u8], from: usize, low: u8, high: u8, left: Rest) -> Found
     requires { ⌜ from < length (now text) ⌝ }
     requires { ⌜ leaves low high (ranges left) ≡ true ⌝ }
@@ -76,8 +76,8 @@ fn past_row(text: &[u8], from: usize, low: u8, high: u8, left: Rest) -> Found
     }
 }
 
-// The same, of the row that a byte other than ASCII begins, which stands at the place. The length first: the characters of a text mostly
-// have one length, so the processor guesses the branch right.
+// The same, of the row that the byte at the place begins, one other than ASCII. The length first: the characters of a text mostly have one
+// length, so the processor guesses the branch right.
 fn past_others(text: &[u8], from: usize, lead: u8) -> Found
     requires { ⌜ from < length (now text) ⌝ }
     requires { ⌜ 0x80 ≤ lead ⌝ }
@@ -129,7 +129,7 @@ fn top_bits(text: &[u8], at: usize) -> u64
 // How many ASCII bytes stand before the first other one, from the top bits, which aren't all 0: below the lowest that is set stand eight
 // zeros for each of them, and seven more.
 fn before_top(tops: u64) -> usize
-    ensures { λ r. ⌜ r ≡ trailingZeros 64 tops / 8 ⌝ }
+    ensures { λ r. ⌜ (r ≡ trailingZeros 64 tops / 8) × (r ≤ 8) ⌝ }
 {
     (u64::trailing_zeros(tops) as usize) / 8
 }
@@ -157,14 +157,14 @@ fn past_last(text: &[u8], from: usize) -> usize
     from + before_top(tops)
 }
 
-// From any place, eight bytes at a step, and two steps to a round of the loop: with one the processor would spend as much on the round as on the
-// step. The last eight bytes are one step, whatever of them was looked at before.
+// The same, eight bytes at a step, and two steps to a round of the loop: with one the processor would spend as much on the round as on the
+// step. The last step is over the last eight bytes, whatever of them was looked at before; a byte at a time where there are fewer.
 fn past_ascii(text: &[u8], from: usize) -> usize
     requires { ⌜ from ≤ length (now text) ⌝ }
     ensures { λ r. ⌜ r ≡ from + asciiRun (drop from (now (text .entry))) ⌝ }
 {
     let n = text.len();
-    if n - from < 8 {
+    if n < from + 8 {
         return past_bytes(text, from);
     }
     let last = n - 8;
@@ -190,7 +190,7 @@ fn past_ascii(text: &[u8], from: usize) -> usize
     past_last(text, last)
 }
 
-// Are the 128 bytes at the place ASCII? Or'ed together they have no top bit then. Compiled, the loop is vector code.
+// Are the 128 bytes at the place ASCII? They are if all of them or'ed together have no top bit. Compiled, the loop is vector code.
 fn ascii_block(text: &[u8], at: usize) -> bool
     requires { ⌜ at + 128 ≤ length (now text) ⌝ }
     ensures { λ r. ⌜ (r ≡ true → 128 ≤ asciiRun (drop at (now (text .entry)))) ⌝ }
@@ -204,7 +204,7 @@ fn ascii_block(text: &[u8], at: usize) -> bool
     all < 0x80
 }
 
-// How far blocks of ASCII go at the beginning of the text.
+// How many bytes at the beginning of the text pass as blocks of ASCII.
 fn past_blocks(text: &[u8]) -> usize
     ensures { λ r. ⌜ r ≤ asciiRun (now (text .entry)) ⌝ }
 {
@@ -220,8 +220,8 @@ fn past_blocks(text: &[u8]) -> usize
     at
 }
 
-// Is the text UTF-8? A text that is ASCII passes by blocks. After another character a block would mostly be tried in vain: from there on
-// ASCII passes by the run, and so do the characters of a row.
+// Is the text UTF-8? ASCII at its beginning passes by blocks. After another character a block would mostly be tried in vain: there ASCII
+// passes as far as it goes, as do the characters of one row.
 pub fn is_utf8(text: &[u8]) -> bool
     ensures { λ r. ⌜ r ≡ utf8 (now (text .entry)) ⌝ }
 {

@@ -1,6 +1,6 @@
 -- `utf8::past_ascii` meets its contract. The loop's invariant: the place is within the text, and what is left of the run there ends where the
--- run at `from` ends. The measure is what is left of it. Rests on `passed`, what bytes of a run leave, on what the top bits tell, and on `back`
--- for the last eight bytes, which may begin before the place.
+-- run at `from` ends. The measure is what is left of it. Rests on `passed`, what bytes of a run leave, on what the top bits tell (`all-ascii`,
+-- `fewer-ascii`), and on `back`: the last eight bytes may begin before the place.
 use Prim.Native.Nat.{ℕ, _+_, _-_, _/_, _≤_, _<_}
 use native.Mathlib.Omega.{arith}
 use mathlib.Core.Path.{_≡_, refl, _∙_}
@@ -9,7 +9,7 @@ use borrow.Author.Needs.{needs}
 use lib.Count.{trailingZeros}
 use lib.ListN.{length, drop}
 use Rattle.utf8.specs.Steps.{asciiRun, topBits}
-use Rattle.utf8.proofs.Ascii.{SameEnd, part-of-run, passed, back, run-ends}
+use Rattle.utf8.proofs.Ascii.{SameEnd, part-of-run, passed, back}
 use Rattle.utf8.proofs.Tops.{all-ascii, fewer-ascii}
 use Rattle.utf8.proofs.past_ascii.Statement.{statement}
 use Rattle.utf8.proofs.past_ascii.Tie as tie
@@ -20,24 +20,22 @@ Inv-loop text from n last at₀ i = (from ≤ i) × (i ≤ length text) × SameE
 abbrev μ-loop : tie.MeasureT-loop
 μ-loop text from n last at₀ i = asciiRun (drop i text)
 
--- where the run ends, with a byte other than ASCII among the eight at `i`
-ends-among : (t : List ℕ) (from i : ℕ) {tops k : ℕ} → i + 8 ≤ length t → tops ≡ topBits 8 (drop i t) → (tops ≡ 0 → ⊥) →
-    k ≡ trailingZeros 64 tops / 8 → SameEnd t from i → (i + k ≤ length t) × (i + k ≡ from + asciiRun (drop from t))
-ends-among t from i h e z q s =
-    let k = fewer-ascii t i h e z q in
-    (omega (arith, k, run-ends t i (omega (arith, h))), omega (arith, k, s))
+module _ (t : List ℕ) (from i : ℕ) {tops : ℕ} (h : i + 8 ≤ length t) (e : tops ≡ topBits 8 (drop i t)) (s : SameEnd t from i) where
+  -- with a byte other than ASCII among the eight the run ends there
+  ends-among : {k : ℕ} → (tops ≡ 0 → ⊥) → k ≡ trailingZeros 64 tops / 8 → i + k ≡ from + asciiRun (drop from t)
+  ends-among z q = omega (arith, fewer-ascii t i h e z q, s)
 
--- sixteen bytes of it
-module _ (t : List ℕ) (from i : ℕ) {tops more : ℕ} (h : i + 16 ≤ length t) (e : tops ≡ topBits 8 (drop i t)) (z : tops ≡ 0)
-    (f : more ≡ topBits 8 (drop (i + 8) t)) (y : more ≡ 0) (s : SameEnd t from i)
-  where
-    sixteen-on : (asciiRun (drop (i + 16) t) < asciiRun (drop i t)) × SameEnd t from (i + 16)
-    sixteen-on =
-        let p = part-of-run t i 8 (all-ascii t i (omega (arith, h)) e z) .0 in
-        passed t from i 16 (omega arith) s (omega (arith, p, all-ascii t (i + 8) (omega (arith, h)) f y))
+  past-eight : tops ≡ 0 → SameEnd t from (i + 8)
+  past-eight z = passed t from i 8 (omega arith) s (all-ascii t i h e z) .1
 
-sub-if1 : tie.Need-sub-if1 Inv-loop μ-loop
-sub-if1 c = omega arith
+  past-sixteen : {more : ℕ} → tops ≡ 0 → i + 16 ≤ length t → more ≡ topBits 8 (drop (i + 8) t) → more ≡ 0 →
+      (asciiRun (drop (i + 16) t) < asciiRun (drop i t)) × SameEnd t from (i + 16)
+  past-sixteen z l f y =
+      let p = part-of-run t i 8 (all-ascii t i h e z) .0 in
+      passed t from i 16 (omega arith) s (omega (arith, p, all-ascii t (i + 8) (omega (arith, l)) f y))
+
+add-if1 : tie.Need-add-if1 Inv-loop μ-loop
+add-if1 c = omega arith
 
 past-bytes-requires : tie.Need-past-bytes-requires Inv-loop μ-loop
 past-bytes-requires c κs = search needs
@@ -61,17 +59,14 @@ before-top-requires : tie.Need-before-top-requires Inv-loop μ-loop
 before-top-requires c κs = search needs
 
 add-result : tie.Need-add-result Inv-loop μ-loop
-add-result c =
-    let l = c .before .before .before .before .loop in
-    let a = c .before .before .before .before .before .before .before .args in
-    let e = ends-among (a .text .now) (a .from) (l .at) (omega arith) (c .before .before .top-bits .ensures) (c .before .if2 .taken) (c .before-top .ensures) (l .inv .2) in
-    omega (arith, e .0)
+add-result c = omega arith
 
 returns-2 : tie.Need-returns-2 Inv-loop μ-loop
 returns-2 c =
     let l = c .before .before .before .before .loop in
     let a = c .before .before .before .before .before .before .before .args in
-    ends-among (a .text .now) (a .from) (l .at) (omega arith) (c .before .before .top-bits .ensures) (c .before .if2 .taken) (c .before-top .ensures) (l .inv .2) .1
+    let s = a .text .now in
+    ends-among s (a .from) (l .at) (omega arith) (c .before .before .top-bits .ensures) (l .inv .2) (c .before .if2 .taken) (c .before-top .ensures .0)
 
 add-top-bits : tie.Need-add-top-bits Inv-loop μ-loop
 add-top-bits c = omega arith
@@ -86,19 +81,15 @@ before-top-requires-2 : tie.Need-before-top-requires-2 Inv-loop μ-loop
 before-top-requires-2 c κs = search needs
 
 add-result-3 : tie.Need-add-result-3 Inv-loop μ-loop
-add-result-3 c =
-    let l = c .before .before .before .before .before .before .loop in
-    let a = c .before .before .before .before .before .before .before .before .before .args in
-    let f = passed (a .text .now) (a .from) (l .at) 8 (omega arith) (l .inv .2) (all-ascii (a .text .now) (l .at) (omega arith) (c .before .before .before .before .top-bits .ensures) (c .before .before .before .if2 .left)) .1 in
-    let e = ends-among (a .text .now) (a .from) (l .at + 8) (omega arith) (c .before .before .top-bits2 .ensures) (c .before .if3 .taken) (c .before-top2 .ensures) f in
-    omega (arith, e .0)
+add-result-3 c = omega arith
 
 returns-3 : tie.Need-returns-3 Inv-loop μ-loop
 returns-3 c =
     let l = c .before .before .before .before .before .before .loop in
     let a = c .before .before .before .before .before .before .before .before .before .args in
-    let f = passed (a .text .now) (a .from) (l .at) 8 (omega arith) (l .inv .2) (all-ascii (a .text .now) (l .at) (omega arith) (c .before .before .before .before .top-bits .ensures) (c .before .before .before .if2 .left)) .1 in
-    ends-among (a .text .now) (a .from) (l .at + 8) (omega arith) (c .before .before .top-bits2 .ensures) (c .before .if3 .taken) (c .before-top2 .ensures) f .1
+    let s = a .text .now in
+    let p = past-eight s (a .from) (l .at) (omega arith) (c .before .before .before .before .top-bits .ensures) (l .inv .2) (c .before .before .before .if2 .left) in
+    ends-among s (a .from) (l .at + 8) (omega arith) (c .before .before .top-bits2 .ensures) p (c .before .if3 .taken) (c .before-top2 .ensures .0)
 
 add-at : tie.Need-add-at Inv-loop μ-loop
 add-at c = omega arith
@@ -107,13 +98,15 @@ loop-less : tie.Need-loop-less Inv-loop μ-loop
 loop-less c =
     let l = c .before .before .before .before .before .loop in
     let a = c .before .before .before .before .before .before .before .before .args in
-    sixteen-on (a .text .now) (a .from) (l .at) (omega arith) (c .before .before .before .top-bits .ensures) (c .before .before .if2 .left) (c .before .top-bits2 .ensures) (c .if3 .left) (l .inv .2) .0
+    let s = a .text .now in
+    past-sixteen s (a .from) (l .at) (omega arith) (c .before .before .before .top-bits .ensures) (l .inv .2) (c .before .before .if2 .left) (omega arith) (c .before .top-bits2 .ensures) (c .if3 .left) .0
 
 loop-again : tie.Need-loop-again Inv-loop μ-loop
 loop-again c =
     let l = c .before .before .before .before .before .loop in
     let a = c .before .before .before .before .before .before .before .before .args in
-    (omega arith, omega arith, sixteen-on (a .text .now) (a .from) (l .at) (omega arith) (c .before .before .before .top-bits .ensures) (c .before .before .if2 .left) (c .before .top-bits2 .ensures) (c .if3 .left) (l .inv .2) .1)
+    let s = a .text .now in
+    (omega arith, omega arith, past-sixteen s (a .from) (l .at) (omega arith) (c .before .before .before .top-bits .ensures) (l .inv .2) (c .before .before .if2 .left) (omega arith) (c .before .top-bits2 .ensures) (c .if3 .left) .1)
 
 past-last-requires : tie.Need-past-last-requires Inv-loop μ-loop
 past-last-requires c κs = omega arith
@@ -122,7 +115,8 @@ returns-4 : tie.Need-returns-4 Inv-loop μ-loop
 returns-4 c =
     let l = c .before .before .before .loop in
     let a = c .before .before .before .before .before .before .args in
-    c .past-last .ensures ∙ back (a .text .now) (a .from) (length (a .text .now) - 8) (l .at) (omega arith) (omega arith) (l .inv .2)
+    let s = a .text .now in
+    c .past-last .ensures ∙ back s (a .from) (length s - 8) (l .at) (omega arith) (omega arith) (l .inv .2)
 
 top-bits-requires-3 : tie.Need-top-bits-requires-3 Inv-loop μ-loop
 top-bits-requires-3 c κs = omega arith
@@ -131,17 +125,14 @@ before-top-requires-3 : tie.Need-before-top-requires-3 Inv-loop μ-loop
 before-top-requires-3 c κs = search needs
 
 add-result-4 : tie.Need-add-result-4 Inv-loop μ-loop
-add-result-4 c =
-    let l = c .before .before .before .before .before .loop in
-    let a = c .before .before .before .before .before .before .before .before .args in
-    let e = ends-among (a .text .now) (a .from) (l .at) (omega arith) (c .before .before .top-bits3 .ensures) (c .before .if5 .taken) (c .before-top3 .ensures) (l .inv .2) in
-    omega (arith, e .0)
+add-result-4 c = omega arith
 
 returns-5 : tie.Need-returns-5 Inv-loop μ-loop
 returns-5 c =
     let l = c .before .before .before .before .before .loop in
     let a = c .before .before .before .before .before .before .before .before .args in
-    ends-among (a .text .now) (a .from) (l .at) (omega arith) (c .before .before .top-bits3 .ensures) (c .before .if5 .taken) (c .before-top3 .ensures) (l .inv .2) .1
+    let s = a .text .now in
+    ends-among s (a .from) (l .at) (omega arith) (c .before .before .top-bits3 .ensures) (l .inv .2) (c .before .if5 .taken) (c .before-top3 .ensures .0)
 
 past-last-requires-2 : tie.Need-past-last-requires-2 Inv-loop μ-loop
 past-last-requires-2 c κs = omega arith
@@ -150,8 +141,9 @@ returns-6 : tie.Need-returns-6 Inv-loop μ-loop
 returns-6 c =
     let l = c .before .before .before .before .before .loop in
     let a = c .before .before .before .before .before .before .before .before .args in
-    let f = passed (a .text .now) (a .from) (l .at) 8 (omega arith) (l .inv .2) (all-ascii (a .text .now) (l .at) (omega arith) (c .before .before .top-bits3 .ensures) (c .before .if5 .left)) .1 in
-    c .past-last2 .ensures ∙ back (a .text .now) (a .from) (length (a .text .now) - 8) (l .at + 8) (omega arith) (omega arith) f
+    let s = a .text .now in
+    let p = past-eight s (a .from) (l .at) (omega arith) (c .before .before .top-bits3 .ensures) (l .inv .2) (c .before .if5 .left) in
+    c .past-last2 .ensures ∙ back s (a .from) (length s - 8) (l .at + 8) (omega arith) (omega arith) p
 
 pub past-ascii-spec : {M : Type 1} → statement M
 past-ascii-spec =
@@ -159,7 +151,7 @@ past-ascii-spec =
     (tie.spec
     Inv-loop
     μ-loop
-    sub-if1
+    add-if1
     past-bytes-requires
     returns
     sub-last

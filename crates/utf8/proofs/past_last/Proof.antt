@@ -22,17 +22,12 @@ before-top-requires : tie.Need-before-top-requires
 before-top-requires c κs = search needs
 
 add-result-2 : tie.Need-add-result-2
-add-result-2 c =
-    let a = c .before .before .before .before .args in
-    let s = a .text .now in
-    let k = fewer-ascii s (a .from) (omega arith) (c .before .before .top-bits .ensures) (c .before .if1 .left) (c .before-top .ensures) in
-    omega (arith, k, run-ends s (a .from) (omega arith))
+add-result-2 c = omega arith
 
 returns-2 : tie.Need-returns-2
 returns-2 c =
     let a = c .before .before .before .before .args in
-    let s = a .text .now in
-    let k = fewer-ascii s (a .from) (omega arith) (c .before .before .top-bits .ensures) (c .before .if1 .left) (c .before-top .ensures) in
+    let k = fewer-ascii (a .text .now) (a .from) (omega arith) (c .before .before .top-bits .ensures) (c .before .if1 .left) (c .before-top .ensures .0) in
     omega (arith, k)
 
 pub past-last-spec : {M : Type 1} → statement M
