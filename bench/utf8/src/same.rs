@@ -1,9 +1,13 @@
 //! The checks must give the same answers, at all their places. The texts: every one of up to three bytes; those of four that begin with a
-//! byte above 0xEF and whose last two are near a tail's range; each byte at every place of ASCII of every length up to 33; characters, whole
-//! and broken off, with ASCII of every length up to 17 before and after; and comments, and the same with a byte or two overwritten.
+//! byte above 0xEF and whose last two are near a tail's range; each byte at every place of ASCII of every length up to 33 and of lengths near
+//! that of one block and of two; characters, whole and broken off, after ASCII of every length up to 17 and near that of a block, and before
+//! ASCII of up to 17; and comments, and the same with a byte or two overwritten.
 
 use crate::random::Random;
 use crate::Check;
+
+/// The check passes ASCII at a text's beginning in blocks of so many bytes.
+const BLOCK: usize = 128;
 
 /// How many texts were compared and how many are UTF-8, or the first difference.
 pub fn everywhere(checks: &[Check]) -> Result<(usize, usize), String> {
@@ -56,7 +60,7 @@ impl Compared<'_> {
     }
 
     fn byte_in_ascii(&mut self) -> Result<(), String> {
-        for length in 1..=33 {
+        for length in (1..=33).chain(BLOCK - 2..=BLOCK + 17).chain(2 * BLOCK - 1..=2 * BLOCK + 1) {
             for at in 0..length {
                 for byte in 0..=0xFF {
                     let mut text = vec![b'a'; length];
@@ -72,7 +76,7 @@ impl Compared<'_> {
     fn after_ascii(&mut self) -> Result<(), String> {
         for character in ["ö", "€", "\u{D7FF}", "\u{E000}", "\u{FFFF}", "🔑", "\u{10FFFF}"] {
             for part in 1..=character.len() {
-                for before in 0..=17 {
+                for before in (0..=17).chain(BLOCK - 2..=BLOCK + 1) {
                     for after in 0..=17 {
                         let bytes = &character.as_bytes()[..part];
                         self.one(&[&vec![b'~'; before], bytes, &vec![0x7F; after]].concat())?;

@@ -63,10 +63,10 @@ add-result c = omega arith
 
 returns-2 : tie.Need-returns-2 Inv-loop μ-loop
 returns-2 c =
-    let l = c .before .before .before .before .loop in
-    let a = c .before .before .before .before .before .before .before .args in
-    let s = a .text .now in
-    ends-among s (a .from) (l .at) (omega arith) (c .before .before .top-bits .ensures) (l .inv .2) (c .before .if2 .taken) (c .before-top .ensures .0)
+    let b = c .before .before in
+    let l = b .before .before .loop in
+    let a = b .before .before .before .before .before .args in
+    ends-among (a .text .now) (a .from) (l .at) (omega arith) (b .top-bits .ensures) (l .inv .2) (c .before .if2 .taken) (c .before-top .ensures .0)
 
 add-top-bits : tie.Need-add-top-bits Inv-loop μ-loop
 add-top-bits c = omega arith
@@ -85,28 +85,38 @@ add-result-3 c = omega arith
 
 returns-3 : tie.Need-returns-3 Inv-loop μ-loop
 returns-3 c =
-    let l = c .before .before .before .before .before .before .loop in
-    let a = c .before .before .before .before .before .before .before .before .before .args in
+    let b = c .before .before in
+    let f = b .before .before in
+    let l = f .before .before .loop in
+    let a = f .before .before .before .before .before .args in
     let s = a .text .now in
-    let p = past-eight s (a .from) (l .at) (omega arith) (c .before .before .before .before .top-bits .ensures) (l .inv .2) (c .before .before .before .if2 .left) in
-    ends-among s (a .from) (l .at + 8) (omega arith) (c .before .before .top-bits2 .ensures) p (c .before .if3 .taken) (c .before-top2 .ensures .0)
+    let p = past-eight s (a .from) (l .at) (omega arith) (f .top-bits .ensures) (l .inv .2) (b .before .if2 .left) in
+    ends-among s (a .from) (l .at + 8) (omega arith) (b .top-bits2 .ensures) p (c .before .if3 .taken) (c .before-top2 .ensures .0)
 
 add-at : tie.Need-add-at Inv-loop μ-loop
 add-at c = omega arith
 
 loop-less : tie.Need-loop-less Inv-loop μ-loop
 loop-less c =
-    let l = c .before .before .before .before .before .loop in
-    let a = c .before .before .before .before .before .before .before .before .args in
+    let b = c .before in
+    let f = b .before .before in
+    let l = f .before .before .loop in
+    let a = f .before .before .before .before .before .args in
     let s = a .text .now in
-    past-sixteen s (a .from) (l .at) (omega arith) (c .before .before .before .top-bits .ensures) (l .inv .2) (c .before .before .if2 .left) (omega arith) (c .before .top-bits2 .ensures) (c .if3 .left) .0
+    let z = b .before .if2 .left in
+    let p = past-sixteen s (a .from) (l .at) (omega arith) (f .top-bits .ensures) (l .inv .2) z (omega arith) (b .top-bits2 .ensures) (c .if3 .left) in
+    p .0
 
 loop-again : tie.Need-loop-again Inv-loop μ-loop
 loop-again c =
-    let l = c .before .before .before .before .before .loop in
-    let a = c .before .before .before .before .before .before .before .before .args in
+    let b = c .before in
+    let f = b .before .before in
+    let l = f .before .before .loop in
+    let a = f .before .before .before .before .before .args in
     let s = a .text .now in
-    (omega arith, omega arith, past-sixteen s (a .from) (l .at) (omega arith) (c .before .before .before .top-bits .ensures) (l .inv .2) (c .before .before .if2 .left) (omega arith) (c .before .top-bits2 .ensures) (c .if3 .left) .1)
+    let z = b .before .if2 .left in
+    let p = past-sixteen s (a .from) (l .at) (omega arith) (f .top-bits .ensures) (l .inv .2) z (omega arith) (b .top-bits2 .ensures) (c .if3 .left) in
+    (omega arith, omega arith, p .1)
 
 past-last-requires : tie.Need-past-last-requires Inv-loop μ-loop
 past-last-requires c κs = omega arith
@@ -129,20 +139,21 @@ add-result-4 c = omega arith
 
 returns-5 : tie.Need-returns-5 Inv-loop μ-loop
 returns-5 c =
-    let l = c .before .before .before .before .before .loop in
-    let a = c .before .before .before .before .before .before .before .before .args in
-    let s = a .text .now in
-    ends-among s (a .from) (l .at) (omega arith) (c .before .before .top-bits3 .ensures) (l .inv .2) (c .before .if5 .taken) (c .before-top3 .ensures .0)
+    let b = c .before .before in
+    let l = b .before .before .before .loop in
+    let a = b .before .before .before .before .before .before .args in
+    ends-among (a .text .now) (a .from) (l .at) (omega arith) (b .top-bits3 .ensures) (l .inv .2) (c .before .if5 .taken) (c .before-top3 .ensures .0)
 
 past-last-requires-2 : tie.Need-past-last-requires-2 Inv-loop μ-loop
 past-last-requires-2 c κs = omega arith
 
 returns-6 : tie.Need-returns-6 Inv-loop μ-loop
 returns-6 c =
-    let l = c .before .before .before .before .before .loop in
-    let a = c .before .before .before .before .before .before .before .before .args in
+    let b = c .before .before in
+    let l = b .before .before .before .loop in
+    let a = b .before .before .before .before .before .before .args in
     let s = a .text .now in
-    let p = past-eight s (a .from) (l .at) (omega arith) (c .before .before .top-bits3 .ensures) (l .inv .2) (c .before .if5 .left) in
+    let p = past-eight s (a .from) (l .at) (omega arith) (b .top-bits3 .ensures) (l .inv .2) (c .before .if5 .left) in
     c .past-last2 .ensures ∙ back s (a .from) (length s - 8) (l .at + 8) (omega arith) (omega arith) p
 
 pub past-ascii-spec : {M : Type 1} → statement M

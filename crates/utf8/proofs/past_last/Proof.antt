@@ -26,9 +26,9 @@ add-result-2 c = omega arith
 
 returns-2 : tie.Need-returns-2
 returns-2 c =
-    let a = c .before .before .before .before .args in
-    let k = fewer-ascii (a .text .now) (a .from) (omega arith) (c .before .before .top-bits .ensures) (c .before .if1 .left) (c .before-top .ensures .0) in
-    omega (arith, k)
+    let b = c .before .before in
+    let a = b .before .before .args in
+    omega (arith, fewer-ascii (a .text .now) (a .from) (omega arith) (b .top-bits .ensures) (c .before .if1 .left) (c .before-top .ensures .0))
 
 pub past-last-spec : {M : Type 1} → statement M
 past-last-spec = tie.close (tie.spec top-bits-requires add-result returns before-top-requires add-result-2 returns-2)

@@ -15,7 +15,8 @@ use Rattle.utf8.proofs.past_others.Tie as tie
 
 returns : tie.Need-returns
 returns c =
-    let e : 1 to 0 ∷ [] ≡ rest (c .before .before .before .args .lead) UTF8-char = rest-between 0x80 0xC1 (unfold UTF8-char in refl) (omega arith) (omega arith) in
+    let b = c .before .before .before .args .lead in
+    let e : 1 to 0 ∷ [] ≡ rest b UTF8-char = rest-between 0x80 0xC1 (unfold UTF8-char in refl) (omega arith) (omega arith) in
     rw (← e) (no-row _)
 
 past-row-requires : tie.Need-past-row-requires
@@ -23,7 +24,8 @@ past-row-requires c κs = (omega arith, unfold UTF8-char in refl)
 
 returns-2 : tie.Need-returns-2
 returns-2 c =
-    let e : ranges (0x80, 0xBF, 0) ≡ rest (c .before .before .before .before .args .lead) UTF8-char = rest-between 0xC2 0xDF (unfold UTF8-char in refl) (omega arith) (omega arith) in
+    let b = c .before .before .before .before .args .lead in
+    let e : ranges (0x80, 0xBF, 0) ≡ rest b UTF8-char = rest-between 0xC2 0xDF (unfold UTF8-char in refl) (omega arith) (omega arith) in
     rw (← e) (c .past-row .ensures)
 
 past-row-requires-2 : tie.Need-past-row-requires-2
@@ -40,17 +42,20 @@ past-row-requires-5 c κs = (omega arith, unfold UTF8-char in refl)
 
 returns-3 : tie.Need-returns-3
 returns-3 c =
-    let e : ranges (0xA0, 0xBF, 1) ≡ rest (c .before .before .before .before .before .args .lead) UTF8-char = rest-between 0xE0 0xE0 (unfold UTF8-char in refl) (omega arith) (omega arith) in
+    let b = c .before .before .before .before .before .args .lead in
+    let e : ranges (0xA0, 0xBF, 1) ≡ rest b UTF8-char = rest-between 0xE0 0xE0 (unfold UTF8-char in refl) (omega arith) (omega arith) in
     rw (← e) (c .past-row2 .ensures)
 
 returns-4 : tie.Need-returns-4
 returns-4 c =
-    let e : ranges (0x80, 0x9F, 1) ≡ rest (c .before .before .before .before .before .args .lead) UTF8-char = rest-between 0xED 0xED (unfold UTF8-char in refl) (omega arith) (omega arith) in
+    let b = c .before .before .before .before .before .args .lead in
+    let e : ranges (0x80, 0x9F, 1) ≡ rest b UTF8-char = rest-between 0xED 0xED (unfold UTF8-char in refl) (omega arith) (omega arith) in
     rw (← e) (c .past-row3 .ensures)
 
 returns-5 : tie.Need-returns-5
 returns-5 c =
-    let e : ranges (0x80, 0xBF, 1) ≡ rest (c .before .before .before .before .before .before .before .args .lead) UTF8-char = rest-between 0xE1 0xEC (unfold UTF8-char in refl) (omega arith) (omega arith) in
+    let b = c .before .before .before .before .before .before .before .args .lead in
+    let e : ranges (0x80, 0xBF, 1) ≡ rest b UTF8-char = rest-between 0xE1 0xEC (unfold UTF8-char in refl) (omega arith) (omega arith) in
     rw (← e) (c .past-row4 .ensures)
 
 returns-6 : tie.Need-returns-6
@@ -71,17 +76,20 @@ past-row-requires-8 c κs = (omega arith, unfold UTF8-char in refl)
 
 returns-7 : tie.Need-returns-7
 returns-7 c =
-    let e : ranges (0x90, 0xBF, 2) ≡ rest (c .before .before .before .before .before .args .lead) UTF8-char = rest-between 0xF0 0xF0 (unfold UTF8-char in refl) (omega arith) (omega arith) in
+    let b = c .before .before .before .before .before .args .lead in
+    let e : ranges (0x90, 0xBF, 2) ≡ rest b UTF8-char = rest-between 0xF0 0xF0 (unfold UTF8-char in refl) (omega arith) (omega arith) in
     rw (← e) (c .past-row6 .ensures)
 
 returns-8 : tie.Need-returns-8
 returns-8 c =
-    let e : ranges (0x80, 0x8F, 2) ≡ rest (c .before .before .before .before .before .args .lead) UTF8-char = rest-between 0xF4 0xF4 (unfold UTF8-char in refl) (omega arith) (omega arith) in
+    let b = c .before .before .before .before .before .args .lead in
+    let e : ranges (0x80, 0x8F, 2) ≡ rest b UTF8-char = rest-between 0xF4 0xF4 (unfold UTF8-char in refl) (omega arith) (omega arith) in
     rw (← e) (c .past-row7 .ensures)
 
 returns-9 : tie.Need-returns-9
 returns-9 c =
-    let e : ranges (0x80, 0xBF, 2) ≡ rest (c .before .before .before .before .before .before .before .args .lead) UTF8-char = rest-between 0xF1 0xF3 (unfold UTF8-char in refl) (omega arith) (omega arith) in
+    let b = c .before .before .before .before .before .before .before .args .lead in
+    let e : ranges (0x80, 0xBF, 2) ≡ rest b UTF8-char = rest-between 0xF1 0xF3 (unfold UTF8-char in refl) (omega arith) (omega arith) in
     rw (← e) (c .past-row8 .ensures)
 
 -- no byte is above 0xF0 and below 0xF1
@@ -90,7 +98,8 @@ returns-10 c = absurd (omega arith)
 
 returns-11 : tie.Need-returns-11
 returns-11 c =
-    let e : 1 to 0 ∷ [] ≡ rest (c .before .before .before .before .before .before .args .lead) UTF8-char = rest-between 0xF5 0xFF (unfold UTF8-char in refl) (omega arith) (omega arith) in
+    let b = c .before .before .before .before .before .before .args .lead in
+    let e : 1 to 0 ∷ [] ≡ rest b UTF8-char = rest-between 0xF5 0xFF (unfold UTF8-char in refl) (omega arith) (omega arith) in
     rw (← e) (no-row _)
 
 pub past-others-spec : {M : Type 1} → statement M

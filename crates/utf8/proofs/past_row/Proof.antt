@@ -54,10 +54,10 @@ loop-less c =
 
 loop-again : tie.Need-loop-again Inv-loop μ-loop
 loop-again c =
-    let i = c .before .before .before .before .before .before .loop .inv in
+    let b = c .before .before .before .before .before .before in
     let e = rw (c .before .before .before .end .given .1) at (c .before .before .before .before .before .end-of .ensures) in
     let l = sym (c .before .lies-at .ensures) ∙ c .if1 .taken in
-    (omega (arith, e .0), there _ _ _ l, row-goes-on _ _ _ _ _ (c .before .before .before .before .before .before .before .before .pre .1) l ∙ sym (e .2) ∙ i .2)
+    (omega (arith, e .0), there _ _ _ l, row-goes-on _ _ _ _ _ (b .before .before .pre .1) l ∙ sym (e .2) ∙ b .loop .inv .2)
 
 returns-2 : tie.Need-returns-2 Inv-loop μ-loop
 returns-2 c =
