@@ -3,10 +3,11 @@ ghost use mathlib.Core.Path.{_≡_};
 ghost use Prim.Native.Nat.{_+_, _/_, _≤_, _<_};
 ghost use mathlib.Core.Bool.{true};
 ghost use lib.Count.{trailingZeros};
-ghost use lib.ListN.{length, drop};
+ghost use lib.ListN.{length, drop, getD};
 ghost use Rattle.utf8.specs.Utf8.{_to_, UTF8-char, rest, utf8};
 ghost use Rattle.utf8.specs.Laws.{leaves};
-ghost use Rattle.utf8.specs.Steps.{asciiRun, topBits, liesAt, ranges, Ends};
+ghost use Rattle.utf8.specs.Steps.{asciiRun, topBits, liesAt, ranges, Ends, Passes};
+ghost use Rattle.utf8.specs.Follow.{lowestAfter, highestAfter, mayFollow, allFollow, beginOf};
 
 // What is left of a character after its first byte: a byte from .0 to .1, and then .2 bytes from 0x80 to 0xBF.
 struct Rest(u8, u8, u8);
@@ -103,6 +104,98 @@ fn past_others(text: &[u8], from: usize, lead: u8) -> Found
         0xF4 => past_row(text, from, 0xF4, 0xF4, Rest(0x80, 0x8F, 2)),
         _ => Found::Nothing,
     }
+}
+
+// The range of the byte after a character's first byte.
+
+fn lowest_after(lead: u8) -> u8
+    ensures { λ r. ⌜ r ≡ lowestAfter lead ⌝ }
+{
+    if lead == 0xE0 {
+        return 0xA0;
+    }
+    if lead == 0xF0 {
+        return 0x90;
+    }
+    0x80
+}
+
+fn highest_after(lead: u8) -> u8
+    ensures { λ r. ⌜ r ≡ highestAfter lead ⌝ }
+{
+    if lead == 0xED {
+        return 0x9F;
+    }
+    if lead == 0xF4 {
+        return 0x8F;
+    }
+    0xBF
+}
+
+// May b stand after the three bytes z, y and x? Where one of them asks for it, as a tail, and else as a first byte.
+fn may_follow(z: u8, y: u8, x: u8, b: u8) -> bool
+    ensures { λ r. ⌜ r ≡ mayFollow z y x b ⌝ }
+{
+    if (0xC0 <= x) | (0xE0 <= y) | (0xF0 <= z) {
+        return (lowest_after(x) <= b) & (b <= highest_after(x));
+    }
+    (b < 0x80) | ((0xC2 <= b) & (b <= 0xF4))
+}
+
+// May each of 32 bytes stand where it does, after the three from the place on? All are looked at, without a jump: compiled, it is vector code.
+fn all_follow(text: &[u8], at: usize) -> bool
+    requires { ⌜ at + 35 ≤ length (now text) ⌝ }
+    ensures { λ r. ⌜ r ≡ allFollow 32 (now (text .entry)) at ⌝ }
+{
+    let mut good = true;
+    let mut k: usize = 0;
+    while k < 32 {
+        good = good
+            & may_follow(
+                text[at + k],
+                text[at + k + 1],
+                text[at + k + 2],
+                text[at + k + 3],
+            );
+        k += 1;
+    }
+    good
+}
+
+// Where the character begins that is not whole before the place: one to three bytes before; else the place itself.
+fn begin_of(text: &[u8], at: usize) -> usize
+    requires { ⌜ (3 ≤ at) × (at ≤ length (now text)) ⌝ }
+    ensures { λ r. ⌜ r ≡ beginOf (now (text .entry)) at ⌝ }
+{
+    if 0xC0 <= text[at - 1] {
+        return at - 1;
+    }
+    if 0xE0 <= text[at - 2] {
+        return at - 2;
+    }
+    if 0xF0 <= text[at - 3] {
+        return at - 3;
+    }
+    at
+}
+
+// Past characters that aren't ASCII, from the place on, of which this is the first byte: those that are whole within 32 bytes, where so many
+// are left; else those of one row.
+fn past_characters(text: &[u8], from: usize, lead: u8) -> Found
+    requires { ⌜ (from < length (now text)) × (lead ≡ getD (now text) from 0) × (0x80 ≤ lead) ⌝ }
+    ensures { λ r. ⌜ Passes (now (text .entry)) from r ⌝ }
+{
+    if 3 <= from {
+        if 32 <= text.len() - from {
+            if begin_of(text, from) == from {
+                if all_follow(text, from - 3) {
+                    return Found::End(begin_of(text, from + 32));
+                }
+                return Found::Nothing;
+            }
+        }
+    }
+    past_others(text, from, lead)
 }
 
 // A byte as a number of 64 bits.
@@ -231,7 +324,7 @@ pub fn is_utf8(text: &[u8]) -> bool
         if b < 0x80 {
             i = past_ascii(text, i);
         } else {
-            match past_others(text, i, b) {
+            match past_characters(text, i, b) {
                 Found::Nothing => return false,
                 Found::End(at) => i = at,
             }

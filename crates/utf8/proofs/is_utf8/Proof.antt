@@ -1,12 +1,11 @@
 -- `utf8::is_utf8` meets its contract. The loop's invariant: a character may begin at `i`, and the text from there on answers for the whole.
--- The measure is what is left of the length. Rests on `past`, where ASCII ends, and on `first-byte`, what another character's first byte does.
+-- The measure is what is left of the length. Rests on `past`, where ASCII ends, and on the contract of `past_characters`.
 use Prim.Native.Nat.{_-_, _≤_}
 use native.Mathlib.Omega.{arith}
 use mathlib.Core.Path.{_≡_, refl, sym, _∙_}
 use borrow.Author.Needs.{needs}
 use lib.ListN.{length, drop, drop-of-length-le}
 use Rattle.utf8.specs.Utf8.{utf8From, utf8}
-use Rattle.utf8.proofs.Bytes.{first-byte}
 use Rattle.utf8.proofs.Ascii.{run-within, first-part, past}
 use Rattle.utf8.proofs.is_utf8.Statement.{statement}
 use Rattle.utf8.proofs.is_utf8.Tie as tie
@@ -42,29 +41,27 @@ loop-again c =
     let p = past _ _ (l .loop-test .taken) (omega arith) (c .past-ascii .ensures) in
     (p .1, p .2 ∙ l .before .loop .inv .1)
 
-past-others-requires : tie.Need-past-others-requires Inv-loop μ-loop
-past-others-requires c κs = (omega arith, omega arith)
+past-characters-requires : tie.Need-past-characters-requires Inv-loop μ-loop
+past-characters-requires c κs = (omega arith, refl, omega arith)
 
 enum-told : tie.Need-enum-told Inv-loop μ-loop
 enum-told c = search needs
 
 returns : tie.Need-returns Inv-loop μ-loop
 returns c =
-    let l = c .before .before .before .before .before in
-    let e = rw (c .enum-told .given .1) at (c .before .before .past-others .ensures) in
-    sym e ∙ first-byte _ _ (l .loop-test .taken) _ refl ∙ l .before .loop .inv .1
+    let e = rw (c .enum-told .given .1) at (c .before .before .past-characters .ensures) in
+    sym e ∙ c .before .before .before .before .before .before .loop .inv .1
 
 enum-known-at : tie.Need-enum-known-at Inv-loop μ-loop
 enum-known-at c = search needs
 
 loop-less-2 : tie.Need-loop-less-2 Inv-loop μ-loop
-loop-less-2 c = omega (arith, rw (c .before .at .given .1) at (c .before .before .before .past-others .ensures))
+loop-less-2 c = omega (arith, rw (c .before .at .given .1) at (c .before .before .before .past-characters .ensures))
 
 loop-again-2 : tie.Need-loop-again-2 Inv-loop μ-loop
 loop-again-2 c =
-    let l = c .before .before .before .before .before .before in
-    let e = rw (c .before .at .given .1) at (c .before .before .before .past-others .ensures) in
-    (e .1, sym (e .2) ∙ first-byte _ _ (l .loop-test .taken) _ refl ∙ l .before .loop .inv .1)
+    let e = rw (c .before .at .given .1) at (c .before .before .before .past-characters .ensures) in
+    (e .1, sym (e .2) ∙ c .before .before .before .before .before .before .before .loop .inv .1)
 
 returns-2 : tie.Need-returns-2 Inv-loop μ-loop
 unfolding utf8 utf8From
@@ -82,7 +79,7 @@ is-utf8-spec =
     past-ascii-requires
     loop-less
     loop-again
-    past-others-requires
+    past-characters-requires
     enum-told
     returns
     enum-known-at
