@@ -1,7 +1,8 @@
 //! The checks must give the same answers, at all their places. The texts: every one of up to three bytes; those of four that begin with a
 //! byte above 0xEF and whose last two are near a tail's range; each byte at every place of ASCII of every length up to 33 and of lengths near
 //! that of one block and of two; characters, whole and broken off, after ASCII of every length up to 17 and near that of a block, and before
-//! ASCII of up to 17; and comments, and the same with a byte or two overwritten.
+//! ASCII of up to 17; each byte at every place of long texts of characters of every length, and every two bytes at some of their places; and
+//! comments, and the same with a byte or two overwritten.
 
 use crate::random::Random;
 use crate::Check;
@@ -15,6 +16,7 @@ pub fn everywhere(checks: &[Check]) -> Result<(usize, usize), String> {
     compared.short()?;
     compared.byte_in_ascii()?;
     compared.after_ascii()?;
+    compared.byte_among_characters()?;
     compared.random()?;
     Ok((compared.texts, compared.accepted))
 }
@@ -81,6 +83,35 @@ impl Compared<'_> {
                         let bytes = &character.as_bytes()[..part];
                         self.one(&[&vec![b'~'; before], bytes, &vec![0x7F; after]].concat())?;
                     }
+                }
+            }
+        }
+        Ok(())
+    }
+
+    /// Texts in which the check takes 32 bytes at a step: characters of one to four bytes, first in order and then at random, after ASCII
+    /// of every length up to 4. Each byte is overwritten by every other, and of some each two neighbours by every two.
+    fn byte_among_characters(&mut self) -> Result<(), String> {
+        let mut random = Random::new(13);
+        for before in 0..=4 {
+            let mut text = "~".repeat(before);
+            for i in 0..24 {
+                let which = if i < 12 { i % 4 } else { random.within(0, 4) };
+                text += ["ö", "€", "🔑", "a"][which];
+            }
+            let text = text.into_bytes();
+            for at in 0..text.len() {
+                for byte in 0..=0xFF {
+                    let mut other = text.clone();
+                    other[at] = byte;
+                    self.one(&other)?;
+                }
+            }
+            for at in (before + 3..text.len() - 1).step_by(3) {
+                for two in 0..=0xFFFF_u16 {
+                    let mut other = text.clone();
+                    other[at..at + 2].copy_from_slice(&two.to_be_bytes());
+                    self.one(&other)?;
                 }
             }
         }
