@@ -2,7 +2,6 @@
 -- what is left of the 128. Rests on `byte-ors`, a byte more.
 use Prim.Native.Nat.{_-_, _≤_, _<_}
 use native.Mathlib.Omega.{arith}
-use borrow.Author.Needs.{needs}
 use borrow.Author.Tests.{ltb-true}
 use lib.ListN.{drop}
 use Rattle.utf8.specs.Steps.{asciiRun}

@@ -1,11 +1,10 @@
 -- `utf8::past_blocks` meets its contract. The loop's invariant: the bytes before the place are ASCII. The measure is what is left of the length.
--- Rests on `part-of-run`, what a part of a run leaves.
+-- Rests on `first-part`, what a part of a run leaves.
 use Prim.Native.Nat.{_-_, _≤_}
 use native.Mathlib.Omega.{arith}
-use borrow.Author.Needs.{needs}
 use lib.ListN.{length}
 use Rattle.utf8.specs.Steps.{asciiRun}
-use Rattle.utf8.proofs.Ascii.{run-within, first-part}
+use Rattle.utf8.proofs.Ascii.{first-part}
 use Rattle.utf8.proofs.past_blocks.Statement.{statement}
 use Rattle.utf8.proofs.past_blocks.Tie as tie
 

@@ -1,12 +1,11 @@
 -- `utf8::past_others` meets its contract. Each branch's bytes are the first bytes of one row, or begin none. Rests on `rest-between`, which has
--- what they leave computed at each byte.
+-- what they leave computed at each byte, and on `no-row`.
 use Prim.Native.Nat.{_≤_}
 use native.Mathlib.Omega.{arith}
 use mathlib.Core.Path.{_≡_, refl}
 use mathlib.Core.Logic.{⊎-elim}
 use mathlib.Core.List.{[], _∷_}
-use borrow.Author.Needs.{needs}
-use Rattle.utf8.specs.Utf8.{_to_, Row, UTF8-char, rest}
+use Rattle.utf8.specs.Utf8.{_to_, UTF8-char, rest}
 use Rattle.utf8.specs.Laws.{rest-between}
 use Rattle.utf8.specs.Steps.{ranges}
 use Rattle.utf8.proofs.Bytes.{no-row}
@@ -58,6 +57,7 @@ returns-5 c =
     let e : ranges (0x80, 0xBF, 1) ≡ rest b UTF8-char = rest-between 0xE1 0xEC (unfold UTF8-char in refl) (omega arith) (omega arith) in
     rw (← e) (c .past-row4 .ensures)
 
+-- the bytes that are left are above 0xEC: none is above 0xE0 and below 0xE1
 returns-6 : tie.Need-returns-6
 returns-6 c =
     let b = c .before .before .before .before .before .before .args .lead in

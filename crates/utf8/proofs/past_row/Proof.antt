@@ -1,16 +1,13 @@
 -- `utf8::past_row` meets its contract. The loop's invariant: a character of the row begins at `at`, and what is left after its first byte answers
--- for what is left after that at `from`. The measure is what is left of the length. Rests on `rest-between`, which tells the row from the first
--- byte, and on `first-byte`.
-use Prim.Native.Nat.{ℕ, _+_, _-_, _≤_, _<_}
+-- for what is left after that at `from`. The measure is what is left of the length. Rests on `row-goes-on`, what a first byte of the
+-- row does.
+use Prim.Native.Nat.{_+_, _-_, _≤_, _<_}
 use native.Mathlib.Omega.{arith}
 use mathlib.Core.Path.{_≡_, refl, sym, _∙_}
-use mathlib.Core.List.{List}
-use mathlib.Core.Bool.{true}
 use borrow.Author.Needs.{needs}
 use lib.ListN.{length, drop}
-use Rattle.utf8.specs.Utf8.{_to_, Row, utf8From, utf8}
-use Rattle.utf8.specs.Laws.{leaves}
-use Rattle.utf8.specs.Steps.{ranges, liesAt}
+use Rattle.utf8.specs.Utf8.{utf8From}
+use Rattle.utf8.specs.Steps.{ranges}
 use Rattle.utf8.proofs.Bytes.{there, row-goes-on}
 use Rattle.utf8.proofs.past_row.Statement.{statement}
 use Rattle.utf8.proofs.past_row.Tie as tie
