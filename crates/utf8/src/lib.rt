@@ -185,8 +185,8 @@ fn past_characters(text: &[u8], from: usize, lead: u8) -> Found
     requires { ⌜ (from < length (now text)) × (lead ≡ getD (now text) from 0) × (0x80 ≤ lead) ⌝ }
     ensures { λ r. ⌜ Passes (now (text .entry)) from r ⌝ }
 {
-    if 3 <= from {
-        if 32 <= text.len() - from {
+    if 32 <= text.len() - from {
+        if 3 <= from {
             if begin_of(text, from) == from {
                 if all_follow(text, from - 3) {
                     return Found::End(begin_of(text, from + 32));

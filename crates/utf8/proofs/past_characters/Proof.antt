@@ -34,8 +34,8 @@ one-passes :
 one-passes t from h left e (End at) w = (omega (arith, w .0), w .1, sym (first-byte t from h left e) ∙ w .2)
 one-passes t from h left e Nothing w = sym (first-byte t from h left e) ∙ w
 
-sub-if2 : tie.Need-sub-if2
-sub-if2 c = search needs
+sub-if1 : tie.Need-sub-if1
+sub-if1 c = search needs
 
 begin-of-requires : tie.Need-begin-of-requires
 begin-of-requires c κs = (omega arith, omega arith)
@@ -74,7 +74,7 @@ pub past-characters-spec : {M : Type 1} → statement M
 past-characters-spec =
     tie.close
     (tie.spec
-    sub-if2
+    sub-if1
     begin-of-requires
     all-follow-requires
     add-begin-of
