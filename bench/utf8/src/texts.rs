@@ -16,15 +16,16 @@ type Piece = fn(&mut Random) -> String;
 
 pub fn cases() -> Vec<Case> {
     let mut cases: Vec<Case> = [7, 15, 16, 32, 256, 4_096, 65_000].iter().map(|&n| case("ASCII", n, ascii)).collect();
-    let others: [(&str, Piece); 5] = [
+    let others: [(&str, Piece); 6] = [
         ("2-byte characters", |random| from(random, 'А', 'я')),
         ("3-byte characters", |random| from(random, '一', '龥')),
         ("4-byte characters", |random| from(random, '🌀', '🗿')),
         ("six ASCII bytes and a 2-byte character", |random| several(random, 6) + &from(random, 'А', 'я')),
         ("words of ASCII, one in four with a 2-byte character", words),
+        ("characters of one to four bytes at random", any),
     ];
     for (sort, piece) in others {
-        cases.extend([32, 4_096].iter().map(|&n| case(sort, n, piece)));
+        cases.extend([32, 100, 4_096].iter().map(|&n| case(sort, n, piece)));
     }
     cases
 }
@@ -69,4 +70,10 @@ fn words(random: &mut Random) -> String {
         0 => word + "ö ",
         _ => word + " ",
     }
+}
+
+/// A character of any length.
+fn any(random: &mut Random) -> String {
+    let (first, last) = random.one_of(&[(' ', '~'), ('А', 'я'), ('一', '龥'), ('🌀', '🗿')]);
+    from(random, first, last)
 }

@@ -1,11 +1,12 @@
 -- How far ASCII goes (`asciiRun`): a run stays within the text; past a part of it the rest of the run is left, and the text from there on
 -- answers for the whole (`part-of-run`); what one byte tells of a run. Rests on the definitions of `asciiRun` and `liesAt`, and on `ascii-next`.
-use Prim.Native.Nat.{ℕ, zero, suc, _+_, _≤_, _<_}
+use Prim.Native.Nat.{ℕ, zero, suc, _+_, _-_, _≤_, _<_}
 use native.Mathlib.Omega.{arith}
 use mathlib.Core.Path.{_≡_, refl, sym, _∙_}
 use mathlib.Core.List.{List, [], _∷_}
 use mathlib.Core.Bool.{Bool, true, false, cond}
 use borrow.Author.Tests.{ltb-true, leb-true, leb-false, lt-ltb}
+use lib.Bits.{bitOr, or-add-and, and-le-l, and-le-r}
 use lib.Dec.{leb, ltb, leb·zero, leb·suc-suc}
 use lib.ListN.{length, length-drop, getD, drop}
 use lib.Seq.{drop-cons, drop-drop}
@@ -13,7 +14,7 @@ use Rattle.utf8.specs.Utf8.{_to_, utf8}
 use Rattle.utf8.specs.Laws.{ascii-next}
 use Rattle.utf8.specs.Steps.{asciiRun, begins, liesAt}
 
-run-within : (t : List ℕ) → asciiRun t ≤ length t
+pub run-within : (t : List ℕ) → asciiRun t ≤ length t
 unfolding asciiRun
 run-within [] = omega arith
 run-within (b ∷ t) = go (ltb b 0x80) (run-within t)
@@ -21,6 +22,9 @@ run-within (b ∷ t) = go (ltb b 0x80) (run-within t)
     go : (x : Bool) → asciiRun t ≤ length t → cond x (suc (asciiRun t)) 0 ≤ suc (length t)
     go true h = omega (arith, h)
     go false h = omega arith
+
+pub run-ends : (t : List ℕ) (i : ℕ) → i ≤ length t → i + asciiRun (drop i t) ≤ length t
+run-ends t i h = omega (arith, h, run-within (drop i t), length-drop i t)
 
 -- ---- a part of a run
 
@@ -35,10 +39,10 @@ run-begins b t h = go (ltb b 0x80) (ltb-true b 0x80) h
     go false b< h = absurd (omega (arith, h))
 
 -- the rest of the run, and of the text
-abbrev Left : (n : ℕ) (whole rest : List ℕ) → Type 0
+abbrev pub Left : (n : ℕ) (whole rest : List ℕ) → Type 0
 Left n whole rest = (asciiRun whole ≡ n + asciiRun rest) × (utf8 rest ≡ utf8 whole)
 
-first-part : (n : ℕ) (t : List ℕ) → n ≤ asciiRun t → Left n t (drop n t)
+pub first-part : (n : ℕ) (t : List ℕ) → n ≤ asciiRun t → Left n t (drop n t)
 first-part zero t h = (omega arith, refl)
 first-part (suc n) [] h = absurd (omega (arith, h, run-within []))
 first-part (suc n) (b ∷ t) h =
@@ -57,6 +61,13 @@ SameEnd t from i = i + asciiRun (drop i t) ≡ from + asciiRun (drop from t)
 pub passed : (t : List ℕ) (from i n : ℕ) → 0 < n → SameEnd t from i → n ≤ asciiRun (drop i t) →
     (asciiRun (drop (i + n) t) < asciiRun (drop i t)) × SameEnd t from (i + n)
 passed t from i n k e h = let p = part-of-run t i n h .0 in (omega (arith, k, p), omega (arith, e, p))
+
+-- the same end from a place before, within the run
+pub back : (t : List ℕ) (from i j : ℕ) → from ≤ i → i ≤ j → SameEnd t from j → SameEnd t from i
+back t from i j h k e =
+    let d : from + (i - from) ≡ i = omega (arith, h) in
+    let p = part-of-run t from (i - from) (omega (arith, h, k, e)) .0 in
+    omega (arith, h, rw d at p)
 
 -- ---- one byte
 
@@ -87,6 +98,15 @@ module _ (t : List ℕ) (i : ℕ) where
       (i < end) × (end ≤ length t) × (utf8 (drop end t) ≡ utf8 (drop i t))
   past h k e = (
     omega (arith, e, run-stands h k),
-    omega (arith, e, h, run-within (drop i t), length-drop i t),
+    omega (arith, e, run-ends t i (omega (arith, h))),
     rw e (part-of-run t i (asciiRun (drop i t)) (omega arith) .1),
   )
+
+-- a byte more that is or'ed to others: without a top bit in all of them together each is ASCII
+pub byte-ors : (t : List ℕ) (i k all : ℕ) → i + k < length t → (all < 0x80 → k ≤ asciiRun (drop i t)) →
+    bitOr all (getD t (i + k) 0) < 0x80 → k + 1 ≤ asciiRun (drop i t)
+byte-ors t i k all h before l =
+    let b = getD t (i + k) 0 in
+    let s = or-add-and all b in
+    let p = part-of-run t i k (before (omega (arith, l, s, and-le-r all b))) .0 in
+    omega (arith, p, run-stands t (i + k) h (omega (arith, l, s, and-le-l all b)))

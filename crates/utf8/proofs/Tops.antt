@@ -1,7 +1,7 @@
 -- The top bits of bytes as one number (`topBits`): where it is 0 all of them are ASCII (`no-tops`); else the zeros below its lowest set bit
 -- are eight for each ASCII byte before the first other one, and fewer than eight more (`tops-zeros`). And how it is made, a byte at a time
 -- (`byte-joins`). Rests on the definitions of `topBits` and `asciiRun`, and on the logic's laws of `bitAnd` and of trailing zeros.
-use Prim.Native.Nat.{ℕ, zero, suc, _+_, _*_, _/_, _%_, _^_, _≤_, _<_, min}
+use Prim.Native.Nat.{ℕ, zero, suc, _+_, _*_, _/_, _%_, _^_, _≤_, _<_}
 use native.Mathlib.Nat.{zero-add, suc-add, mul-one, pow-suc}
 use native.Mathlib.Omega.{arith}
 use mathlib.Core.Path.{_≡_, refl, sym, _∙_}
@@ -9,7 +9,7 @@ use mathlib.Core.List.{List, [], _∷_}
 use mathlib.Core.Bool.{Bool, true, false, cond}
 use borrow.Author.Tests.{ltb-true, ltb-false}
 use lib.Bits.{bitAnd, and-block, and-high, shifted-half, shifted-even}
-use lib.Count.{trailingZeros, trailing-le}
+use lib.Count.{trailingZeros}
 use lib.Dec.{ltb}
 use lib.ListN.{length, length-drop, getD, drop}
 use lib.Seq.{drop-cons}
@@ -64,13 +64,13 @@ tops-zeros (suc n) (b ∷ t) h e = go (ltb b 0x80) e (tops-zeros n t (omega (ari
         rw (m, s, shifted-zeros 7 (suc (n * 8)) (tops * 2 + 1), odd-zeros (n * 8) tops) (omega arith, omega arith)
 
 module _ (t : List ℕ) (i : ℕ) (h : i + 8 ≤ length t) {tops : ℕ} (e : tops ≡ topBits 8 (drop i t)) where
-  pub all-ascii : tops ≡ 0 → 8 ≡ min 8 (asciiRun (drop i t))
-  all-ascii z = omega (arith, no-tops 8 (drop i t) (omega (arith, h, length-drop i t)) (sym e ∙ z))
+  pub all-ascii : tops ≡ 0 → 8 ≤ asciiRun (drop i t)
+  all-ascii z = no-tops 8 (drop i t) (omega (arith, h, length-drop i t)) (sym e ∙ z)
 
-  pub fewer-ascii : (tops ≡ 0 → ⊥) → trailingZeros 64 tops / 8 ≡ min 8 (asciiRun (drop i t))
-  fewer-ascii z =
+  pub fewer-ascii : {k : ℕ} → (tops ≡ 0 → ⊥) → k ≡ trailingZeros 64 tops / 8 → k ≡ asciiRun (drop i t)
+  fewer-ascii z q =
       let r = tops-zeros 8 (drop i t) (omega (arith, h, length-drop i t)) (λ q. z (e ∙ q)) in
-      rw e (omega (arith, r .0, r .1, trailing-le 64 (topBits 8 (drop i t))))
+      omega (arith, q, rw (← e) at r .0, rw (← e) at r .1)
 
 -- ---- how it is made
 

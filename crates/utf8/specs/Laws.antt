@@ -12,7 +12,7 @@ use lib.ListN.{length, getD}
 use lib.Dec.{leb, eqb}
 use Rattle.utf8.specs.Utf8.{_to_, Row, UTF8-char, InRow, done, next, Octets, end, char, lies, rest, utf8From, utf8}
 
-lies-is : (low high b : ℕ) → lies (low to high) b ≡ true → (low ≤ b) × (b ≤ high)
+pub lies-is : (low high b : ℕ) → lies (low to high) b ≡ true → (low ≤ b) × (b ≤ high)
 lies-is low high b e =
     let f = and-eq-true-iff (leb low b) (leb b high) .0 e in
     (leb-true low b (f .0), leb-true b high (f .1))
@@ -48,14 +48,22 @@ same-is (low to high ∷ rs) (low′ to high′ ∷ ss) e =
     let g = and-eq-true-iff (eqb high high′) (same rs ss) .0 (f .1) in
     cc (eqb-true low low′ (f .0), eqb-true high high′ (g .0), same-is rs ss (g .1))
 
--- these ranges are left after each byte from low to high
+-- these ranges, which may hang on the byte, are left after each byte from low to high
+abbrev pub eachLeaves : ℕ → ℕ → (ℕ → Row) → Bool
+eachLeaves low high ranges = every (λ b. same (ranges b) (rest b UTF8-char)) low (suc high - low)
+
+pub rest-each : (low high : ℕ) (ranges : ℕ → Row) (b : ℕ) → eachLeaves low high ranges ≡ true → low ≤ b → b ≤ high →
+    ranges b ≡ rest b UTF8-char
+rest-each low high ranges b e h k =
+    same-is _ _ (each (λ (b : ℕ). same (ranges b) (rest b UTF8-char)) low (suc high - low) b e h (omega arith))
+
+-- the same ranges after each
 abbrev pub leaves : ℕ → ℕ → Row → Bool
-leaves low high ranges = every (λ b. same ranges (rest b UTF8-char)) low (suc high - low)
+leaves low high ranges = eachLeaves low high (λ b. ranges)
 
 pub rest-between : (low high : ℕ) {ranges : Row} {b : ℕ} → leaves low high ranges ≡ true → low ≤ b → b ≤ high →
     ranges ≡ rest b UTF8-char
-rest-between low high {ranges} {b} e h k =
-    same-is _ _ (each (λ (b : ℕ). same ranges (rest b UTF8-char)) low (suc high - low) b e h (omega arith))
+rest-between low high {ranges} {b} e h k = rest-each low high (λ b. ranges) b e h k
 
 -- each byte of the row's first range leaves the row's other ranges
 abbrev tells : Row → Bool

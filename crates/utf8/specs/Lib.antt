@@ -3,3 +3,4 @@ pub mod Utf8
 pub mod Laws
 pub mod Examples
 pub mod Steps
+pub mod Follow

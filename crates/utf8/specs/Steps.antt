@@ -1,5 +1,5 @@
 -- What the functions of the check answer on the way: how far ASCII goes, a byte at a place, what is left of a character, and where it ends.
-use Prim.Native.Nat.{ℕ, zero, suc, _+_, _*_, _≤_}
+use Prim.Native.Nat.{ℕ, zero, suc, _+_, _*_, _≤_, _<_}
 use mathlib.Core.Path.{_≡_}
 use mathlib.Core.List.{List, [], _∷_}
 use mathlib.Core.Bool.{Bool, false, cond}
@@ -38,3 +38,8 @@ ranges r = r .0 to r .1 ∷ replicate (r .2) UTF8-tail
 abbrev pub Ends : List ℕ → ℕ → Row → Found → Type 0
 Ends t from row (End at) = (from ≤ at) × (at ≤ length t) × (utf8From row (drop from t) ≡ utf8 (drop at t))
 Ends t from row Nothing = utf8From row (drop from t) ≡ false
+
+-- the text from the place on, where a character may begin, is answered by the text from an end on; or it is not UTF-8
+abbrev pub Passes : List ℕ → ℕ → Found → Type 0
+Passes t from (End at) = (from < at) × (at ≤ length t) × (utf8 (drop from t) ≡ utf8 (drop at t))
+Passes t from Nothing = utf8 (drop from t) ≡ false
