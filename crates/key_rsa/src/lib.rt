@@ -1,5 +1,8 @@
 // RSA's numbers, as a public blob and a keypair have them: first all are read, then their sizes are looked at.
 ghost use mathlib.Core.Path.{_≡_};
+ghost use Rattle.fields.specs.Fields.{viewOf};
+ghost use Rattle.mpint.specs.Mpint.{atMost, modulusSize};
+ghost use Rattle.mpint.specs.declared.Size.the-variants.{Bits};
 ghost use Rattle.key_rsa.specs.Rsa.{twoAt, sixAt, outside, othersAt, othersOf, rsaPublicAt, rsaPairAt};
 use fields::Cursor;
 use fields::Ending;
@@ -44,6 +47,18 @@ fn outside_at(number: Part) -> Fault
     }
 }
 
+// Has a number at most as many bits as the modulus n has? One that has no more bytes than these bits fill is
+// not looked at.
+fn fits(image: &[u8], n: Part, bits: usize, number: Part) -> bool
+    requires { ⌜ modulusSize (viewOf (now image) n) ≡ Bits bits ⌝ }
+    ensures { λ r. ⌜ r ≡ atMost (viewOf (now (image .entry)) number) (viewOf (now (image .entry)) n) ⌝ }
+{
+    if number.length <= bits / 8 {
+        return true;
+    }
+    mpint::at_most(fields::view(image, number), fields::view(image, n))
+}
+
 // The places of modulus and exponent, and the modulus's bits.
 pub enum RsaPublic {
     Numbers(Part, Part, usize, Cursor),
@@ -58,13 +73,20 @@ pub fn read_rsa_public(c: Cursor, image: &[u8]) -> RsaPublic
         Two::Refused(f) => RsaPublic::Refused(f),
         Two::Numbers(e, n, d) => {
             let modulus = fields::view(image, n);
-            if mpint::at_most(fields::view(image, e), modulus) {
-                return match mpint::modulus_size(modulus) {
-                    Size::Outside => RsaPublic::Refused(outside_at(n)),
-                    Size::Bits(bits) => RsaPublic::Numbers(n, e, bits, d),
-                };
+            match mpint::modulus_size(modulus) {
+                Size::Bits(bits) => {
+                    if fits(image, n, bits, e) {
+                        return RsaPublic::Numbers(n, e, bits, d);
+                    }
+                    RsaPublic::Refused(outside_at(e))
+                }
+                Size::Outside => {
+                    if mpint::at_most(fields::view(image, e), modulus) {
+                        return RsaPublic::Refused(outside_at(n));
+                    }
+                    RsaPublic::Refused(outside_at(e))
+                }
             }
-            RsaPublic::Refused(outside_at(e))
         }
     }
 }
@@ -110,23 +132,23 @@ pub fn read_six(c: Cursor, image: &[u8]) -> SixRead
 }
 
 // The first, in that order, that has more bits than the modulus.
-fn others_fit(image: &[u8], x: Six) -> Ending
+fn others_fit(image: &[u8], x: Six, bits: usize) -> Ending
+    requires { ⌜ modulusSize (viewOf (now image) (x .n)) ≡ Bits bits ⌝ }
     ensures { λ r. ⌜ r ≡ othersAt (now (image .entry)) (x .n) (othersOf x) ⌝ }
 {
-    let modulus = fields::view(image, x.n);
-    if !mpint::at_most(fields::view(image, x.e), modulus) {
+    if !fits(image, x.n, bits, x.e) {
         return Ending::Refused(outside_at(x.e));
     }
-    if !mpint::at_most(fields::view(image, x.d), modulus) {
+    if !fits(image, x.n, bits, x.d) {
         return Ending::Refused(outside_at(x.d));
     }
-    if !mpint::at_most(fields::view(image, x.iqmp), modulus) {
+    if !fits(image, x.n, bits, x.iqmp) {
         return Ending::Refused(outside_at(x.iqmp));
     }
-    if !mpint::at_most(fields::view(image, x.p), modulus) {
+    if !fits(image, x.n, bits, x.p) {
         return Ending::Refused(outside_at(x.p));
     }
-    if !mpint::at_most(fields::view(image, x.q), modulus) {
+    if !fits(image, x.n, bits, x.q) {
         return Ending::Refused(outside_at(x.q));
     }
     Ending::Clean
@@ -145,7 +167,7 @@ pub fn read_rsa_pair(c: Cursor, image: &[u8]) -> RsaPair
         SixRead::Refused(f) => RsaPair::Refused(f),
         SixRead::Six(x, d) => match mpint::modulus_size(fields::view(image, x.n)) {
             Size::Outside => RsaPair::Refused(outside_at(x.n)),
-            Size::Bits(bits) => match others_fit(image, x) {
+            Size::Bits(bits) => match others_fit(image, x, bits) {
                 Ending::Refused(f) => RsaPair::Refused(f),
                 Ending::Clean => RsaPair::Numbers(x, bits, d),
             },

@@ -2,7 +2,7 @@
 use Prim.Native.Nat.{ℕ, zero, suc, _+_, _-_, _*_, _/_, _≤_, _<_}
 use native.Mathlib.Omega.{arith}
 use mathlib.Core.Path.{_≡_, refl, sym, _∙_, ap}
-use mathlib.Core.Bool.{cond}
+use mathlib.Core.Bool.{true, cond}
 use mathlib.Core.List.{List, [], _∷_}
 use mathlib.Core.Logic.{_⊎_, inl, inr}
 use borrow.Author.Tests.{ltb-true, ltb-false, leb-true, leb-false, le-leb, lt-leb}
@@ -126,6 +126,11 @@ bits-least b h = go (remaining b) (topZeros b) h (top-zeros b)
     go : (m z : ℕ) → 0 < m → Leading m z → 8 * m < 8 * m - z + 8
     go m z h (inl a) = absurd (omega arith)
     go m z h (inr a) = omega arith
+
+-- one that has no more bytes than the bits of another fill has at most as many bits
+pub short-fits : (x y : List ℕ) → 8 * length x ≤ bits y → atMost x y ≡ true
+unfolding atMost
+short-fits x y h = le-leb (bits x) (bits y) (omega (arith, bits-most x, h))
 
 -- ---- the size of a modulus
 

@@ -1,11 +1,12 @@
 // The plain writer of the four kinds over a curve: key material and a comment to an image. It checks all, in the
 // paper's order, before it changes a byte.
 ghost use mathlib.Core.Path.{_≡_};
-ghost use mathlib.Core.List.{_++_};
+ghost use mathlib.Core.List.{[], _∷_, _++_};
 ghost use Prim.Native.Nat.{_+_, _<_};
 ghost use lib.ListN.{length};
-ghost use Rattle.fields.specs.Bytes.{string};
+ghost use Rattle.fields.specs.Bytes.{string, join};
 ghost use Rattle.names.specs.declared.Algorithm.the-variants.{Elliptic as OnCurve};
+ghost use Rattle.names.specs.Algorithms.{algorithmName};
 ghost use Rattle.format.specs.Format.{ofPoint, ofScalar, curveField, publicLength, pointTag, notZero, blob, privateField, minimal, leadingZero, zeroLength, scalarFilled, LengthAllowed, writtenScalar, writtenPair, paddingLength, section, writtenImage};
 ghost use Rattle.format.specs.Lengths.{pointBlobLength, privateFieldLength, contentLength};
 ghost use Rattle.buffer.specs.Puts.{isPut};
@@ -18,21 +19,33 @@ use fields::Part;
 use fields::Refusal;
 use key_material::Checkint;
 use key_material::Material;
-use names::Algorithm;
 use names::Curve;
 use names::Elliptic;
 use writer_reply::Written;
 
-fn put_curve(out: &mut [u8], at: usize, algorithm: Elliptic) -> usize
-    ensures { λ r. ⌜ isPut (now (out .entry)) at (curveField algorithm) r (now (out .exit)) ⌝ }
+// The algorithm's name and the curve's, as strings.
+fn put_names(out: &mut [u8], at: usize, algorithm: Elliptic) -> usize
+    ensures { λ r. ⌜ isPut (now (out .entry)) at (join (string (algorithmName (OnCurve algorithm)) ∷ curveField algorithm ∷ [])) r (now (out .exit)) ⌝ }
 {
     match algorithm {
-        Elliptic::Ed25519 => at,
-        Elliptic::Ecdsa(curve) => names_spelling::put_name_string(
-            out,
-            at,
-            names_spelling::curve_name(curve),
-        ),
+        Elliptic::Ed25519 => buffer::put(out, at, b"\0\0\0\x0bssh-ed25519"),
+        Elliptic::Ecdsa(curve) => match curve {
+            Curve::Nistp256 => buffer::put(
+                out,
+                at,
+                b"\0\0\0\x13ecdsa-sha2-nistp256\0\0\0\x08nistp256",
+            ),
+            Curve::Nistp384 => buffer::put(
+                out,
+                at,
+                b"\0\0\0\x13ecdsa-sha2-nistp384\0\0\0\x08nistp384",
+            ),
+            Curve::Nistp521 => buffer::put(
+                out,
+                at,
+                b"\0\0\0\x13ecdsa-sha2-nistp521\0\0\0\x08nistp521",
+            ),
+        },
     }
 }
 
@@ -40,13 +53,8 @@ fn put_curve(out: &mut [u8], at: usize, algorithm: Elliptic) -> usize
 fn put_key(out: &mut [u8], at: usize, algorithm: Elliptic, point: &[u8]) -> usize
     ensures { λ r. ⌜ isRun (now (out .entry)) at (blob (OnCurve algorithm) (ofPoint (now (point .entry)))) r (now (out .exit)) ⌝ }
 {
-    let a = names_spelling::put_name_string(
-        out,
-        at,
-        names_spelling::algorithm_name(Algorithm::Elliptic(algorithm)),
-    );
-    let b = put_curve(out, a, algorithm);
-    buffer::put_string(out, b, point)
+    let a = put_names(out, at, algorithm);
+    buffer::put_string(out, a, point)
 }
 
 // Two parts in one string.

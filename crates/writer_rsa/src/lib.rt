@@ -3,10 +3,14 @@
 ghost use mathlib.Core.Path.{_≡_};
 ghost use Prim.Native.Nat.{_<_};
 ghost use lib.ListN.{length};
+ghost use Rattle.fields.specs.Bytes.{string};
 ghost use Rattle.names.specs.declared.Algorithm.the-variants.{Rsa};
-ghost use Rattle.mpint.specs.Mpint.{modulusFits};
+ghost use Rattle.names.specs.Algorithms.{algorithmName};
+ghost use Rattle.mpint.specs.Mpint.{atMost, modulusSize};
+ghost use Rattle.mpint.specs.declared.Size.the-variants.{Bits};
 ghost use Rattle.format.specs.Format.{ofModulus, ofNumbers, blob, keypair, paddingLength, section, writtenImage};
 ghost use Rattle.format.specs.Lengths.{contentLength};
+ghost use Rattle.buffer.specs.Puts.{isPut};
 ghost use Rattle.buffer.specs.Runs.{isRun};
 ghost use Rattle.key_material.specs.Material.{checkintOf};
 ghost use Rattle.writer_reply.specs.Reply.{isSized};
@@ -15,9 +19,7 @@ ghost use Rattle.writer_rsa.specs.Short.{Short};
 use fields::Refusal;
 use key_material::Checkint;
 use mpint::Size;
-use mpint::at_most;
 use mpint::is_mpint;
-use names::Algorithm;
 use writer_reply::Written;
 
 // Are all six positive and minimal?
@@ -27,36 +29,46 @@ fn all_mpints(n: &[u8], e: &[u8], d: &[u8], iqmp: &[u8], p: &[u8], q: &[u8]) -> 
     is_mpint(n) & is_mpint(e) & is_mpint(d) & is_mpint(iqmp) & is_mpint(p) & is_mpint(q)
 }
 
-fn modulus_fits(n: &[u8]) -> bool
-    ensures { λ r. ⌜ r ≡ modulusFits (now (n .entry)) ⌝ }
+// Has a number at most as many bits as the modulus n has? One that has no more bytes than these bits fill is
+// not looked at.
+fn fits(n: &[u8], bits: usize, number: &[u8]) -> bool
+    requires { ⌜ modulusSize (now n) ≡ Bits bits ⌝ }
+    ensures { λ r. ⌜ r ≡ atMost (now (number .entry)) (now (n .entry)) ⌝ }
 {
-    match mpint::modulus_size(n) {
-        Size::Outside => false,
-        Size::Bits(_) => true,
+    if number.len() <= bits / 8 {
+        return true;
     }
+    mpint::at_most(number, n)
 }
 
 // Has the modulus its size, and no other number more bits?
 fn sizes_fit(n: &[u8], e: &[u8], d: &[u8], iqmp: &[u8], p: &[u8], q: &[u8]) -> bool
     ensures { λ r. ⌜ r ≡ sizesFit (ofModulus (now (n .entry)) (now (e .entry))) (ofNumbers (now (d .entry)) (now (iqmp .entry)) (now (p .entry)) (now (q .entry))) ⌝ }
 {
-    modulus_fits(n)
-        & at_most(e, n)
-        & at_most(d, n)
-        & at_most(iqmp, n)
-        & at_most(p, n)
-        & at_most(q, n)
+    match mpint::modulus_size(n) {
+        Size::Outside => false,
+        Size::Bits(bits) => {
+            fits(n, bits, e)
+                & fits(n, bits, d)
+                & fits(n, bits, iqmp)
+                & fits(n, bits, p)
+                & fits(n, bits, q)
+        }
+    }
+}
+
+// The algorithm's name, as a string.
+fn put_name(out: &mut [u8], at: usize) -> usize
+    ensures { λ r. ⌜ isPut (now (out .entry)) at (string (algorithmName Rsa)) r (now (out .exit)) ⌝ }
+{
+    buffer::put(out, at, b"\0\0\0\x07ssh-rsa")
 }
 
 // A public key: the name, e and n.
 fn put_key(out: &mut [u8], at: usize, n: &[u8], e: &[u8]) -> usize
     ensures { λ r. ⌜ isRun (now (out .entry)) at (blob Rsa (ofModulus (now (n .entry)) (now (e .entry)))) r (now (out .exit)) ⌝ }
 {
-    let a = names_spelling::put_name_string(
-        out,
-        at,
-        names_spelling::algorithm_name(Algorithm::Rsa),
-    );
+    let a = put_name(out, at);
     let b = buffer::put_string(out, a, e);
     buffer::put_string(out, b, n)
 }
@@ -74,11 +86,7 @@ fn put_pair(
 ) -> usize
     ensures { λ r. ⌜ isRun (now (out .entry)) at (keypair Rsa 0 (ofModulus (now (n .entry)) (now (e .entry))) (ofNumbers (now (d .entry)) (now (iqmp .entry)) (now (p .entry)) (now (q .entry)))) r (now (out .exit)) ⌝ }
 {
-    let at_n = names_spelling::put_name_string(
-        out,
-        at,
-        names_spelling::algorithm_name(Algorithm::Rsa),
-    );
+    let at_n = put_name(out, at);
     let at_e = buffer::put_string(out, at_n, n);
     let at_d = buffer::put_string(out, at_e, e);
     let at_iqmp = buffer::put_string(out, at_d, d);

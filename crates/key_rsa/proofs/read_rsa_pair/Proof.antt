@@ -29,7 +29,7 @@ enum-known-bits : tie.Need-enum-known-bits
 enum-known-bits c = search needs
 
 others-fit-requires : tie.Need-others-fit-requires
-others-fit-requires c κs = search needs
+others-fit-requires c κs = rw (← c .before .before .before .before .view .ensures .0, ← c .before .before .before .modulus-size .ensures, c .before .bits .given .1)
 
 enum-known-f-2 : tie.Need-enum-known-f-2
 enum-known-f-2 c = search needs

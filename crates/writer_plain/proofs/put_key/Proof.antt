@@ -1,19 +1,16 @@
--- `writer_plain::put_key` meets its contract: name, curve and point, put one after the other, are the blob. Rests on the laws of runs.
-use Rattle.format.specs.Format.{blob}
-use Rattle.buffer.specs.Runs.{start, step, finish}
-use Rattle.names_spelling.specs.Spelling.{algorithm-spelled}
+-- `writer_plain::put_key` meets its contract: the names and the point, put one after the other, are the blob. Rests on the laws of runs.
+use mathlib.Core.List.{[], _∷_}
+use Rattle.fields.specs.Bytes.{string}
+use Rattle.names.specs.declared.Algorithm.the-variants.{Elliptic as OnCurve}
+use Rattle.names.specs.Algorithms.{algorithmName}
+use Rattle.format.specs.Format.{blob, curveField}
+use Rattle.buffer.specs.Runs.{start, step, runs, finish}
 use borrow.Author.Needs.{needs}
 use Rattle.writer_plain.proofs.put_key.Statement.{statement}
 use Rattle.writer_plain.proofs.put_key.Tie as tie
 
-algorithm-name-requires : tie.Need-algorithm-name-requires
-algorithm-name-requires c κs = search needs
-
-put-name-string-requires : tie.Need-put-name-string-requires
-put-name-string-requires c κs = search needs
-
-put-curve-requires : tie.Need-put-curve-requires
-put-curve-requires c κs = search needs
+put-names-requires : tie.Need-put-names-requires
+put-names-requires c κs = search needs
 
 put-string-requires : tie.Need-put-string-requires
 put-string-requires c κs = search needs
@@ -24,16 +21,9 @@ same-length c = search needs
 returns : tie.Need-returns
 unfolding blob
 returns c room =
-    let name = rw (c .before .before .before .before .before .before .before .before .before .before .before .algorithm-name .ensures, algorithm-spelled _) at (c .before .before .before .before .before .before .before .before .before .before .put-name-string .ensures) in
-    finish (step (step (step (start room) name) (c .before .before .before .before .before .before .put-curve .ensures)) (c .before .before .put-string .ensures))
+    let e = c .before .before .before .before .before .before .before .before .before .before .args .algorithm in
+    let names = string (algorithmName (OnCurve e)) ∷ curveField e ∷ [] in
+    finish (step (runs names (start room) (λ h. c .before .before .before .before .before .before .put-names .ensures)) (c .before .before .put-string .ensures))
 
 pub put-key-spec : {M : Type 1} → statement M
-put-key-spec =
-    tie.close
-    (tie.spec
-    algorithm-name-requires
-    put-name-string-requires
-    put-curve-requires
-    put-string-requires
-    same-length
-    returns)
+put-key-spec = tie.close (tie.spec put-names-requires put-string-requires same-length returns)

@@ -1,17 +1,12 @@
 -- `writer_rsa::put_pair` meets its contract: name and numbers, put one after the other, are the keypair. Rests on the laws of runs.
-use Rattle.names.specs.declared.Algorithm.the-variants.{Rsa}
 use Rattle.format.specs.Format.{keypair}
 use Rattle.buffer.specs.Runs.{start, step, finish}
-use Rattle.names_spelling.specs.Spelling.{algorithm-spelled}
 use borrow.Author.Needs.{needs}
 use Rattle.writer_rsa.proofs.put_pair.Statement.{statement}
 use Rattle.writer_rsa.proofs.put_pair.Tie as tie
 
-algorithm-name-requires : tie.Need-algorithm-name-requires
-algorithm-name-requires c κs = search needs
-
-put-name-string-requires : tie.Need-put-name-string-requires
-put-name-string-requires c κs = search needs
+put-name-requires : tie.Need-put-name-requires
+put-name-requires c κs = search needs
 
 put-string-requires : tie.Need-put-string-requires
 put-string-requires c κs = search needs
@@ -37,7 +32,7 @@ same-length c = search needs
 returns : tie.Need-returns
 unfolding keypair
 returns c room =
-    let name = rw (c .before .before .before .before .before .before .before .before .before .before .before .before .before .before .before .before .before .before .before .before .before .before .before .before .before .before .before .algorithm-name .ensures, algorithm-spelled Rsa) at (c .before .before .before .before .before .before .before .before .before .before .before .before .before .before .before .before .before .before .before .before .before .before .before .before .before .before .put-name-string .ensures) in
+    let name = c .before .before .before .before .before .before .before .before .before .before .before .before .before .before .before .before .before .before .before .before .before .before .before .before .before .before .put-name .ensures in
     let public = step (step (step (start room) name) (c .before .before .before .before .before .before .before .before .before .before .before .before .before .before .before .before .before .before .before .before .before .before .put-string .ensures)) (c .before .before .before .before .before .before .before .before .before .before .before .before .before .before .before .before .before .before .put-string2 .ensures) in
     let two = step (step public (c .before .before .before .before .before .before .before .before .before .before .before .before .before .before .put-string3 .ensures)) (c .before .before .before .before .before .before .before .before .before .before .put-string4 .ensures) in
     finish (step (step two (c .before .before .before .before .before .before .put-string5 .ensures)) (c .before .before .put-string6 .ensures))
@@ -46,8 +41,7 @@ pub put-pair-spec : {M : Type 1} → statement M
 put-pair-spec =
     tie.close
     (tie.spec
-    algorithm-name-requires
-    put-name-string-requires
+    put-name-requires
     put-string-requires
     put-string-requires-2
     put-string-requires-3
