@@ -5,22 +5,15 @@ use Rattle.buffer.specs.Determined.{DeterminedBuffer}
 use Rattle.fields.specs.Determined.{Determined}
 use Rattle.names_spelling.proofs.algorithm_name.Reads as algorithm-name
 use Rattle.names_spelling.proofs.algorithm_name.Kinds as algorithm-name-kinds
-use Rattle.names_spelling.proofs.curve_name.Reads as curve-name
-use Rattle.names_spelling.proofs.curve_name.Kinds as curve-name-kinds
 use Rattle.names_spelling.proofs.cipher_name.Reads as cipher-name
 use Rattle.names_spelling.proofs.cipher_name.Kinds as cipher-name-kinds
 use Rattle.names_spelling.proofs.kdf_name.Reads as kdf-name
 use Rattle.names_spelling.proofs.kdf_name.Kinds as kdf-name-kinds
 use Rattle.names_spelling.proofs.put_name.Reads as put-name
 use Rattle.names_spelling.proofs.put_name.Kinds as put-name-kinds
-use Rattle.names_spelling.proofs.put_name_string.Reads as put-name-string
-use Rattle.names_spelling.proofs.put_name_string.Kinds as put-name-string-kinds
 
 pub algorithm-name-determined : Determined 0 algorithm-name-kinds.ps algorithm-name-kinds.r algorithm-name.Post
 algorithm-name-determined κs a r₁ r₂ s₁ s₂ p q = cc
-
-pub curve-name-determined : Determined 0 curve-name-kinds.ps curve-name-kinds.r curve-name.Post
-curve-name-determined κs a r₁ r₂ s₁ s₂ p q = cc
 
 pub cipher-name-determined : Determined 0 cipher-name-kinds.ps cipher-name-kinds.r cipher-name.Post
 cipher-name-determined κs a r₁ r₂ s₁ s₂ p q = cc
@@ -30,6 +23,3 @@ kdf-name-determined κs a r₁ r₂ s₁ s₂ p q = cc
 
 pub put-name-determined : DeterminedBuffer 1 put-name-kinds.ps put-name-kinds.r put-name.Post (λ κs s. now (s .0))
 put-name-determined κs a r₁ r₂ s₁ s₂ p q = (cc, cc)
-
-pub put-name-string-determined : DeterminedBuffer 1 put-name-string-kinds.ps put-name-string-kinds.r put-name-string.Post (λ κs s. now (s .0))
-put-name-string-determined κs a r₁ r₂ s₁ s₂ p q = (cc, cc)

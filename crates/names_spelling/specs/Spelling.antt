@@ -2,10 +2,9 @@
 use Prim.Native.Nat.{ℕ, _≤_}
 use native.Mathlib.Omega.{arith}
 use mathlib.Core.Path.{_≡_, refl}
-use mathlib.Core.Bool.{Bool, true, false}
 use mathlib.Core.List.{List, [], _∷_}
 use lib.ListN.{length}
-use Rattle.fields.specs.Bytes.{ascii, string, join}
+use Rattle.fields.specs.Bytes.{ascii, join}
 use Rattle.fields.specs.Fields.{part, viewOf}
 use Rattle.fields.specs.declared.Part.{Part}
 use Rattle.names.specs.declared.Algorithm.{Algorithm}
@@ -17,7 +16,7 @@ use Rattle.names.specs.declared.Curve.{Curve}
 use Rattle.names.specs.declared.Curve.the-variants.{Nistp256, Nistp384, Nistp521}
 use Rattle.names.specs.declared.Kdf.{Kdf}
 use Rattle.names.specs.declared.Kdf.the-variants as kdf
-use Rattle.names.specs.Algorithms.{algorithmName, curveName}
+use Rattle.names.specs.Algorithms.{algorithmName}
 use Rattle.names.specs.Ciphers.{cipherName, kdfName}
 
 abbrev pub nameTable : List ℕ
@@ -35,12 +34,6 @@ algorithmPlace (OnCurve (Ecdsa Nistp384)) = part 165 19
 algorithmPlace (OnCurve (Ecdsa Nistp521)) = part 185 19
 algorithmPlace Rsa = part 205 7
 
--- a curve's name ends its algorithm's
-abbrev pub curvePlace : Curve → Part
-curvePlace Nistp256 = part 156 8
-curvePlace Nistp384 = part 176 8
-curvePlace Nistp521 = part 196 8
-
 abbrev pub cipherPlace : Cipher → Part
 cipherPlace cipher.None = part 0 4
 cipherPlace cipher.TripleDesCbc = part 12 8
@@ -57,11 +50,6 @@ abbrev pub kdfPlace : Kdf → Part
 kdfPlace kdf.None = part 0 4
 kdfPlace kdf.Bcrypt = part 5 6
 
--- a name as a string, or its bytes alone
-abbrev pub spelled : Bool → List ℕ → List ℕ
-spelled true name = string name
-spelled false name = name
-
 -- ---- each name is spelled where the table says
 
 pub algorithm-spelled : (a : Algorithm) → viewOf nameTable (algorithmPlace a) ≡ algorithmName a
@@ -71,12 +59,6 @@ algorithm-spelled (OnCurve (Ecdsa Nistp256)) = refl
 algorithm-spelled (OnCurve (Ecdsa Nistp384)) = refl
 algorithm-spelled (OnCurve (Ecdsa Nistp521)) = refl
 algorithm-spelled Rsa = refl
-
-pub curve-spelled : (k : Curve) → viewOf nameTable (curvePlace k) ≡ curveName k
-unfolding viewOf
-curve-spelled Nistp256 = refl
-curve-spelled Nistp384 = refl
-curve-spelled Nistp521 = refl
 
 pub cipher-spelled : (c : Cipher) → viewOf nameTable (cipherPlace c) ≡ cipherName c
 unfolding viewOf

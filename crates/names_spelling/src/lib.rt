@@ -1,10 +1,8 @@
-// The names of algorithms, curves, ciphers and KDFs spelled out: all stand in one table, from which they
-// are put.
+// The names of algorithms, ciphers and KDFs spelled out: all stand in one table, from which they are put.
 ghost use mathlib.Core.Path.{_≡_};
-ghost use Rattle.fields.specs.Bytes.{string};
 ghost use Rattle.fields.specs.Fields.{part, viewOf};
 ghost use Rattle.buffer.specs.Puts.{isPut};
-ghost use Rattle.names_spelling.specs.Spelling.{nameTable, algorithmPlace, curvePlace, cipherPlace, kdfPlace, spelled};
+ghost use Rattle.names_spelling.specs.Spelling.{nameTable, algorithmPlace, cipherPlace, kdfPlace};
 use fields::Part;
 use names::Algorithm;
 use names::Cipher;
@@ -39,16 +37,6 @@ pub fn algorithm_name(algorithm: Algorithm) -> Part
     }
 }
 
-pub fn curve_name(curve: Curve) -> Part
-    ensures { λ r. ⌜ r ≡ curvePlace curve ⌝ }
-{
-    match curve {
-        Curve::Nistp256 => named(156, 8),
-        Curve::Nistp384 => named(176, 8),
-        Curve::Nistp521 => named(196, 8),
-    }
-}
-
 pub fn cipher_name(cipher: Cipher) -> Part
     ensures { λ r. ⌜ r ≡ cipherPlace cipher ⌝ }
 {
@@ -75,28 +63,12 @@ pub fn kdf_name(kdf: Kdf) -> Part
     }
 }
 
-// Puts a name, with its length before it where it is to be a string.
-fn put_spelled(out: &mut [u8], at: usize, name: Part, as_string: bool) -> usize
-    ensures { λ r. ⌜ isPut (now (out .entry)) at (spelled as_string (viewOf nameTable name)) r (now (out .exit)) ⌝ }
+pub fn put_name(out: &mut [u8], at: usize, name: Part) -> usize
+    ensures { λ r. ⌜ isPut (now (out .entry)) at (viewOf nameTable name) r (now (out .exit)) ⌝ }
 {
     let table =
         b"none bcrypt 3des-cbc aes128-cbc aes192-cbc aes256-cbc aes128-ctr aes192-ctr aes256-ctr \
         aes128-gcm@openssh.com aes256-gcm@openssh.com ssh-ed25519 ecdsa-sha2-nistp256 ecdsa-sha2-nistp384 \
         ecdsa-sha2-nistp521 ssh-rsa";
-    if as_string {
-        return buffer::put_string(out, at, fields::view(table, name));
-    }
     buffer::put(out, at, fields::view(table, name))
-}
-
-pub fn put_name(out: &mut [u8], at: usize, name: Part) -> usize
-    ensures { λ r. ⌜ isPut (now (out .entry)) at (viewOf nameTable name) r (now (out .exit)) ⌝ }
-{
-    put_spelled(out, at, name, false)
-}
-
-pub fn put_name_string(out: &mut [u8], at: usize, name: Part) -> usize
-    ensures { λ r. ⌜ isPut (now (out .entry)) at (string (viewOf nameTable name)) r (now (out .exit)) ⌝ }
-{
-    put_spelled(out, at, name, true)
 }
