@@ -1,5 +1,7 @@
 // The container's section: plain, with its keypair, comment and padding, or encrypted, with its tag.
 ghost use mathlib.Core.Path.{_≡_};
+ghost use Rattle.fields.specs.Bytes.{sameBytes};
+ghost use Rattle.fields.specs.Fields.{viewOf};
 ghost use Rattle.reader_section.specs.Section.{checkintsAt, sameKey, entryAt, paddingAt, contentAt, plainAt, encryptedOf, presentOf, encryptedAt};
 use fields::Cursor;
 use fields::Ending;
@@ -60,20 +62,34 @@ fn read_checkints(c: Cursor, image: &[u8]) -> Uint32
     }
 }
 
+// Are the bytes of two parts the same? Two that have none are, and nothing is looked at.
+fn same_part(image: &[u8], p: Part, q: Part) -> bool
+    ensures { λ r. ⌜ r ≡ sameBytes (viewOf (now (image .entry)) p) (viewOf (now (image .entry)) q) ⌝ }
+{
+    let length = p.length;
+    if length == 0 {
+        let other = q.length;
+        if other == 0 {
+            return true;
+        }
+    }
+    fields::same(fields::view(image, p), fields::view(image, q))
+}
+
 // Is it the same public key, kind included?
 fn same_key(image: &[u8], a: Algorithm, p: Public, b: Algorithm, q: Public) -> bool
     ensures { λ r. ⌜ r ≡ sameKey (now (image .entry)) a p b q ⌝ }
 {
-    (a.code() == b.code())
-        & fields::same(fields::view(image, p.point), fields::view(image, q.point))
-        & fields::same(
-            fields::view(image, p.modulus),
-            fields::view(image, q.modulus),
-        )
-        & fields::same(
-            fields::view(image, p.exponent),
-            fields::view(image, q.exponent),
-        )
+    if a.code() != b.code() {
+        return false;
+    }
+    if !same_part(image, p.point, q.point) {
+        return false;
+    }
+    if !same_part(image, p.modulus, q.modulus) {
+        return false;
+    }
+    same_part(image, p.exponent, q.exponent)
 }
 
 pub enum Entry {
