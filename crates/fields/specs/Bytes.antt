@@ -69,6 +69,15 @@ pub and-true : (x : Bool) → x ≡ (x && true)
 and-true true = refl
 and-true false = refl
 
+-- one byte more
+pub same-next :
+    (a b : List ℕ) (i : ℕ) → i < length a → i < length b
+    → sameBytes (drop i a) (drop i b) ≡ (eqb (getD a i 0) (getD b i 0) && sameBytes (drop (suc i) a) (drop (suc i) b))
+same-next [] b i h k = absurd (omega arith)
+same-next (x ∷ xs) [] i h k = absurd (omega arith)
+same-next (x ∷ xs) (y ∷ ys) zero h k = refl
+same-next (x ∷ xs) (y ∷ ys) (suc i) h k = same-next xs ys i (omega arith) (omega arith)
+
 -- past the last byte
 pub same-end : (a b : List ℕ) (i : ℕ) → length a ≤ i → length a ≡ length b → sameBytes (drop i a) (drop i b) ≡ true
 same-end [] [] zero h k = refl

@@ -1,14 +1,12 @@
 -- `fields::same` meets its contract: what was found so far, and whether the bytes from i on are the same, is `sameBytes` of all.
 -- Rests on the laws of `sameBytes`.
-use Prim.Native.Nat.{ℕ, zero, suc, _-_, _≤_, _<_}
+use Prim.Native.Nat.{_-_, _≤_}
 use native.Mathlib.Omega.{arith}
 use native.Mathlib.Numerals.{add-one}
 use mathlib.Core.Path.{_≡_, refl, sym, _∙_, ap}
-use mathlib.Core.Bool.{Bool, true, false, _&&_}
-use mathlib.Core.List.{List, [], _∷_}
-use lib.Dec.{eqb}
-use lib.ListN.{length, drop, getD}
-use Rattle.fields.specs.Bytes.{sameBytes, same-end, and-next, and-true, not-as-long}
+use mathlib.Core.Bool.{Bool, _&&_}
+use lib.ListN.{length, drop}
+use Rattle.fields.specs.Bytes.{sameBytes, same-next, same-end, and-next, and-true, not-as-long}
 use Rattle.fields.proofs.same.Statement.{statement}
 use Rattle.fields.proofs.same.Tie as tie
 
@@ -17,15 +15,6 @@ Inv-loop a b equal₀ i₀ equal i = (i ≤ length a) × ((equal && sameBytes (d
 
 abbrev μ-loop : tie.MeasureT-loop
 μ-loop a b equal₀ i₀ equal i = length a - i
-
--- one byte more
-same-next :
-    (a b : List ℕ) (i : ℕ) → i < length a → i < length b
-    → sameBytes (drop i a) (drop i b) ≡ (eqb (getD a i 0) (getD b i 0) && sameBytes (drop (suc i) a) (drop (suc i) b))
-same-next [] b i h k = absurd (omega arith)
-same-next (x ∷ xs) [] i h k = absurd (omega arith)
-same-next (x ∷ xs) (y ∷ ys) zero h k = refl
-same-next (x ∷ xs) (y ∷ ys) (suc i) h k = same-next xs ys i (omega arith) (omega arith)
 
 returns : tie.Need-returns Inv-loop μ-loop
 returns c = not-as-long (c .before .args .a .now) (c .before .args .b .now) (c .if1 .taken)

@@ -1,7 +1,6 @@
 -- `fields::same_eight` meets its contract. Rests on what a piece of two words to compare is.
 use native.Mathlib.Omega.{arith}
 use Rattle.fields.specs.Words.{no-piece, piece-words}
-use borrow.Author.Needs.{needs}
 use Rattle.fields.proofs.same_eight.Statement.{statement}
 use Rattle.fields.proofs.same_eight.Tie as tie
 

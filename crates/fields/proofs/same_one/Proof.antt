@@ -1,7 +1,6 @@
 -- `fields::same_one` meets its contract. Rests on what the piece of one byte is.
 use native.Mathlib.Omega.{arith}
 use Rattle.fields.specs.Words.{no-piece, piece-one}
-use borrow.Author.Needs.{needs}
 use Rattle.fields.proofs.same_one.Statement.{statement}
 use Rattle.fields.proofs.same_one.Tie as tie
 

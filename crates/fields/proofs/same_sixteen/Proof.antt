@@ -6,7 +6,6 @@ use borrow.Author.Tests.{eq-eqb, ne-eqb}
 use lib.ListN.{length}
 use Rattle.fields.specs.Bytes.{same-end, and-true}
 use Rattle.fields.specs.Words.{same-from}
-use borrow.Author.Needs.{needs}
 use Rattle.fields.proofs.same_sixteen.Statement.{statement}
 use Rattle.fields.proofs.same_sixteen.Tie as tie
 
