@@ -1,4 +1,5 @@
 pub mod Bytes
+pub mod Words
 pub mod Refusals
 pub mod Determined
 pub mod Fields

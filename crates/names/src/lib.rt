@@ -4,7 +4,7 @@ ghost use mathlib.Core.Path.{_≡_};
 ghost use Prim.Native.Nat.{_+_, _*_};
 ghost use Rattle.names.specs.Ciphers.{cipherNamed, cbcNamed, ctrNamed, gcmNamed, isNone, blockSize, tagLength, kdfNamed};
 ghost use Rattle.names.specs.Algorithms.{curveNamed, sizeOf, algorithmNamed, algorithmCode};
-use fields::same;
+use fields::spells;
 
 pub enum Cipher {
     None,
@@ -27,10 +27,10 @@ pub enum CipherName {
 pub fn cipher_named(name: &[u8]) -> CipherName
     ensures { λ r. ⌜ r ≡ cipherNamed (now (name .entry)) ⌝ }
 {
-    if same(name, b"none") {
+    if spells(b"none", name) {
         return CipherName::Known(Cipher::None);
     }
-    if same(name, b"3des-cbc") {
+    if spells(b"3des-cbc", name) {
         return CipherName::Known(Cipher::TripleDesCbc);
     }
     cbc_named(name)
@@ -39,13 +39,13 @@ pub fn cipher_named(name: &[u8]) -> CipherName
 fn cbc_named(name: &[u8]) -> CipherName
     ensures { λ r. ⌜ r ≡ cbcNamed (now (name .entry)) ⌝ }
 {
-    if same(name, b"aes128-cbc") {
+    if spells(b"aes128-cbc", name) {
         return CipherName::Known(Cipher::Aes128Cbc);
     }
-    if same(name, b"aes192-cbc") {
+    if spells(b"aes192-cbc", name) {
         return CipherName::Known(Cipher::Aes192Cbc);
     }
-    if same(name, b"aes256-cbc") {
+    if spells(b"aes256-cbc", name) {
         return CipherName::Known(Cipher::Aes256Cbc);
     }
     ctr_named(name)
@@ -54,13 +54,13 @@ fn cbc_named(name: &[u8]) -> CipherName
 fn ctr_named(name: &[u8]) -> CipherName
     ensures { λ r. ⌜ r ≡ ctrNamed (now (name .entry)) ⌝ }
 {
-    if same(name, b"aes128-ctr") {
+    if spells(b"aes128-ctr", name) {
         return CipherName::Known(Cipher::Aes128Ctr);
     }
-    if same(name, b"aes192-ctr") {
+    if spells(b"aes192-ctr", name) {
         return CipherName::Known(Cipher::Aes192Ctr);
     }
-    if same(name, b"aes256-ctr") {
+    if spells(b"aes256-ctr", name) {
         return CipherName::Known(Cipher::Aes256Ctr);
     }
     gcm_named(name)
@@ -69,10 +69,10 @@ fn ctr_named(name: &[u8]) -> CipherName
 fn gcm_named(name: &[u8]) -> CipherName
     ensures { λ r. ⌜ r ≡ gcmNamed (now (name .entry)) ⌝ }
 {
-    if same(name, b"aes128-gcm@openssh.com") {
+    if spells(b"aes128-gcm@openssh.com", name) {
         return CipherName::Known(Cipher::Aes128Gcm);
     }
-    if same(name, b"aes256-gcm@openssh.com") {
+    if spells(b"aes256-gcm@openssh.com", name) {
         return CipherName::Known(Cipher::Aes256Gcm);
     }
     CipherName::Unknown
@@ -148,10 +148,10 @@ pub enum KdfName {
 pub fn kdf_named(name: &[u8]) -> KdfName
     ensures { λ r. ⌜ r ≡ kdfNamed (now (name .entry)) ⌝ }
 {
-    if same(name, b"none") {
+    if spells(b"none", name) {
         return KdfName::Known(Kdf::None);
     }
-    if same(name, b"bcrypt") {
+    if spells(b"bcrypt", name) {
         return KdfName::Known(Kdf::Bcrypt);
     }
     KdfName::Unknown
@@ -195,13 +195,13 @@ pub enum CurveName {
 pub fn curve_named(name: &[u8]) -> CurveName
     ensures { λ r. ⌜ r ≡ curveNamed (now (name .entry)) ⌝ }
 {
-    if same(name, b"nistp256") {
+    if spells(b"nistp256", name) {
         return CurveName::Known(Curve::Nistp256);
     }
-    if same(name, b"nistp384") {
+    if spells(b"nistp384", name) {
         return CurveName::Known(Curve::Nistp384);
     }
-    if same(name, b"nistp521") {
+    if spells(b"nistp521", name) {
         return CurveName::Known(Curve::Nistp521);
     }
     CurveName::Unknown
@@ -226,19 +226,19 @@ pub enum AlgorithmName {
 pub fn algorithm_named(name: &[u8]) -> AlgorithmName
     ensures { λ r. ⌜ r ≡ algorithmNamed (now (name .entry)) ⌝ }
 {
-    if same(name, b"ssh-ed25519") {
+    if spells(b"ssh-ed25519", name) {
         return AlgorithmName::Known(Algorithm::Elliptic(Elliptic::Ed25519));
     }
-    if same(name, b"ecdsa-sha2-nistp256") {
+    if spells(b"ecdsa-sha2-nistp256", name) {
         return AlgorithmName::Known(Algorithm::Elliptic(Elliptic::Ecdsa(Curve::Nistp256)));
     }
-    if same(name, b"ecdsa-sha2-nistp384") {
+    if spells(b"ecdsa-sha2-nistp384", name) {
         return AlgorithmName::Known(Algorithm::Elliptic(Elliptic::Ecdsa(Curve::Nistp384)));
     }
-    if same(name, b"ecdsa-sha2-nistp521") {
+    if spells(b"ecdsa-sha2-nistp521", name) {
         return AlgorithmName::Known(Algorithm::Elliptic(Elliptic::Ecdsa(Curve::Nistp521)));
     }
-    if same(name, b"ssh-rsa") {
+    if spells(b"ssh-rsa", name) {
         return AlgorithmName::Known(Algorithm::Rsa);
     }
     AlgorithmName::Unknown

@@ -1,5 +1,10 @@
 // The container's section: plain, with its keypair, comment and padding, or encrypted, with its tag.
 ghost use mathlib.Core.Path.{_≡_};
+ghost use Prim.Native.Nat.{_<_};
+ghost use lib.ListN.{take};
+ghost use Rattle.fields.specs.Bytes.{sameBytes};
+ghost use Rattle.fields.specs.Fields.{viewOf};
+ghost use Rattle.format.specs.Format.{paddingBytes};
 ghost use Rattle.reader_section.specs.Section.{checkintsAt, sameKey, entryAt, paddingAt, contentAt, plainAt, encryptedOf, presentOf, encryptedAt};
 use fields::Cursor;
 use fields::Ending;
@@ -60,20 +65,34 @@ fn read_checkints(c: Cursor, image: &[u8]) -> Uint32
     }
 }
 
+// Are the bytes of two parts the same? Two that have none are, and nothing is looked at.
+fn same_part(image: &[u8], p: Part, q: Part) -> bool
+    ensures { λ r. ⌜ r ≡ sameBytes (viewOf (now (image .entry)) p) (viewOf (now (image .entry)) q) ⌝ }
+{
+    let length = p.length;
+    if length == 0 {
+        let other = q.length;
+        if other == 0 {
+            return true;
+        }
+    }
+    fields::same(fields::view(image, p), fields::view(image, q))
+}
+
 // Is it the same public key, kind included?
 fn same_key(image: &[u8], a: Algorithm, p: Public, b: Algorithm, q: Public) -> bool
     ensures { λ r. ⌜ r ≡ sameKey (now (image .entry)) a p b q ⌝ }
 {
-    (a.code() == b.code())
-        & fields::same(fields::view(image, p.point), fields::view(image, q.point))
-        & fields::same(
-            fields::view(image, p.modulus),
-            fields::view(image, q.modulus),
-        )
-        & fields::same(
-            fields::view(image, p.exponent),
-            fields::view(image, q.exponent),
-        )
+    if a.code() != b.code() {
+        return false;
+    }
+    if !same_part(image, p.point, q.point) {
+        return false;
+    }
+    if !same_part(image, p.modulus, q.modulus) {
+        return false;
+    }
+    same_part(image, p.exponent, q.exponent)
 }
 
 pub enum Entry {
@@ -112,6 +131,24 @@ fn read_entry(c: Cursor, image: &[u8], algorithm: Algorithm, public: Public) -> 
     }
 }
 
+// Are they the padding of so many bytes, which are 1, 2, 3 and so on?
+fn counts_up(bytes: &[u8], count: usize) -> bool
+    requires { ⌜ count < 8 ⌝ }
+    ensures { λ r. ⌜ r ≡ sameBytes (now (bytes .entry)) (take count paddingBytes) ⌝ }
+{
+    if bytes.len() != count {
+        return false;
+    }
+    let mut i: usize = 0;
+    while i < count {
+        if bytes[i] != (i + 1) as u8 {
+            return false;
+        }
+        i += 1;
+    }
+    true
+}
+
 // The padding is what remains: fewer than 8 bytes, which are 1, 2, 3 and so on.
 fn read_padding(c: Cursor, image: &[u8]) -> Ending
     ensures { λ r. ⌜ r ≡ paddingAt (now (image .entry)) c ⌝ }
@@ -119,12 +156,11 @@ fn read_padding(c: Cursor, image: &[u8]) -> Ending
     let at = c.at;
     let left = c.remaining();
     if left < 8 {
-        let padding_bytes: [u8; 7] = [1, 2, 3, 4, 5, 6, 7];
         let padding = Part {
             start: at,
             length: left,
         };
-        if fields::same(fields::view(image, padding), &padding_bytes[..left]) {
+        if counts_up(fields::view(image, padding), left) {
             return Ending::Clean;
         }
         return Ending::Refused(Fault {

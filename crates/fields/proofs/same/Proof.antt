@@ -1,14 +1,12 @@
 -- `fields::same` meets its contract: what was found so far, and whether the bytes from i on are the same, is `sameBytes` of all.
--- Rests on the two laws of `sameBytes` below.
-use Prim.Native.Nat.{ℕ, zero, suc, _-_, _≤_, _<_}
+-- Rests on the laws of `sameBytes`.
+use Prim.Native.Nat.{_-_, _≤_}
 use native.Mathlib.Omega.{arith}
 use native.Mathlib.Numerals.{add-one}
 use mathlib.Core.Path.{_≡_, refl, sym, _∙_, ap}
-use mathlib.Core.Bool.{Bool, true, false, _&&_}
-use mathlib.Core.List.{List, [], _∷_}
-use lib.Dec.{eqb}
-use lib.ListN.{length, drop, getD}
-use Rattle.fields.specs.Bytes.{sameBytes, same-true}
+use mathlib.Core.Bool.{Bool, _&&_}
+use lib.ListN.{length, drop}
+use Rattle.fields.specs.Bytes.{sameBytes, same-next, same-end, and-next, and-true, not-as-long}
 use Rattle.fields.proofs.same.Statement.{statement}
 use Rattle.fields.proofs.same.Tie as tie
 
@@ -17,40 +15,6 @@ Inv-loop a b equal₀ i₀ equal i = (i ≤ length a) × ((equal && sameBytes (d
 
 abbrev μ-loop : tie.MeasureT-loop
 μ-loop a b equal₀ i₀ equal i = length a - i
-
--- lists of other lengths aren't the same
-not-as-long : (a b : List ℕ) → (length a ≡ length b → ⊥) → false ≡ sameBytes a b
-not-as-long a b h = go (sameBytes a b) (same-true a b)
-  where
-    go : (t : Bool) → (t ≡ true → a ≡ b) → false ≡ t
-    go true k = absurd (h (ap length (k refl)))
-    go false k = refl
-
-and-next : (x y z : Bool) → (x && (y && z)) ≡ ((x && y) && z)
-and-next true y z = refl
-and-next false y z = refl
-
--- one byte more
-same-next :
-    (a b : List ℕ) (i : ℕ) → i < length a → i < length b
-    → sameBytes (drop i a) (drop i b) ≡ (eqb (getD a i 0) (getD b i 0) && sameBytes (drop (suc i) a) (drop (suc i) b))
-same-next [] b i h k = absurd (omega arith)
-same-next (x ∷ xs) [] i h k = absurd (omega arith)
-same-next (x ∷ xs) (y ∷ ys) zero h k = refl
-same-next (x ∷ xs) (y ∷ ys) (suc i) h k = same-next xs ys i (omega arith) (omega arith)
-
--- past the last byte
-same-end : (a b : List ℕ) (i : ℕ) → length a ≤ i → length a ≡ length b → sameBytes (drop i a) (drop i b) ≡ true
-same-end [] [] zero h k = refl
-same-end [] [] (suc i) h k = refl
-same-end [] (y ∷ ys) i h k = absurd (omega arith)
-same-end (x ∷ xs) [] i h k = absurd (omega arith)
-same-end (x ∷ xs) (y ∷ ys) zero h k = absurd (omega arith)
-same-end (x ∷ xs) (y ∷ ys) (suc i) h k = same-end xs ys i (omega arith) (omega arith)
-
-and-true : (x : Bool) → x ≡ (x && true)
-and-true true = refl
-and-true false = refl
 
 returns : tie.Need-returns Inv-loop μ-loop
 returns c = not-as-long (c .before .args .a .now) (c .before .args .b .now) (c .if1 .taken)

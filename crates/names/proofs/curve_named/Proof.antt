@@ -4,51 +4,51 @@ use borrow.Author.Needs.{needs}
 use Rattle.names.proofs.curve_named.Statement.{statement}
 use Rattle.names.proofs.curve_named.Tie as tie
 
-slice-aggregate-same : tie.Need-slice-aggregate-same
-slice-aggregate-same c = search needs
+slice-aggregate-spells : tie.Need-slice-aggregate-spells
+slice-aggregate-spells c = search needs
 
-same-requires : tie.Need-same-requires
-same-requires c κs = search needs
+spells-requires : tie.Need-spells-requires
+spells-requires c κs = search needs
 
 returns : tie.Need-returns
 unfolding curveNamed
-returns c = rw (← c .before .same .ensures, c .if1 .taken)
+returns c = rw (← c .before .spells .ensures, c .if1 .taken)
 
-slice-aggregate-same-2 : tie.Need-slice-aggregate-same-2
-slice-aggregate-same-2 c = search needs
+slice-aggregate-spells-2 : tie.Need-slice-aggregate-spells-2
+slice-aggregate-spells-2 c = search needs
 
-same-requires-2 : tie.Need-same-requires-2
-same-requires-2 c κs = search needs
+spells-requires-2 : tie.Need-spells-requires-2
+spells-requires-2 c κs = search needs
 
 returns-2 : tie.Need-returns-2
 unfolding curveNamed
-returns-2 c = rw (← c .before .before .before .before .same .ensures, c .before .before .before .if1 .left, ← c .before .same2 .ensures, c .if2 .taken)
+returns-2 c = rw (← c .before .before .before .before .spells .ensures, c .before .before .before .if1 .left, ← c .before .spells2 .ensures, c .if2 .taken)
 
-slice-aggregate-same-3 : tie.Need-slice-aggregate-same-3
-slice-aggregate-same-3 c = search needs
+slice-aggregate-spells-3 : tie.Need-slice-aggregate-spells-3
+slice-aggregate-spells-3 c = search needs
 
-same-requires-3 : tie.Need-same-requires-3
-same-requires-3 c κs = search needs
+spells-requires-3 : tie.Need-spells-requires-3
+spells-requires-3 c κs = search needs
 
 returns-3 : tie.Need-returns-3
 unfolding curveNamed
-returns-3 c = rw (← c .before .before .before .before .before .before .before .same .ensures, c .before .before .before .before .before .before .if1 .left, ← c .before .before .before .before .same2 .ensures, c .before .before .before .if2 .left, ← c .before .same3 .ensures, c .if3 .taken)
+returns-3 c = rw (← c .before .before .before .before .before .before .before .spells .ensures, c .before .before .before .before .before .before .if1 .left, ← c .before .before .before .before .spells2 .ensures, c .before .before .before .if2 .left, ← c .before .spells3 .ensures, c .if3 .taken)
 
 returns-4 : tie.Need-returns-4
 unfolding curveNamed
-returns-4 c = rw (← c .before .before .before .before .before .before .before .same .ensures, c .before .before .before .before .before .before .if1 .left, ← c .before .before .before .before .same2 .ensures, c .before .before .before .if2 .left, ← c .before .same3 .ensures, c .if3 .left)
+returns-4 c = rw (← c .before .before .before .before .before .before .before .spells .ensures, c .before .before .before .before .before .before .if1 .left, ← c .before .before .before .before .spells2 .ensures, c .before .before .before .if2 .left, ← c .before .spells3 .ensures, c .if3 .left)
 
 pub curve-named-spec : {M : Type 1} → statement M
 curve-named-spec =
     tie.close
     (tie.spec
-    slice-aggregate-same
-    same-requires
+    slice-aggregate-spells
+    spells-requires
     returns
-    slice-aggregate-same-2
-    same-requires-2
+    slice-aggregate-spells-2
+    spells-requires-2
     returns-2
-    slice-aggregate-same-3
-    same-requires-3
+    slice-aggregate-spells-3
+    spells-requires-3
     returns-3
     returns-4)

@@ -14,18 +14,18 @@ enum-known-f c = search needs
 enum-known-p : tie.Need-enum-known-p
 enum-known-p c = search needs
 
+slice-aggregate-spells : tie.Need-slice-aggregate-spells
+slice-aggregate-spells c = search needs
+
 view-requires : tie.Need-view-requires
 view-requires c κs = search needs
 
-slice-aggregate-same : tie.Need-slice-aggregate-same
-slice-aggregate-same c = search needs
-
-same-requires : tie.Need-same-requires
-same-requires c κs = search needs
+spells-requires : tie.Need-spells-requires
+spells-requires c κs = search needs
 
 returns : tie.Need-returns
 unfolding magicAt magic
-returns c = rw (← c .before .before .before .before .before .before .before .bytes .ensures, c .before .before .before .before .before .p .given .1, ← c .before .before .before .view .ensures .0, ← c .before .same .ensures, c .if1 .taken)
+returns c = rw (← c .before .before .before .before .before .before .before .bytes .ensures, c .before .before .before .before .before .p .given .1, ← c .before .before .view .ensures .0, ← c .before .spells .ensures, c .if1 .taken)
 
 returns-2 : tie.Need-returns-2
 unfolding magicAt magic
@@ -33,7 +33,7 @@ returns-2 c = rw (← c .before .before .before .bytes .ensures, c .before .f .g
 
 returns-3 : tie.Need-returns-3
 unfolding magicAt magic
-returns-3 c = rw (← c .before .before .before .before .before .before .before .bytes .ensures, c .before .before .before .before .before .p .given .1, ← c .before .before .before .view .ensures .0, ← c .before .same .ensures, c .if1 .left)
+returns-3 c = rw (← c .before .before .before .before .before .before .before .bytes .ensures, c .before .before .before .before .before .p .given .1, ← c .before .before .view .ensures .0, ← c .before .spells .ensures, c .if1 .left)
 
 pub read-magic-spec : {M : Type 1} → statement M
 read-magic-spec =
@@ -42,9 +42,9 @@ read-magic-spec =
     bytes-requires
     enum-known-f
     enum-known-p
+    slice-aggregate-spells
     view-requires
-    slice-aggregate-same
-    same-requires
+    spells-requires
     returns
     returns-2
     returns-3)

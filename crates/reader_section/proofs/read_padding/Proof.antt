@@ -1,8 +1,4 @@
--- `reader_section::read_padding` meets its contract: what remains is below 8, so that many of the seven padding bytes are there to hold it to. Assumes nothing.
-use native.Mathlib.Omega.{arith}
-use mathlib.Core.Path.{sym}
-use lib.Seq.{length-take-le}
-use Rattle.format.specs.Format.{paddingBytes}
+-- `reader_section::read_padding` meets its contract: what remains is below 8, and is held to so many padding bytes. Rests on the callees' contracts.
 use borrow.Author.Tests.{le-ltb, lt-ltb}
 use Rattle.reader_section.specs.Section.{paddingAt}
 use borrow.Author.Needs.{needs}
@@ -15,22 +11,16 @@ remaining-requires c κs = search needs
 view-requires : tie.Need-view-requires
 view-requires c κs = search needs
 
-array-share-prefix-padding-bytes : tie.Need-array-share-prefix-padding-bytes
-array-share-prefix-padding-bytes c = search needs
-
-slice-aggregate-same : tie.Need-slice-aggregate-same
-slice-aggregate-same c = sym (length-take-le (c .before .before .before .remaining .result) paddingBytes (omega arith))
-
-same-requires : tie.Need-same-requires
-same-requires c κs = search needs
+counts-up-requires : tie.Need-counts-up-requires
+counts-up-requires c κs = search needs
 
 returns : tie.Need-returns
 unfolding paddingAt
-returns c = rw (← c .before .before .before .before .before .remaining .ensures, lt-ltb _ _ (c .before .before .before .before .if1 .taken), ← c .before .before .before .view .ensures .0, ← c .before .same .ensures, c .if2 .taken)
+returns c = rw (← c .before .before .before .before .remaining .ensures, lt-ltb _ _ (c .before .before .before .if1 .taken), ← c .before .before .view .ensures .0, ← c .before .counts-up .ensures, c .if2 .taken)
 
 returns-2 : tie.Need-returns-2
 unfolding paddingAt
-returns-2 c = rw (← c .before .before .before .before .before .remaining .ensures, lt-ltb _ _ (c .before .before .before .before .if1 .taken), ← c .before .before .before .view .ensures .0, ← c .before .same .ensures, c .if2 .left)
+returns-2 c = rw (← c .before .before .before .before .remaining .ensures, lt-ltb _ _ (c .before .before .before .if1 .taken), ← c .before .before .view .ensures .0, ← c .before .counts-up .ensures, c .if2 .left)
 
 returns-3 : tie.Need-returns-3
 unfolding paddingAt
@@ -42,9 +32,7 @@ read-padding-spec =
     (tie.spec
     remaining-requires
     view-requires
-    array-share-prefix-padding-bytes
-    slice-aggregate-same
-    same-requires
+    counts-up-requires
     returns
     returns-2
     returns-3)

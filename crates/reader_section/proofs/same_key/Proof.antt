@@ -1,4 +1,6 @@
--- `reader_section::same_key` meets its contract: it is the comparison of kind, point, modulus and exponent. Rests on the callees' contracts.
+-- `reader_section::same_key` meets its contract: it is the comparison of kind, point, modulus and exponent, up to the first that differs.
+-- Rests on the callees' contracts.
+use borrow.Author.Tests.{eq-eqb, ne-eqb, not-true, not-false}
 use Rattle.names.specs.Algorithms.{sameAlgorithm}
 use Rattle.reader_section.specs.Section.{sameKey}
 use borrow.Author.Needs.{needs}
@@ -11,36 +13,39 @@ code-requires c κs = search needs
 code-requires-2 : tie.Need-code-requires-2
 code-requires-2 c κs = search needs
 
-view-requires : tie.Need-view-requires
-view-requires c κs = search needs
-
-view-requires-2 : tie.Need-view-requires-2
-view-requires-2 c κs = search needs
-
-same-requires : tie.Need-same-requires
-same-requires c κs = search needs
-
-view-requires-3 : tie.Need-view-requires-3
-view-requires-3 c κs = search needs
-
-view-requires-4 : tie.Need-view-requires-4
-view-requires-4 c κs = search needs
-
-same-requires-2 : tie.Need-same-requires-2
-same-requires-2 c κs = search needs
-
-view-requires-5 : tie.Need-view-requires-5
-view-requires-5 c κs = search needs
-
-view-requires-6 : tie.Need-view-requires-6
-view-requires-6 c κs = search needs
-
-same-requires-3 : tie.Need-same-requires-3
-same-requires-3 c κs = search needs
-
 returns : tie.Need-returns
 unfolding sameKey sameAlgorithm
-returns c = rw (← c .before .before .before .before .before .before .before .before .before .before .code .ensures, ← c .before .before .before .before .before .before .before .before .before .code2 .ensures, ← c .before .before .before .before .before .before .before .before .view .ensures .0, ← c .before .before .before .before .before .before .before .view2 .ensures .0, ← c .before .before .before .before .before .before .same .ensures, ← c .before .before .before .before .before .view3 .ensures .0, ← c .before .before .before .before .view4 .ensures .0, ← c .before .before .before .same2 .ensures, ← c .before .before .view5 .ensures .0, ← c .before .view6 .ensures .0, ← c .same3 .ensures)
+returns c = rw (← c .before .before .code .ensures, ← c .before .code2 .ensures, ne-eqb _ _ (c .if1 .taken))
+
+same-part-requires : tie.Need-same-part-requires
+same-part-requires c κs = search needs
+
+returns-2 : tie.Need-returns-2
+unfolding sameKey sameAlgorithm
+returns-2 c =
+    let k = c .before .before in
+    rw (← k .before .before .code .ensures, ← k .before .code2 .ensures, eq-eqb _ _ (k .if1 .left), ← c .before .same-part .ensures, not-true (c .before .same-part .result) (c .if2 .taken))
+
+same-part-requires-2 : tie.Need-same-part-requires-2
+same-part-requires-2 c κs = search needs
+
+returns-3 : tie.Need-returns-3
+unfolding sameKey sameAlgorithm
+returns-3 c =
+    let p = c .before .before in
+    let k = p .before .before in
+    rw (← k .before .before .code .ensures, ← k .before .code2 .ensures, eq-eqb _ _ (k .if1 .left), ← p .before .same-part .ensures, not-false (p .before .same-part .result) (p .if2 .left), ← c .before .same-part2 .ensures, not-true (c .before .same-part2 .result) (c .if3 .taken))
+
+same-part-requires-3 : tie.Need-same-part-requires-3
+same-part-requires-3 c κs = search needs
+
+returns-4 : tie.Need-returns-4
+unfolding sameKey sameAlgorithm
+returns-4 c =
+    let m = c .before in
+    let p = m .before .before in
+    let k = p .before .before in
+    rw (← k .before .before .code .ensures, ← k .before .code2 .ensures, eq-eqb _ _ (k .if1 .left), ← p .before .same-part .ensures, not-false (p .before .same-part .result) (p .if2 .left), ← m .before .same-part2 .ensures, not-false (m .before .same-part2 .result) (m .if3 .left)) (c .same-part3 .ensures)
 
 pub same-key-spec : {M : Type 1} → statement M
 same-key-spec =
@@ -48,13 +53,10 @@ same-key-spec =
     (tie.spec
     code-requires
     code-requires-2
-    view-requires
-    view-requires-2
-    same-requires
-    view-requires-3
-    view-requires-4
-    same-requires-2
-    view-requires-5
-    view-requires-6
-    same-requires-3
-    returns)
+    returns
+    same-part-requires
+    returns-2
+    same-part-requires-2
+    returns-3
+    same-part-requires-3
+    returns-4)
