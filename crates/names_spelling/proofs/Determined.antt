@@ -11,6 +11,10 @@ use Rattle.names_spelling.proofs.kdf_name.Reads as kdf-name
 use Rattle.names_spelling.proofs.kdf_name.Kinds as kdf-name-kinds
 use Rattle.names_spelling.proofs.put_name.Reads as put-name
 use Rattle.names_spelling.proofs.put_name.Kinds as put-name-kinds
+use Rattle.names_spelling.proofs.put_cipher.Reads as put-cipher
+use Rattle.names_spelling.proofs.put_cipher.Kinds as put-cipher-kinds
+use Rattle.names_spelling.proofs.put_kdf.Reads as put-kdf
+use Rattle.names_spelling.proofs.put_kdf.Kinds as put-kdf-kinds
 
 pub algorithm-name-determined : Determined 0 algorithm-name-kinds.ps algorithm-name-kinds.r algorithm-name.Post
 algorithm-name-determined κs a r₁ r₂ s₁ s₂ p q = cc
@@ -23,3 +27,9 @@ kdf-name-determined κs a r₁ r₂ s₁ s₂ p q = cc
 
 pub put-name-determined : DeterminedBuffer 1 put-name-kinds.ps put-name-kinds.r put-name.Post (λ κs s. now (s .0))
 put-name-determined κs a r₁ r₂ s₁ s₂ p q = (cc, cc)
+
+pub put-cipher-determined : DeterminedBuffer 1 put-cipher-kinds.ps put-cipher-kinds.r put-cipher.Post (λ κs s. now (s .0))
+put-cipher-determined κs a r₁ r₂ s₁ s₂ p q = (cc, cc)
+
+pub put-kdf-determined : DeterminedBuffer 1 put-kdf-kinds.ps put-kdf-kinds.r put-kdf.Post (λ κs s. now (s .0))
+put-kdf-determined κs a r₁ r₂ s₁ s₂ p q = (cc, cc)

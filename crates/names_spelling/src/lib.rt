@@ -1,6 +1,8 @@
 // The names of algorithms, ciphers and KDFs spelled out: all stand in one table, from which they are put.
 ghost use mathlib.Core.Path.{_≡_};
+ghost use Rattle.fields.specs.Bytes.{string};
 ghost use Rattle.fields.specs.Fields.{part, viewOf};
+ghost use Rattle.names.specs.Ciphers.{cipherName, kdfName};
 ghost use Rattle.buffer.specs.Puts.{isPut};
 ghost use Rattle.names_spelling.specs.Spelling.{nameTable, algorithmPlace, cipherPlace, kdfPlace};
 use fields::Part;
@@ -71,4 +73,32 @@ pub fn put_name(out: &mut [u8], at: usize, name: Part) -> usize
         aes128-gcm@openssh.com aes256-gcm@openssh.com ssh-ed25519 ecdsa-sha2-nistp256 ecdsa-sha2-nistp384 \
         ecdsa-sha2-nistp521 ssh-rsa";
     buffer::put(out, at, fields::view(table, name))
+}
+
+// A name as a string, as an image has it. It is put from bytes of its own: the table would be copied to the stack at each put.
+
+pub fn put_cipher(out: &mut [u8], at: usize, cipher: Cipher) -> usize
+    ensures { λ r. ⌜ isPut (now (out .entry)) at (string (cipherName cipher)) r (now (out .exit)) ⌝ }
+{
+    match cipher {
+        Cipher::None => buffer::put(out, at, b"\0\0\0\x04none"),
+        Cipher::TripleDesCbc => buffer::put(out, at, b"\0\0\0\x083des-cbc"),
+        Cipher::Aes128Cbc => buffer::put(out, at, b"\0\0\0\x0aaes128-cbc"),
+        Cipher::Aes192Cbc => buffer::put(out, at, b"\0\0\0\x0aaes192-cbc"),
+        Cipher::Aes256Cbc => buffer::put(out, at, b"\0\0\0\x0aaes256-cbc"),
+        Cipher::Aes128Ctr => buffer::put(out, at, b"\0\0\0\x0aaes128-ctr"),
+        Cipher::Aes192Ctr => buffer::put(out, at, b"\0\0\0\x0aaes192-ctr"),
+        Cipher::Aes256Ctr => buffer::put(out, at, b"\0\0\0\x0aaes256-ctr"),
+        Cipher::Aes128Gcm => buffer::put(out, at, b"\0\0\0\x16aes128-gcm@openssh.com"),
+        Cipher::Aes256Gcm => buffer::put(out, at, b"\0\0\0\x16aes256-gcm@openssh.com"),
+    }
+}
+
+pub fn put_kdf(out: &mut [u8], at: usize, kdf: Kdf) -> usize
+    ensures { λ r. ⌜ isPut (now (out .entry)) at (string (kdfName kdf)) r (now (out .exit)) ⌝ }
+{
+    match kdf {
+        Kdf::None => buffer::put(out, at, b"\0\0\0\x04none"),
+        Kdf::Bcrypt => buffer::put(out, at, b"\0\0\0\x06bcrypt"),
+    }
 }

@@ -7,7 +7,6 @@ ghost use lib.ListN.{length};
 ghost use Rattle.fields.specs.Bytes.{string};
 ghost use Rattle.names.specs.Ciphers.{cipherName, kdfName};
 ghost use Rattle.format.specs.Format.{options, encryptedImage};
-ghost use Rattle.buffer.specs.Puts.{isPut};
 ghost use Rattle.buffer.specs.Runs.{isRun};
 ghost use Rattle.writer_reply.specs.Reply.{isSized};
 ghost use Rattle.writer_encrypted.specs.Encrypted.{optionsFit, isEncrypted};
@@ -68,34 +67,6 @@ fn put_options(out: &mut [u8], at: usize, kdf: Kdf, salt: &[u8], rounds: u32) ->
     }
 }
 
-// The two names, as strings.
-
-fn put_cipher(out: &mut [u8], at: usize, cipher: Cipher) -> usize
-    ensures { λ r. ⌜ isPut (now (out .entry)) at (string (cipherName cipher)) r (now (out .exit)) ⌝ }
-{
-    match cipher {
-        Cipher::None => buffer::put(out, at, b"\0\0\0\x04none"),
-        Cipher::TripleDesCbc => buffer::put(out, at, b"\0\0\0\x083des-cbc"),
-        Cipher::Aes128Cbc => buffer::put(out, at, b"\0\0\0\x0aaes128-cbc"),
-        Cipher::Aes192Cbc => buffer::put(out, at, b"\0\0\0\x0aaes192-cbc"),
-        Cipher::Aes256Cbc => buffer::put(out, at, b"\0\0\0\x0aaes256-cbc"),
-        Cipher::Aes128Ctr => buffer::put(out, at, b"\0\0\0\x0aaes128-ctr"),
-        Cipher::Aes192Ctr => buffer::put(out, at, b"\0\0\0\x0aaes192-ctr"),
-        Cipher::Aes256Ctr => buffer::put(out, at, b"\0\0\0\x0aaes256-ctr"),
-        Cipher::Aes128Gcm => buffer::put(out, at, b"\0\0\0\x16aes128-gcm@openssh.com"),
-        Cipher::Aes256Gcm => buffer::put(out, at, b"\0\0\0\x16aes256-gcm@openssh.com"),
-    }
-}
-
-fn put_kdf(out: &mut [u8], at: usize, kdf: Kdf) -> usize
-    ensures { λ r. ⌜ isPut (now (out .entry)) at (string (kdfName kdf)) r (now (out .exit)) ⌝ }
-{
-    match kdf {
-        Kdf::None => buffer::put(out, at, b"\0\0\0\x04none"),
-        Kdf::Bcrypt => buffer::put(out, at, b"\0\0\0\x06bcrypt"),
-    }
-}
-
 // All that stands before the public blob, its length too.
 fn put_front(
     out: &mut [u8],
@@ -109,8 +80,8 @@ fn put_front(
     ensures { λ r. ⌜ isRun (now (out .entry)) 0 (front cipher kdf (now (salt .entry)) rounds blob) r (now (out .exit)) ⌝ }
 {
     let a = buffer::put(out, 0, b"openssh-key-v1\0");
-    let b = put_cipher(out, a, cipher);
-    let c = put_kdf(out, b, kdf);
+    let b = names_spelling::put_cipher(out, a, cipher);
+    let c = names_spelling::put_kdf(out, b, kdf);
     let d = put_options(out, c, kdf, salt, rounds);
     let e = buffer::put_uint32(out, d, 1);
     buffer::put_uint32(out, e, blob)

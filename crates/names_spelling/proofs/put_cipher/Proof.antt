@@ -1,8 +1,8 @@
--- `writer_encrypted::put_cipher` meets its contract: the bytes that each cipher has are its name's string. Rests on the names' spelling.
+-- `names_spelling::put_cipher` meets its contract: the bytes that each cipher has are its name's string. Rests on the names' spelling.
 use Rattle.fields.specs.Bytes.{uint32, string}
 use borrow.Author.Needs.{needs}
-use Rattle.writer_encrypted.proofs.put_cipher.Statement.{statement}
-use Rattle.writer_encrypted.proofs.put_cipher.Tie as tie
+use Rattle.names_spelling.proofs.put_cipher.Statement.{statement}
+use Rattle.names_spelling.proofs.put_cipher.Tie as tie
 
 enum-told : tie.Need-enum-told
 enum-told c = search needs
