@@ -66,7 +66,7 @@ fn read_checkints(c: Cursor, image: &[u8]) -> Uint32
 }
 
 // Are the bytes of two parts the same? Two that have none are, and nothing is looked at.
-fn same_part(image: &[u8], p: Part, q: Part) -> bool
+fn same_bytes(image: &[u8], p: Part, q: Part) -> bool
     ensures { λ r. ⌜ r ≡ sameBytes (viewOf (now (image .entry)) p) (viewOf (now (image .entry)) q) ⌝ }
 {
     let length = p.length;
@@ -86,13 +86,13 @@ fn same_key(image: &[u8], a: Algorithm, p: Public, b: Algorithm, q: Public) -> b
     if a.code() != b.code() {
         return false;
     }
-    if !same_part(image, p.point, q.point) {
+    if !same_bytes(image, p.point, q.point) {
         return false;
     }
-    if !same_part(image, p.modulus, q.modulus) {
+    if !same_bytes(image, p.modulus, q.modulus) {
         return false;
     }
-    same_part(image, p.exponent, q.exponent)
+    same_bytes(image, p.exponent, q.exponent)
 }
 
 pub enum Entry {

@@ -1,18 +1,18 @@
 -- UTF-8 by each byte and the three before it. What stands before a place is a whole character's end, or one to three bytes of a character
 -- that is not whole (`Standing`). A byte that may follow leads to the next place, and the text answers the same (`moves`); one that may not
--- stops it (`stops`). Rests on `first-leaves`, computed at each first byte, and on the definitions of `mayFollow`, `beginOf` and `utf8From`.
-use Prim.Native.Nat.{ℕ, zero, suc, _+_, _-_, _≤_, _<_}
+-- stops it (`stops`). Rests on `first-leaves`, computed at each first byte, and on the definitions of `mayFollow` and `utf8From`.
+use Prim.Native.Nat.{ℕ, _≤_, _<_}
 use native.Mathlib.Omega.{arith}
 use mathlib.Core.Path.{_≡_, refl, sym, _∙_, ap}
 use mathlib.Core.List.{List, [], _∷_}
-use mathlib.Core.Bool.{Bool, true, false, cond, _&&_, _||_, false≢true, and-eq-true-iff}
+use mathlib.Core.Bool.{Bool, true, false, cond, _&&_, _||_, false≢true}
 use borrow.Author.Tests.{le-leb, lt-leb, leb-true, leb-false, ltb-true, ltb-false, ne-eqb}
 use lib.Dec.{leb, ltb, eqb}
-use lib.ListN.{length, getD, drop, replicate}
-use lib.Seq.{drop-cons}
+use lib.ListN.{replicate}
 use Rattle.utf8.specs.Utf8.{_to_, Row, UTF8-tail, UTF8-char, lies, rest, utf8From, utf8}
 use Rattle.utf8.specs.Laws.{lies-is, rest-each, rest-between, ascii-next}
-use Rattle.utf8.specs.Follow.{lowestAfter, highestAfter, asks, mayFollow, allFollow, beginOf}
+use Rattle.utf8.proofs.Bytes.{no-row}
+use Rattle.utf8.specs.Follow.{lowestAfter, highestAfter, mayFollow}
 
 -- ---- what a first byte leaves
 
@@ -31,20 +31,9 @@ two-bytes : (lead b : ℕ) (t : List ℕ) → 0xC2 ≤ lead → lead ≤ 0xF4 �
 unfolding utf8 utf8From
 two-bytes lead b t h k = ap (λ (row : Row). utf8From row (b ∷ t)) (sym (first-leaves lead h k))
 
--- no range is left, and no byte lies from 1 to 0
-no-byte : (t : List ℕ) → utf8From (1 to 0 ∷ []) t ≡ false
-unfolding utf8From
-no-byte [] = refl
-no-byte (b ∷ t) = go (leb 1 b) (leb-true 1 b) (leb b 0) (leb-true b 0)
-  where
-    go : (x : Bool) → (x ≡ true → 1 ≤ b) → (y : Bool) → (y ≡ true → b ≤ 0) → ((x && y) && utf8From [] t) ≡ false
-    go false h y k = refl
-    go true h false k = refl
-    go true h true k = absurd (omega (arith, h refl, k refl))
-
 begins-nothing : (b : ℕ) (t : List ℕ) → 1 to 0 ∷ [] ≡ rest b UTF8-char → utf8 (b ∷ t) ≡ false
 unfolding utf8 utf8From
-begins-nothing b t e = rw (← e) (no-byte t)
+begins-nothing b t e = rw (← e) (no-row t)
 
 highest-tail : (lead : ℕ) → highestAfter lead ≤ 0xBF
 highest-tail lead = go (eqb lead 0xED) (eqb lead 0xF4)

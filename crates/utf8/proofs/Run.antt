@@ -1,5 +1,5 @@
 -- Bytes that follow, one after another from a place on, carry the text's answer to the place after them (`run`), and from there back to where
--- the character begins that is not whole (`begun`). One that may not follow makes the answer no (`fails`). Rests on `moves` and `stops`.
+-- the character begins that is not whole (`answers-back`). One that may not follow makes the answer no (`fails`). Rests on `moves` and `stops`.
 use Prim.Native.Nat.{ℕ, zero, suc, _+_, _-_, _≤_, _<_}
 use native.Mathlib.Nat.{add-zero}
 use native.Mathlib.Omega.{arith}

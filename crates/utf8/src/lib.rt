@@ -314,7 +314,7 @@ fn past_blocks(text: &[u8]) -> usize
 }
 
 // Is the text UTF-8? ASCII at its beginning passes by blocks. After another character a block would mostly be tried in vain: there ASCII
-// passes as far as it goes, as do the characters of one row.
+// passes as far as it goes, and others 32 bytes at a step or by their row.
 pub fn is_utf8(text: &[u8]) -> bool
     ensures { λ r. ⌜ r ≡ utf8 (now (text .entry)) ⌝ }
 {

@@ -58,7 +58,7 @@ fn sizes_fit(n: &[u8], e: &[u8], d: &[u8], iqmp: &[u8], p: &[u8], q: &[u8]) -> b
 }
 
 // The algorithm's name, as a string.
-fn put_name(out: &mut [u8], at: usize) -> usize
+fn put_algorithm(out: &mut [u8], at: usize) -> usize
     ensures { λ r. ⌜ isPut (now (out .entry)) at (string (algorithmName Rsa)) r (now (out .exit)) ⌝ }
 {
     buffer::put(out, at, b"\0\0\0\x07ssh-rsa")
@@ -68,7 +68,7 @@ fn put_name(out: &mut [u8], at: usize) -> usize
 fn put_key(out: &mut [u8], at: usize, n: &[u8], e: &[u8]) -> usize
     ensures { λ r. ⌜ isRun (now (out .entry)) at (blob Rsa (ofModulus (now (n .entry)) (now (e .entry)))) r (now (out .exit)) ⌝ }
 {
-    let a = put_name(out, at);
+    let a = put_algorithm(out, at);
     let b = buffer::put_string(out, a, e);
     buffer::put_string(out, b, n)
 }
@@ -86,7 +86,7 @@ fn put_pair(
 ) -> usize
     ensures { λ r. ⌜ isRun (now (out .entry)) at (keypair Rsa 0 (ofModulus (now (n .entry)) (now (e .entry))) (ofNumbers (now (d .entry)) (now (iqmp .entry)) (now (p .entry)) (now (q .entry)))) r (now (out .exit)) ⌝ }
 {
-    let at_n = put_name(out, at);
+    let at_n = put_algorithm(out, at);
     let at_e = buffer::put_string(out, at_n, n);
     let at_d = buffer::put_string(out, at_e, e);
     let at_iqmp = buffer::put_string(out, at_d, d);

@@ -17,27 +17,27 @@ returns : tie.Need-returns
 unfolding sameKey sameAlgorithm
 returns c = rw (← c .before .before .code .ensures, ← c .before .code2 .ensures, ne-eqb _ _ (c .if1 .taken))
 
-same-part-requires : tie.Need-same-part-requires
-same-part-requires c κs = search needs
+same-bytes-requires : tie.Need-same-bytes-requires
+same-bytes-requires c κs = search needs
 
 returns-2 : tie.Need-returns-2
 unfolding sameKey sameAlgorithm
 returns-2 c =
     let k = c .before .before in
-    rw (← k .before .before .code .ensures, ← k .before .code2 .ensures, eq-eqb _ _ (k .if1 .left), ← c .before .same-part .ensures, not-true (c .before .same-part .result) (c .if2 .taken))
+    rw (← k .before .before .code .ensures, ← k .before .code2 .ensures, eq-eqb _ _ (k .if1 .left), ← c .before .same-bytes .ensures, not-true (c .before .same-bytes .result) (c .if2 .taken))
 
-same-part-requires-2 : tie.Need-same-part-requires-2
-same-part-requires-2 c κs = search needs
+same-bytes-requires-2 : tie.Need-same-bytes-requires-2
+same-bytes-requires-2 c κs = search needs
 
 returns-3 : tie.Need-returns-3
 unfolding sameKey sameAlgorithm
 returns-3 c =
     let p = c .before .before in
     let k = p .before .before in
-    rw (← k .before .before .code .ensures, ← k .before .code2 .ensures, eq-eqb _ _ (k .if1 .left), ← p .before .same-part .ensures, not-false (p .before .same-part .result) (p .if2 .left), ← c .before .same-part2 .ensures, not-true (c .before .same-part2 .result) (c .if3 .taken))
+    rw (← k .before .before .code .ensures, ← k .before .code2 .ensures, eq-eqb _ _ (k .if1 .left), ← p .before .same-bytes .ensures, not-false (p .before .same-bytes .result) (p .if2 .left), ← c .before .same-bytes2 .ensures, not-true (c .before .same-bytes2 .result) (c .if3 .taken))
 
-same-part-requires-3 : tie.Need-same-part-requires-3
-same-part-requires-3 c κs = search needs
+same-bytes-requires-3 : tie.Need-same-bytes-requires-3
+same-bytes-requires-3 c κs = search needs
 
 returns-4 : tie.Need-returns-4
 unfolding sameKey sameAlgorithm
@@ -45,7 +45,7 @@ returns-4 c =
     let m = c .before in
     let p = m .before .before in
     let k = p .before .before in
-    rw (← k .before .before .code .ensures, ← k .before .code2 .ensures, eq-eqb _ _ (k .if1 .left), ← p .before .same-part .ensures, not-false (p .before .same-part .result) (p .if2 .left), ← m .before .same-part2 .ensures, not-false (m .before .same-part2 .result) (m .if3 .left)) (c .same-part3 .ensures)
+    rw (← k .before .before .code .ensures, ← k .before .code2 .ensures, eq-eqb _ _ (k .if1 .left), ← p .before .same-bytes .ensures, not-false (p .before .same-bytes .result) (p .if2 .left), ← m .before .same-bytes2 .ensures, not-false (m .before .same-bytes2 .result) (m .if3 .left)) (c .same-bytes3 .ensures)
 
 pub same-key-spec : {M : Type 1} → statement M
 same-key-spec =
@@ -54,9 +54,9 @@ same-key-spec =
     code-requires
     code-requires-2
     returns
-    same-part-requires
+    same-bytes-requires
     returns-2
-    same-part-requires-2
+    same-bytes-requires-2
     returns-3
-    same-part-requires-3
+    same-bytes-requires-3
     returns-4)

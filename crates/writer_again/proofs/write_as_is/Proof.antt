@@ -1,5 +1,4 @@
 -- `writer_again::write_as_is` meets its contract: refused for the room, or put whole. Rests on the laws of a write by its length.
-use native.Mathlib.Omega.{arith}
 use denote.Ref.{now}
 use Rattle.writer_reply.specs.Sized.{no-room, done}
 use borrow.Author.Needs.{needs}

@@ -5,8 +5,8 @@ use borrow.Author.Needs.{needs}
 use Rattle.writer_rsa.proofs.put_key.Statement.{statement}
 use Rattle.writer_rsa.proofs.put_key.Tie as tie
 
-put-name-requires : tie.Need-put-name-requires
-put-name-requires c κs = search needs
+put-algorithm-requires : tie.Need-put-algorithm-requires
+put-algorithm-requires c κs = search needs
 
 put-string-requires : tie.Need-put-string-requires
 put-string-requires c κs = search needs
@@ -20,14 +20,14 @@ same-length c = search needs
 returns : tie.Need-returns
 unfolding blob
 returns c room =
-    let name = c .before .before .before .before .before .before .before .before .before .before .put-name .ensures in
+    let name = c .before .before .before .before .before .before .before .before .before .before .put-algorithm .ensures in
     finish (step (step (step (start room) name) (c .before .before .before .before .before .before .put-string .ensures)) (c .before .before .put-string2 .ensures))
 
 pub put-key-spec : {M : Type 1} → statement M
 put-key-spec =
     tie.close
     (tie.spec
-    put-name-requires
+    put-algorithm-requires
     put-string-requires
     put-string-requires-2
     same-length

@@ -5,8 +5,8 @@ use borrow.Author.Needs.{needs}
 use Rattle.writer_rsa.proofs.put_pair.Statement.{statement}
 use Rattle.writer_rsa.proofs.put_pair.Tie as tie
 
-put-name-requires : tie.Need-put-name-requires
-put-name-requires c κs = search needs
+put-algorithm-requires : tie.Need-put-algorithm-requires
+put-algorithm-requires c κs = search needs
 
 put-string-requires : tie.Need-put-string-requires
 put-string-requires c κs = search needs
@@ -32,7 +32,7 @@ same-length c = search needs
 returns : tie.Need-returns
 unfolding keypair
 returns c room =
-    let name = c .before .before .before .before .before .before .before .before .before .before .before .before .before .before .before .before .before .before .before .before .before .before .before .before .before .before .put-name .ensures in
+    let name = c .before .before .before .before .before .before .before .before .before .before .before .before .before .before .before .before .before .before .before .before .before .before .before .before .before .before .put-algorithm .ensures in
     let public = step (step (step (start room) name) (c .before .before .before .before .before .before .before .before .before .before .before .before .before .before .before .before .before .before .before .before .before .before .put-string .ensures)) (c .before .before .before .before .before .before .before .before .before .before .before .before .before .before .before .before .before .before .put-string2 .ensures) in
     let two = step (step public (c .before .before .before .before .before .before .before .before .before .before .before .before .before .before .put-string3 .ensures)) (c .before .before .before .before .before .before .before .before .before .before .put-string4 .ensures) in
     finish (step (step two (c .before .before .before .before .before .before .put-string5 .ensures)) (c .before .before .put-string6 .ensures))
@@ -41,7 +41,7 @@ pub put-pair-spec : {M : Type 1} → statement M
 put-pair-spec =
     tie.close
     (tie.spec
-    put-name-requires
+    put-algorithm-requires
     put-string-requires
     put-string-requires-2
     put-string-requires-3

@@ -1,8 +1,8 @@
--- `writer_rsa::put_name` meets its contract: the bytes are the name's string. Rests on the name's spelling.
+-- `writer_rsa::put_algorithm` meets its contract: the bytes are the name's string. Rests on the name's spelling.
 use Rattle.fields.specs.Bytes.{uint32, string}
 use borrow.Author.Needs.{needs}
-use Rattle.writer_rsa.proofs.put_name.Statement.{statement}
-use Rattle.writer_rsa.proofs.put_name.Tie as tie
+use Rattle.writer_rsa.proofs.put_algorithm.Statement.{statement}
+use Rattle.writer_rsa.proofs.put_algorithm.Tie as tie
 
 slice-aggregate-put : tie.Need-slice-aggregate-put
 slice-aggregate-put c = search needs
@@ -17,5 +17,5 @@ returns : tie.Need-returns
 unfolding string uint32
 returns c = c .before .before .put .ensures
 
-pub put-name-spec : {M : Type 1} → statement M
-put-name-spec = tie.close (tie.spec slice-aggregate-put put-requires same-length returns)
+pub put-algorithm-spec : {M : Type 1} → statement M
+put-algorithm-spec = tie.close (tie.spec slice-aggregate-put put-requires same-length returns)

@@ -1,4 +1,4 @@
--- `reader_section::same_part` meets its contract: a part of length 0 has no bytes (`none-view`), others are compared. Rests on the callees' contracts.
+-- `reader_section::same_bytes` meets its contract: a part of length 0 has no bytes (`none-view`), others are compared. Rests on the callees' contracts.
 use Prim.Native.Nat.{ℕ, _+_}
 use native.Mathlib.Omega.{arith}
 use mathlib.Core.Path.{_≡_, refl}
@@ -10,8 +10,8 @@ use lib.Seq.{slice, slice-empty}
 use Rattle.fields.specs.Fields.{viewOf}
 use Rattle.fields.specs.declared.Part.{Part}
 use borrow.Author.Needs.{needs}
-use Rattle.reader_section.proofs.same_part.Statement.{statement}
-use Rattle.reader_section.proofs.same_part.Tie as tie
+use Rattle.reader_section.proofs.same_bytes.Statement.{statement}
+use Rattle.reader_section.proofs.same_bytes.Tie as tie
 
 -- a part of no bytes, wherever it is
 none-view : (s : List ℕ) (p : Part) → p .length ≡ 0 → viewOf s p ≡ []
@@ -41,5 +41,5 @@ same-requires c κs = search needs
 returns-2 : tie.Need-returns-2
 returns-2 c = rw (← c .before .before .view .ensures .0, ← c .before .view2 .ensures .0) (c .same .ensures)
 
-pub same-part-spec : {M : Type 1} → statement M
-same-part-spec = tie.close (tie.spec returns view-requires view-requires-2 same-requires returns-2)
+pub same-bytes-spec : {M : Type 1} → statement M
+same-bytes-spec = tie.close (tie.spec returns view-requires view-requires-2 same-requires returns-2)
