@@ -25,7 +25,7 @@ pub fn median(mut values: Vec<f64>) -> f64 {
 }
 
 pub fn print_rounds(rounds: usize) {
-    println!("\nMedians of {} rounds after {} to warm up; no buffer is cleared.\n", rounds, WARM_UP);
+    println!("\nMedians of {} rounds after {} to warm up; no lent buffer is cleared.\n", rounds, WARM_UP);
 }
 
 /// How much other work was in the way since the program began, where the system tells it.
