@@ -23,8 +23,6 @@ use Rattle.fields.proofs.view.Reads as view
 use Rattle.fields.proofs.view.Kinds as view-kinds
 use Rattle.fields.proofs.same.Reads as same
 use Rattle.fields.proofs.same.Kinds as same-kinds
-use Rattle.fields.proofs.spells.Reads as spells
-use Rattle.fields.proofs.spells.Kinds as spells-kinds
 use Rattle.fields.proofs.byte.Reads as byte
 use Rattle.fields.proofs.byte.Kinds as byte-kinds
 
@@ -60,9 +58,6 @@ view-determined κs a r₁ r₂ s₁ s₂ p q = (cc, cc, cc)
 
 pub same-determined : Determined 2 same-kinds.ps same-kinds.r same.Post
 same-determined κs a r₁ r₂ s₁ s₂ p q = cc
-
-pub spells-determined : Determined 2 spells-kinds.ps spells-kinds.r spells.Post
-spells-determined κs a r₁ r₂ s₁ s₂ p q = cc
 
 pub byte-determined : Determined 1 byte-kinds.ps byte-kinds.r byte.Post
 byte-determined κs a r₁ r₂ s₁ s₂ p q = cc

@@ -1,5 +1,4 @@
 pub mod Bytes
-pub mod Words
 pub mod Refusals
 pub mod Determined
 pub mod Fields

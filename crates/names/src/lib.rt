@@ -4,7 +4,7 @@ ghost use mathlib.Core.Path.{_≡_};
 ghost use Prim.Native.Nat.{_+_, _*_};
 ghost use Rattle.names.specs.Ciphers.{cipherNamed, cbcNamed, ctrNamed, gcmNamed, isNone, blockSize, tagLength, kdfNamed};
 ghost use Rattle.names.specs.Algorithms.{curveNamed, sizeOf, algorithmNamed, algorithmCode};
-use fields::spells;
+use words::spells;
 
 pub enum Cipher {
     None,

@@ -43,7 +43,7 @@ fn read_magic(image: &[u8]) -> Field
     match whole.bytes(image, 15) {
         Field::Refused(f) => Field::Refused(f),
         Field::Part(p, d) => {
-            if fields::spells(b"openssh-key-v1\x00", fields::view(image, p)) {
+            if words::spells(b"openssh-key-v1\x00", fields::view(image, p)) {
                 return Field::Part(p, d);
             }
             Field::Refused(Fault {

@@ -1,9 +1,9 @@
--- `fields::four` meets its contract. Rests on `four-bytes`, the bytes one by one.
+-- `words::four` meets its contract. Rests on `four-bytes`, the bytes one by one.
 use native.Mathlib.Omega.{arith}
-use Rattle.fields.specs.Words.{four-bytes}
+use Rattle.words.specs.Words.{four-bytes}
 use borrow.Author.Needs.{needs}
-use Rattle.fields.proofs.four.Statement.{statement}
-use Rattle.fields.proofs.four.Tie as tie
+use Rattle.words.proofs.four.Statement.{statement}
+use Rattle.words.proofs.four.Tie as tie
 
 shared-slice-read-lowest-first : tie.Need-shared-slice-read-lowest-first
 shared-slice-read-lowest-first c = omega arith

@@ -1,11 +1,11 @@
--- `fields::spells` meets its contract. Rests on `in-pieces`: bytes are the same where their pieces are.
+-- `words::spells` meets its contract. Rests on `in-pieces`: bytes are the same where their pieces are.
 use native.Mathlib.Omega.{arith}
 use borrow.Author.Tests.{not-true, not-false}
 use Rattle.fields.specs.Bytes.{not-as-long}
-use Rattle.fields.specs.Words.{in-pieces}
+use Rattle.words.specs.Words.{in-pieces}
 use borrow.Author.Needs.{needs}
-use Rattle.fields.proofs.spells.Statement.{statement}
-use Rattle.fields.proofs.spells.Tie as tie
+use Rattle.words.proofs.spells.Statement.{statement}
+use Rattle.words.proofs.spells.Tie as tie
 
 returns : tie.Need-returns
 returns c =

@@ -1,8 +1,8 @@
--- `fields::same_eight` meets its contract. Rests on what a piece of two words to compare is.
+-- `words::same_eight` meets its contract. Rests on what a piece of two words to compare is.
 use native.Mathlib.Omega.{arith}
-use Rattle.fields.specs.Words.{no-piece, piece-words}
-use Rattle.fields.proofs.same_eight.Statement.{statement}
-use Rattle.fields.proofs.same_eight.Tie as tie
+use Rattle.words.specs.Words.{no-piece, piece-words}
+use Rattle.words.proofs.same_eight.Statement.{statement}
+use Rattle.words.proofs.same_eight.Tie as tie
 
 returns : tie.Need-returns
 returns c =

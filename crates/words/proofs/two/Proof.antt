@@ -1,9 +1,9 @@
--- `fields::two` meets its contract. Rests on `two-bytes`, the bytes one by one.
+-- `words::two` meets its contract. Rests on `two-bytes`, the bytes one by one.
 use native.Mathlib.Omega.{arith}
-use Rattle.fields.specs.Words.{two-bytes}
+use Rattle.words.specs.Words.{two-bytes}
 use borrow.Author.Needs.{needs}
-use Rattle.fields.proofs.two.Statement.{statement}
-use Rattle.fields.proofs.two.Tie as tie
+use Rattle.words.proofs.two.Statement.{statement}
+use Rattle.words.proofs.two.Tie as tie
 
 shared-slice-read-lowest-first : tie.Need-shared-slice-read-lowest-first
 shared-slice-read-lowest-first c = omega arith

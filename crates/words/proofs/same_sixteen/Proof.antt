@@ -1,13 +1,13 @@
--- `fields::same_sixteen` meets its contract: nothing is left, or two words of eight. Rests on `same-from`, a word and what comes after it.
+-- `words::same_sixteen` meets its contract: nothing is left, or two words of eight. Rests on `same-from`, a word and what comes after it.
 use native.Mathlib.Omega.{arith}
 use Prim.Native.Nat.{_+_, _%_}
 use mathlib.Core.Path.{sym}
 use borrow.Author.Tests.{eq-eqb, ne-eqb}
 use lib.ListN.{length}
 use Rattle.fields.specs.Bytes.{same-end, and-true}
-use Rattle.fields.specs.Words.{same-from}
-use Rattle.fields.proofs.same_sixteen.Statement.{statement}
-use Rattle.fields.proofs.same_sixteen.Tie as tie
+use Rattle.words.specs.Words.{same-from}
+use Rattle.words.proofs.same_sixteen.Statement.{statement}
+use Rattle.words.proofs.same_sixteen.Tie as tie
 
 returns : tie.Need-returns
 returns c =

@@ -1,9 +1,9 @@
--- `fields::eight` meets its contract. Rests on `eight-bytes`: a word of eight bytes is one of four, and another above it.
+-- `words::eight` meets its contract. Rests on `eight-bytes`: a word of eight bytes is one of four, and another above it.
 use native.Mathlib.Omega.{arith}
-use Rattle.fields.specs.Words.{eight-bytes}
+use Rattle.words.specs.Words.{eight-bytes}
 use borrow.Author.Needs.{needs}
-use Rattle.fields.proofs.eight.Statement.{statement}
-use Rattle.fields.proofs.eight.Tie as tie
+use Rattle.words.proofs.eight.Statement.{statement}
+use Rattle.words.proofs.eight.Tie as tie
 
 add-four : tie.Need-add-four
 add-four c = omega arith

@@ -1,8 +1,8 @@
--- `fields::same_one` meets its contract. Rests on what the piece of one byte is.
+-- `words::same_one` meets its contract. Rests on what the piece of one byte is.
 use native.Mathlib.Omega.{arith}
-use Rattle.fields.specs.Words.{no-piece, piece-one}
-use Rattle.fields.proofs.same_one.Statement.{statement}
-use Rattle.fields.proofs.same_one.Tie as tie
+use Rattle.words.specs.Words.{no-piece, piece-one}
+use Rattle.words.proofs.same_one.Statement.{statement}
+use Rattle.words.proofs.same_one.Tie as tie
 
 returns : tie.Need-returns
 returns c = no-piece 1 (c .before .args .name .now) (c .before .args .text .now) (c .if1 .taken)
