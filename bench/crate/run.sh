@@ -6,7 +6,8 @@
 #     bench/crate/run.sh --check          the answers compared, and each job and the night's run once; no times
 #     bench/crate/run.sh --night [DIR]    the night's job over made files, or over the files of DIR, for each build
 #
-# Status: 0 done; 1 an answer is wrong, or something can't be built or read; 3 the crate can't be had here.
+# Status: 0 done; 1 an answer is wrong (101 if that shows in a timed pass), or something can't be built or read; 3 the crate can't be had
+# here.
 set -euo pipefail
 if [ $# -gt 1 ] && [[ $2 != /* ]]; then
     set -- "$1" "$PWD/$2" "${@:3}"
