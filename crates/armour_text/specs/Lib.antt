@@ -1,0 +1,9 @@
+pub mod Base64
+pub mod Text
+pub mod Import
+pub mod Groups
+pub mod Inverse
+pub mod Ends
+pub mod Places
+pub mod Exactly
+pub mod Examples
