@@ -11,8 +11,7 @@ use lib.Dec.{eqb}
 use lib.ListN.{length, take, drop, getD, set, length-drop}
 use lib.Seq.{sets}
 use Rattle.fields.specs.Bytes.{AllBytes}
-use Rattle.armour_signs.specs.Alphabet.{signOf, valueOf, values}
-use Rattle.armour_signs.specs.Rule.{values-are}
+use Rattle.armour_signs.specs.Alphabet.{signs, signOf, valueOf}
 use Rattle.armour_text.specs.Base64.{pad, bitsOfBytes, bitsOfValues, bytesOfBits, signsOfBits, encode}
 use Rattle.armour_text.specs.Groups.{groups-of, bytes-of}
 use Rattle.armour_text.specs.Inverse.{sign-0, sign-1, sign-2, sign-3}
@@ -175,15 +174,18 @@ module _ (t b : List ℕ) (o p k : ℕ) (e : Lines t b o p k) (s : Next b o) whe
 
 -- ---- stores
 
-store-three : (l : List ℕ) (o x y z : ℕ) (r : List ℕ) → sets (set (set (set l o x) (o + 1) y) (o + 2) z) (o + 3) r ≡ sets l o (x ∷ y ∷ z ∷ r)
-store-three l o x y z r =
+pub store-three : (l : List ℕ) (o x y z : ℕ) → set (set (set l o x) (o + 1) y) (o + 2) z ≡ sets l o (x ∷ y ∷ z ∷ [])
+store-three l o x y z =
     let e : o + 1 ≡ suc o = omega arith in
     let f : o + 2 ≡ suc (suc o) = omega arith in
-    let g : o + 3 ≡ suc (suc (suc o)) = omega arith in
-    rw (e, f, g)
+    rw (e, f)
 
-store-two : (l : List ℕ) (o x y : ℕ) → set (set l o x) (o + 1) y ≡ sets l o (x ∷ y ∷ [])
+pub store-two : (l : List ℕ) (o x y : ℕ) → set (set l o x) (o + 1) y ≡ sets l o (x ∷ y ∷ [])
 store-two l o x y = rw (add-one o)
+
+-- three bytes, and then the others
+store-more : (l : List ℕ) (o x y z : ℕ) (r : List ℕ) → sets (sets l o (x ∷ y ∷ z ∷ [])) (o + 3) r ≡ sets l o (x ∷ y ∷ z ∷ r)
+store-more l o x y z r = let e : o + 3 ≡ suc (suc (suc o)) = omega arith in rw e
 
 drop-three : (b : List ℕ) (i : ℕ) → i + 3 ≤ length b → drop i b ≡ getD b i 0 ∷ getD b (i + 1) 0 ∷ getD b (i + 2) 0 ∷ drop (i + 3) b
 drop-three b i h =
@@ -210,6 +212,11 @@ second-of a b c h k l = omega arith
 third-of : (a b c : ℕ) → a < 256 → b < 256 → c < 256 → bitsOfBytes a b c % 256 ≡ c
 third-of a b c h k l = omega arith
 
+-- the value of `A`
+a-value : valueOf 65 ≡ 0
+unfolding valueOf signs
+a-value = refl
+
 no-third : (a : ℕ) → bitsOfBytes a 0 0 / 64 % 64 ≡ 0
 no-third a = omega arith
 
@@ -226,55 +233,44 @@ module _ (t b : List ℕ) (o p k : ℕ) (e : Lines t b o p k) (all : AllBytes b)
         rw (u .0, u .1, u .2, u .3, sign-0 n .0, sign-1 n .0, sign-2 n .0, sign-3 n .0) (groups-of n (omega arith))
 
     pub fill-three :
-        (g : ℕ) → g ≡ bitsOfValues (valueOf w) (valueOf x) (valueOf y) (valueOf z) → (old : List ℕ)
-        → (sets (set (set (set old o (g / 65536 % 256)) (o + 1) (g / 256 % 256)) (o + 2) (g % 256)) (o + 3) (drop (o + 3) b) ≡ sets old o (drop o b))
+        (old : List ℕ)
+        → (sets (sets old o (bytesOfBits (bitsOfValues (valueOf w) (valueOf x) (valueOf y) (valueOf z)))) (o + 3) (drop (o + 3) b) ≡ sets old o (drop o b))
         × Lines t b (o + 3) q j
     unfolding next-three
-    fill-three g f old =
-        let m : g ≡ bitsAt b o = f ∙ bits-three in
+    fill-three old =
         let i₀ = all o in
         let i₁ = all (o + 1) in
         let i₂ = all (o + 2) in (
-          rw (m, first-of _ _ _ i₀ i₁ i₂, second-of _ _ _ i₀ i₁ i₂, third-of _ _ _ i₀ i₁ i₂, drop-three b o l)
-              (store-three old o (getD b o 0) (getD b (o + 1) 0) (getD b (o + 2) 0) (drop (o + 3) b)),
+          rw (bits-three, first-of _ _ _ i₀ i₁ i₂, second-of _ _ _ i₀ i₁ i₂, third-of _ _ _ i₀ i₁ i₂, drop-three b o l)
+              (store-more old o (getD b o 0) (getD b (o + 1) 0) (getD b (o + 2) 0) (drop (o + 3) b)),
           these t b o p k e (next-three b o l) w x y z q j h .4,
         )
 
   pub fill-two :
-      o + 2 ≡ length b → (g : ℕ) → g ≡ bitsOfValues (valueOf w) (valueOf x) (valueOf y) 0 → (old : List ℕ)
-      → set (set old o (g / 65536 % 256)) (o + 1) (g / 256 % 256) ≡ sets old o (drop o b)
+      o + 2 ≡ length b → (old : List ℕ) → sets old o (take 2 (bytesOfBits (bitsOfValues (valueOf w) (valueOf x) (valueOf y) (valueOf 65)))) ≡ sets old o (drop o b)
   unfolding next-two
-  fill-two l g f old =
+  fill-two l old =
       let u = these t b o p k e (next-two b o l) w x y z q j h in
       let n : ℕ = bitsTwo b o in
       let i₀ = all o in
       let i₁ = all (o + 1) in
       let s : n % 64 ≡ 0 = omega arith in
       let r : bitsOfValues (n / 262144 % 64) (n / 4096 % 64) (n / 64 % 64) 0 ≡ n = rw s at (groups-of n (omega arith)) in
-      let m : g ≡ n = f ∙ rw (u .0, u .1, u .2, sign-0 n .0, sign-1 n .0, sign-2 n .0) r in
-      rw (m, first-of _ _ 0 i₀ i₁ (omega arith), second-of _ _ 0 i₀ i₁ (omega arith), drop-two b o l) (store-two old o _ _)
+      let m : bitsOfValues (valueOf w) (valueOf x) (valueOf y) (valueOf 65) ≡ n = rw (a-value, u .0, u .1, u .2, sign-0 n .0, sign-1 n .0, sign-2 n .0) r in
+      rw (m, first-of _ _ 0 i₀ i₁ (omega arith), second-of _ _ 0 i₀ i₁ (omega arith), drop-two b o l)
 
   pub fill-one :
-      o + 1 ≡ length b → (g : ℕ) → g ≡ bitsOfValues (valueOf w) (valueOf x) 0 0 → (old : List ℕ) → set old o (g / 65536 % 256) ≡ sets old o (drop o b)
+      o + 1 ≡ length b → (old : List ℕ) → set old o (bitsOfValues (valueOf w) (valueOf x) (valueOf 65) (valueOf 65) / 65536 % 256) ≡ sets old o (drop o b)
   unfolding next-one
-  fill-one l g f old =
+  fill-one l old =
       let u = these t b o p k e (next-one b o l) w x y z q j h in
       let n : ℕ = bitsOne b o in
       let i₀ = all o in
       let s : n % 64 ≡ 0 = omega arith in
       let v = no-third (getD b o 0) in
       let r : bitsOfValues (n / 262144 % 64) (n / 4096 % 64) 0 0 ≡ n = rw (s, v) at (groups-of n (omega arith)) in
-      let m : g ≡ n = f ∙ rw (u .0, u .1, sign-0 n .0, sign-1 n .0) r in
+      let m : bitsOfValues (valueOf w) (valueOf x) (valueOf 65) (valueOf 65) ≡ n = rw (a-value, u .0, u .1, sign-0 n .0, sign-1 n .0) r in
       rw (m, first-of _ 0 0 i₀ (omega arith) (omega arith), drop-one b o l)
 
 pub fill-none : (b : List ℕ) (o : ℕ) (l : List ℕ) → o ≡ length b → l ≡ sets l o (drop o b)
 fill-none b o l n = rw (drop-end b o n)
-
--- ---- the table
-
-pub values-length : length values ≡ 256
-unfolding values
-values-length = refl
-
-pub value-at : (table : List ℕ) (c : ℕ) → table ≡ values → c < 256 → getD table c 0 ≡ valueOf c
-value-at table c e h = rw e (values-are c h)

@@ -11,7 +11,7 @@ use lib.Dec.{ltb, leb}
 use lib.ListN.{length, drop, getD, length-append}
 use lib.Seq.{drop-at}
 use Rattle.fields.specs.Bytes.{AllBytes, both-true}
-use Rattle.armour_signs.specs.Alphabet.{signOf, valueOf, isSign}
+use Rattle.armour_signs.specs.Alphabet.{signOf, valueOf, isSign, allSigns}
 use Rattle.armour_signs.specs.Rule.{value-sign, sign-value}
 use Rattle.armour_text.specs.Base64.{bytesOfSigns, encode}
 use Rattle.armour_text.specs.Inverse.{append-bytes, signs-bytes}
@@ -23,7 +23,7 @@ use Rattle.armour_import.specs.declared.Judged.the-variants.{Count, Bad}
 use Rattle.armour_import.specs.declared.Group.the-variants as group
 use Rattle.armour_import.specs.Rest.{rest, rest-byte}
 use Rattle.armour_import.specs.Signs.{stands, stands-rest, rest-stands, opens, opens-line, End, Groups, four, after, lead-same}
-use Rattle.armour_import.specs.Kinds.{kindOf, kind-is, kind-of, kind-most, kind-signs}
+use Rattle.armour_groups.specs.Kinds.{kindOf, kind-is, kind-of, kind-most, kind-signs}
 
 -- r is what is left of the text of n bytes, where the line has k columns left
 pub record Sized (r : List ℕ) (k n : ℕ) : Type 0 where
@@ -199,12 +199,7 @@ through-more {n = n} {r = r} {k = k} l w x y z r′ t f e h = record {
 
 -- ---- a run of signs in their line
 
--- whether the n bytes from p on are signs
-abbrev pub allSigns : ℕ → List ℕ → ℕ → Bool
-allSigns zero t p = true
-allSigns (suc n) t p = allSigns n t p && isSign (getD t (p + n) 0)
-
--- each of them is one
+-- each of the n bytes from p on is a sign
 abbrev pub AllSigns : List ℕ → ℕ → ℕ → Type 0
 AllSigns t p n = (i : ℕ) → i < n → isSign (getD t (p + i) 0) ≡ true
 

@@ -1,6 +1,6 @@
 -- RFC 4648, table 1: which sign stands for a value below 64, and which value a sign has.
-use Prim.Native.Nat.{ℕ, zero, suc}
-use mathlib.Core.Bool.{Bool, cond}
+use Prim.Native.Nat.{ℕ, zero, suc, _+_}
+use mathlib.Core.Bool.{Bool, true, cond, _&&_}
 use mathlib.Core.List.{List, [], _∷_}
 use lib.Dec.{eqb, ltb}
 use lib.ListN.{getD}
@@ -23,6 +23,11 @@ valueOf c = place c 0 signs
 
 unfoldable pub isSign : ℕ → Bool
 isSign c = ltb (valueOf c) 64
+
+-- whether the n bytes of t from p on are signs
+abbrev pub allSigns : ℕ → List ℕ → ℕ → Bool
+allSigns zero t p = true
+allSigns (suc n) t p = allSigns n t p && isSign (getD t (p + n) 0)
 
 -- the values of k bytes from c on
 abbrev pub valuesFrom : ℕ → ℕ → List ℕ

@@ -89,7 +89,7 @@ all-back : every back-test 0 values ≡ true
 unfolding back-test values valueOf signOf signs
 all-back = refl
 
-values-length : length values ≡ 256
+pub values-length : length values ≡ 256
 unfolding values
 values-length = refl
 
@@ -113,3 +113,7 @@ module _ (c : ℕ) (h : c < 256) where
   pub sign-value : valueOf c < 64 → signOf (valueOf c) ≡ c
   unfolding back-test
   sign-value k = eqb-true (signOf (valueOf c)) c (rw (values-are, lt-ltb _ _ k) at (at back-test values all-back c within))
+
+  -- as it is looked up
+  pub value-at : (table : List ℕ) → table ≡ values → getD table c 0 ≡ valueOf c
+  value-at table e = rw e values-are

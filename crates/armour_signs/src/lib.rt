@@ -2,7 +2,11 @@
 //
 // A table is handed out whole, so that a caller builds it once and lends it to what looks into it.
 ghost use mathlib.Core.Path.{_≡_};
-ghost use Rattle.armour_signs.specs.Alphabet.{signs, values, isSign};
+ghost use mathlib.Core.Bool.{_&&_};
+ghost use Prim.Native.Nat.{_+_};
+ghost use lib.Dec.{leb};
+ghost use lib.ListN.{length};
+ghost use Rattle.armour_signs.specs.Alphabet.{signs, valueOf, values, isSign, allSigns};
 
 // The signs, each at its value.
 pub fn sign_table() -> [u8; 64]
@@ -21,6 +25,14 @@ pub fn value_table() -> [u8; 256]
         @@@@@@@@@@@@@@@@@@@@@@@@@@@@@@@@@@@@@@@@@@@@@@@@@@@@@@@@@@@@@@@@"
 }
 
+// One byte's value. What looks up many lends itself the table instead.
+pub fn value(c: u8) -> u8
+    ensures { λ r. ⌜ r ≡ valueOf c ⌝ }
+{
+    let table = value_table();
+    table[c as usize]
+}
+
 // By ranges, without a jump, and not by the table: of many bytes, compiled, it is vector code.
 pub fn is_sign(c: u8) -> bool
     ensures { λ r. ⌜ r ≡ isSign c ⌝ }
@@ -30,4 +42,23 @@ pub fn is_sign(c: u8) -> bool
         | ((48 <= c) & (c <= 57))
         | (c == 43)
         | (c == 47)
+}
+
+// Are the n bytes from the place on there, and all signs? All are looked at, without a jump: compiled, it is vector code.
+pub fn all_signs(text: &[u8], at: usize, n: usize) -> bool
+    ensures { λ r. ⌜ r ≡ (leb (at + n) (length (now (text .entry))) && allSigns n (now (text .entry)) at) ⌝ }
+{
+    if text.len() < n {
+        return false;
+    }
+    if text.len() - n < at {
+        return false;
+    }
+    let mut good = true;
+    let mut k: usize = 0;
+    while k < n {
+        good = good & is_sign(text[at + k]);
+        k += 1;
+    }
+    good
 }

@@ -1,9 +1,10 @@
 -- `armour_import::fill` meets its contract: the bytes before o are filled in.
-use lib.Seq.{sets, length-sets}
-use mathlib.Core.Path.{_≡_, refl, ap, _∙_}
+use Rattle.armour_text.specs.Base64.{bytesOfBits}
 use native.Mathlib.Omega.{arith}
 use Prim.Native.Nat.{_+_, _-_, _≤_}
-use lib.ListN.{length, drop, length-set}
+use mathlib.Core.Path.{_≡_, refl, ap, _∙_}
+use lib.ListN.{length, drop}
+use lib.Seq.{sets, length-sets}
 use Rattle.armour_text.specs.Exactly.{carried-bytes}
 use Rattle.armour_text.specs.Import.{carried}
 use Rattle.armour_import.specs.Fill.{Lines, ready, never, next-three, fill-three}
@@ -34,64 +35,36 @@ same-length : tie.Need-same-length Inv-loop μ-loop
 same-length c = search needs
 
 returns : tie.Need-returns Inv-loop μ-loop
-returns c = absurd (never (c .before .before .before .before .before .before .before .before .args .text .now) (carried (c .before .before .before .before .before .before .before .before .args .text .now)) (c .before .before .before .before .loop .o) _ _ (c .before .before .before .before .loop .inv .1) (next-three _ _ (omega (arith, c .before .before .before .before .before .before .before .before .pre .1 .size, c .before .before .before .loop-test .taken, c .before .before .before .before .loop .inv .0))) (rw (c .enum-told .given .1) at (c .before .before .four-at .ensures)))
+returns c =
+    let a = c .before .before .before .before .before .before .before .before .args in
+    let l = c .before .before .before .before .loop in
+    let n = next-three (carried (a .text .now)) (l .o) (omega (arith, c .before .before .before .before .before .before .before .before .pre .1 .size, c .before .before .before .loop-test .taken, l .inv .0)) in
+    absurd (never (a .text .now) (carried (a .text .now)) (l .o) _ _ (l .inv .1) n (rw (c .enum-told .given .1) at (c .before .before .four-at .ensures)))
 
 enum-known-w : tie.Need-enum-known-w Inv-loop μ-loop
 enum-known-w c = search needs
 
-value-requires : tie.Need-value-requires Inv-loop μ-loop
-value-requires c κs = c .before .before .before .before .before .before .before .before .before .pre .0
+bits-of-requires : tie.Need-bits-of-requires Inv-loop μ-loop
+bits-of-requires c κs = c .before .before .before .before .before .before .before .before .before .before .pre .0
 
-value-requires-2 : tie.Need-value-requires-2 Inv-loop μ-loop
-value-requires-2 c κs = c .before .before .before .before .before .before .before .before .before .before .pre .0
-
-value-requires-3 : tie.Need-value-requires-3 Inv-loop μ-loop
-value-requires-3 c κs = c .before .before .before .before .before .before .before .before .before .before .before .pre .0
-
-value-requires-4 : tie.Need-value-requires-4 Inv-loop μ-loop
-value-requires-4 c κs = c .before .before .before .before .before .before .before .before .before .before .before .before .pre .0
-
-bits-requires : tie.Need-bits-requires Inv-loop μ-loop
-bits-requires c κs = tt
-
-first-requires : tie.Need-first-requires Inv-loop μ-loop
-first-requires c κs = search needs
-
-slice-write-out : tie.Need-slice-write-out Inv-loop μ-loop
-slice-write-out c = omega (arith, c .before .before .before .before .before .before .before .before .before .before .before .before .before .before .before .pre .2, c .before .before .before .before .before .before .before .before .before .before .loop-test .taken, c .before .before .before .before .before .before .before .before .before .before .before .loop .inv .3)
-
-second-requires : tie.Need-second-requires Inv-loop μ-loop
-second-requires c κs = search needs
-
-add-out : tie.Need-add-out Inv-loop μ-loop
-add-out c = omega (arith, c .before .before .before .before .before .before .before .before .before .before .before .loop-test .taken)
-
-slice-write-out-2 : tie.Need-slice-write-out-2 Inv-loop μ-loop
-slice-write-out-2 c = simp length-set (omega (arith, c .before .before .before .before .before .before .before .before .before .before .before .before .before .before .before .before .pre .2, c .before .before .before .before .before .before .before .before .before .before .before .loop-test .taken, c .before .before .before .before .before .before .before .before .before .before .before .before .loop .inv .3))
-
-third-requires : tie.Need-third-requires Inv-loop μ-loop
-third-requires c κs = search needs
-
-add-out-2 : tie.Need-add-out-2 Inv-loop μ-loop
-add-out-2 c = omega (arith, c .before .before .before .before .before .before .before .before .before .before .before .before .loop-test .taken)
-
-slice-write-out-3 : tie.Need-slice-write-out-3 Inv-loop μ-loop
-slice-write-out-3 c = simp length-set (omega (arith, c .before .before .before .before .before .before .before .before .before .before .before .before .before .before .before .before .before .pre .2, c .before .before .before .before .before .before .before .before .before .before .before .before .loop-test .taken, c .before .before .before .before .before .before .before .before .before .before .before .before .before .loop .inv .3))
+store-three-requires : tie.Need-store-three-requires Inv-loop μ-loop
+store-three-requires c κs = omega (arith, c .before .before .before .before .before .before .before .before .before .before .before .pre .2, c .before .before .before .before .before .before .loop-test .taken, c .before .before .before .before .before .before .before .loop .inv .0, c .before .before .before .before .before .before .before .loop .inv .3)
 
 add-o : tie.Need-add-o Inv-loop μ-loop
-add-o c = omega (arith, c .before .before .before .before .before .before .before .before .before .before .before .before .loop-test .taken)
+add-o c = omega (arith, c .before .before .before .before .before .before .before .before .before .loop-test .taken)
 
 loop-less : tie.Need-loop-less Inv-loop μ-loop
-loop-less c = omega (arith, c .before .before .before .before .before .before .before .before .before .before .before .before .loop-test .taken)
+loop-less c = omega (arith, c .before .before .before .before .before .before .before .before .before .loop-test .taken)
 
 loop-again : tie.Need-loop-again Inv-loop μ-loop
 loop-again c =
-    let a = c .before .before .before .before .before .before .before .before .before .before .before .before .before .before .before .before .before .args in
-    let l = c .before .before .before .before .before .before .before .before .before .before .before .before .before .loop in
-    let i : l .o + 3 ≤ a .n = omega (arith, c .before .before .before .before .before .before .before .before .before .before .before .before .loop-test .taken, l .inv .0) in
-    let g = rw (c .before .before .before .before .before .before .before .value .ensures, c .before .before .before .before .before .before .value2 .ensures, c .before .before .before .before .before .value3 .ensures, c .before .before .before .before .value4 .ensures) at (c .before .before .before .bits .ensures) in
-    let f = fill-three (a .text .now) (carried (a .text .now)) (l .o) _ _ (l .inv .1) (carried-bytes (a .text .now)) _ _ _ _ _ _ (rw (c .before .before .before .before .before .before .before .before .before .w .given .1) at (c .before .before .before .before .before .before .before .before .before .before .before .four-at .ensures)) (omega (arith, i, c .before .before .before .before .before .before .before .before .before .before .before .before .before .before .before .before .before .pre .1 .size)) _ g (l .out) in
-    (i, f .1, rw (c .before .before .first .ensures, c .before .second .ensures, c .third .ensures) (f .0 ∙ l .inv .2), simp length-set (l .inv .3))
+    let a = c .before .before .before .before .before .before .before .before .before .before .before .before .before .before .args in
+    let l = c .before .before .before .before .before .before .before .before .before .before .loop in
+    let i : l .o + 3 ≤ a .n = omega (arith, c .before .before .before .before .before .before .before .before .before .loop-test .taken, l .inv .0) in
+    let f = fill-three (a .text .now) (carried (a .text .now)) (l .o) _ _ (l .inv .1) (carried-bytes (a .text .now)) _ _ _ _ _ _ (rw (c .before .before .before .before .before .before .w .given .1) at (c .before .before .before .before .before .before .before .before .four-at .ensures)) (omega (arith, i, c .before .before .before .before .before .before .before .before .before .before .before .before .before .before .pre .1 .size)) (l .out) in
+    let g = c .before .before .store-three .ensures in
+    let s = rw (c .before .before .before .bits-of .ensures) at g in
+    (i, f .1, rw s (f .0 ∙ l .inv .2), ap length g ∙ length-sets (l .out) (l .o) (bytesOfBits (c .before .before .before .bits-of .result)) ∙ l .inv .3)
 
 fill-rest-requires : tie.Need-fill-rest-requires Inv-loop μ-loop
 fill-rest-requires c κs = ((c .before .before .before .before .before .before .pre .0, c .before .before .before .before .before .before .pre .1, c .before .before .loop .inv .1), (c .before .before .loop .inv .0, omega (arith, c .before .loop-test .left), omega (arith, c .before .before .before .before .before .before .pre .2, c .before .before .loop .inv .3)))
@@ -117,19 +90,8 @@ fill-spec =
     same-length
     returns
     enum-known-w
-    value-requires
-    value-requires-2
-    value-requires-3
-    value-requires-4
-    bits-requires
-    first-requires
-    slice-write-out
-    second-requires
-    add-out
-    slice-write-out-2
-    third-requires
-    add-out-2
-    slice-write-out-3
+    bits-of-requires
+    store-three-requires
     add-o
     loop-less
     loop-again

@@ -20,7 +20,7 @@ returns c = judge-not-opened _ (sym (c .before .stands .ensures) ∙ not-true (c
 
 judge-lines-requires : tie.Need-judge-lines-requires
 unfolding opens
-judge-lines-requires c κs = (omega (arith, stands-within (c .before .before .before .before .before .args .text .now) 0 opens (sym (c .before .stands .ensures) ∙ not-false (c .before .stands .result) (c .if1 .left))), c .before .before .before .before .before .pre)
+judge-lines-requires c κs = omega (arith, stands-within (c .before .before .before .before .args .text .now) 0 opens (sym (c .before .stands .ensures) ∙ not-false (c .before .stands .result) (c .if1 .left)))
 
 returns-2 : tie.Need-returns-2
 unfolding opens

@@ -6,16 +6,16 @@ use borrow.Author.Tests.{not-true, not-false}
 use lib.ListN.{length}
 use borrow.Author.Needs.{needs}
 use Rattle.armour_import.specs.Rest.{rest}
-use Rattle.armour_import.specs.Kinds.{kind-most}
+use Rattle.armour_groups.specs.Kinds.{kind-most}
 use Rattle.armour_import.specs.Judge.{Through, through-none, through-run, group-past, body-end, body-none, body-kind, body-last, body-not-last, body-more}
 use Rattle.armour_import.proofs.judge_lines.Statement.{statement}
 use Rattle.armour_import.proofs.judge_lines.Tie as tie
 
 abbrev Inv-loop : tie.InvT-loop
-Inv-loop text table at₀ left₀ n₀ at left n = (at ≤ length text) × (n ≤ at) × (left < 70) × Through (rest text 35) 0 n (rest text at) left
+Inv-loop text at₀ left₀ n₀ at left n = (at ≤ length text) × (n ≤ at) × (left < 70) × Through (rest text 35) 0 n (rest text at) left
 
 abbrev μ-loop : tie.MeasureT-loop
-μ-loop text table at₀ left₀ n₀ at left n = length text - at
+μ-loop text at₀ left₀ n₀ at left n = length text - at
 
 pos : (n : ℕ) → (n ≡ 0 → ⊥) → 0 < n
 pos zero f = absurd (f refl)
@@ -45,7 +45,7 @@ enum-known-w : tie.Need-enum-known-w Inv-loop μ-loop
 enum-known-w c = search needs
 
 kind-requires : tie.Need-kind-requires Inv-loop μ-loop
-kind-requires c κs = c .before .before .before .before .before .before .before .before .before .pre .1
+kind-requires c κs = search needs
 
 returns-2 : tie.Need-returns-2 Inv-loop μ-loop
 returns-2 c =
@@ -55,8 +55,8 @@ returns-2 c =
 is-end-requires-2 : tie.Need-is-end-requires-2 Inv-loop μ-loop
 is-end-requires-2 c κs = search needs
 
-add-t19 : tie.Need-add-t19 Inv-loop μ-loop
-add-t19 c =
+add-t18 : tie.Need-add-t18 Inv-loop μ-loop
+add-t18 c =
     let q = group-past _ _ _ _ _ _ _ _ _ (c .before .before .before .before .before .before .before .before .before .before .before .loop .inv .2) (rw (c .before .before .before .before .before .before .w .given .1) at (c .before .before .before .before .before .before .before .before .group-at .ensures)) in
     omega (arith, q .0, q .1, c .before .before .before .before .before .before .before .before .before .before .before .loop .inv .1, c .before .before .if3 .taken)
 
@@ -116,7 +116,7 @@ loop-less c =
 
 loop-again : tie.Need-loop-again Inv-loop μ-loop
 loop-again c =
-    let t = c .before .before .before .before .before .before .before .before .before .before .before .before .before .args .text .now in
+    let t = c .before .before .before .before .before .before .before .before .before .before .before .before .args .text .now in
     let l = c .before .before .before .before .before .before .before .before .before .before .loop .inv in
     let q = group-past _ _ _ _ _ _ _ _ _ (c .before .before .before .before .before .before .before .before .before .before .loop .inv .2) (rw (c .before .before .before .before .before .w .given .1) at (c .before .before .before .before .before .before .before .group-at .ensures)) in
     let r = c .run-of .ensures in
@@ -124,7 +124,7 @@ loop-again c =
       r .within,
       omega (arith, q .0, l .1),
       omega (arith, q .2),
-      through-run t (λ i. c .before .before .before .before .before .before .before .before .before .before .before .before .shared-slice-known .given i .fits) _ _ _ _ (q .2) (r .in-line) (r .within) (r .signs) (body-more _ _ _ _ (l .2) (l .3) (rw (not-true (c .before .before .before .before .before .before .before .before .before .is-end .result) (c .before .before .before .before .before .before .before .before .if1 .taken)) at (c .before .before .before .before .before .before .before .before .before .is-end .ensures)) _ _ _ _ _ _ (rw (c .before .before .before .before .before .w .given .1) at (c .before .before .before .before .before .before .before .group-at .ensures)) e),
+      through-run t (λ i. c .before .before .before .before .before .before .before .before .before .before .before .shared-slice-known .given i .fits) _ _ _ _ (q .2) (r .in-line) (r .within) (r .signs) (body-more _ _ _ _ (l .2) (l .3) (rw (not-true (c .before .before .before .before .before .before .before .before .before .is-end .result) (c .before .before .before .before .before .before .before .before .if1 .taken)) at (c .before .before .before .before .before .before .before .before .before .is-end .ensures)) _ _ _ _ _ _ (rw (c .before .before .before .before .before .w .given .1) at (c .before .before .before .before .before .before .before .group-at .ensures)) e),
     )
 
 returns-5 : tie.Need-returns-5 Inv-loop μ-loop
@@ -145,7 +145,7 @@ judge-lines-spec =
     kind-requires
     returns-2
     is-end-requires-2
-    add-t19
+    add-t18
     returns-3
     returns-4
     run-of-requires

@@ -32,7 +32,7 @@ sub-are-groups : tie.Need-sub-are-groups Inv-loop μ-loop
 sub-are-groups c = c .loop .inv .in-line
 
 are-groups-requires : tie.Need-are-groups-requires Inv-loop μ-loop
-are-groups-requires c κs = (c .loop .inv .within, omega arith)
+are-groups-requires c κs = omega arith
 
 add-groups : tie.Need-add-groups Inv-loop μ-loop
 add-groups c = omega (arith, c .before .before .loop .inv .in-line)
