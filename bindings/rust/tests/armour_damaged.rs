@@ -164,7 +164,7 @@ fn damage(text: &mut Vec<u8>, rng: &mut Rng) {
 fn at_random() {
     let mut tally = Tally::new("at random");
     let mut rng = Rng::new("at random");
-    for _ in 0..60_000 {
+    for _ in 0..40_000 {
         let length = rng.below(330);
         let bytes = rng.bytes(length);
         let mut text = text_of(&bytes);
@@ -180,5 +180,5 @@ fn at_random() {
         tally.import(&text, room);
     }
     tally.expect_replies(&[0, 2, 9], 1_000);
-    tally.end(60_000);
+    tally.end(40_000);
 }

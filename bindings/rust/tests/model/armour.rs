@@ -78,7 +78,11 @@ fn value(sign: &u8) -> Option<u8> {
 
 /// The last `width` bits of each number, the highest first.
 fn bits_of(numbers: &[u8], width: usize) -> Vec<u8> {
-    numbers.iter().flat_map(|number| (0..width).rev().map(move |place| number >> place & 1)).collect()
+    let mut bits = Vec::with_capacity(numbers.len() * width);
+    for number in numbers {
+        bits.extend((0..width).rev().map(|place| number >> place & 1));
+    }
+    bits
 }
 
 fn number(bits: &[u8]) -> usize {
