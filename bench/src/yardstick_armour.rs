@@ -202,7 +202,7 @@ fn decode(body: &[u8], out: &mut [u8]) {
     for bytes in &mut bytes {
         let (first, next) = next_line(rest);
         let (second, next) = next_line(next);
-        two_lines(first, second, bytes);
+        two_lines(first, second, bytes, put_bytes);
         rest = next;
     }
     decode_last(rest, bytes.into_remainder());
@@ -215,27 +215,28 @@ fn next_line(lines: &[u8]) -> (&[u8], &[u8]) {
     (line, &end[1 + usize::from(end[0] == b'\r')..])
 }
 
-/// Answers the values' bits together: 64 or more where something is no sign.
+/// By what puts the bytes of some groups.
 #[inline(always)]
-fn two_lines(first: &[u8], second: &[u8], bytes: &mut [u8]) -> u8 {
+fn two_lines(first: &[u8], second: &[u8], bytes: &mut [u8], mut put: impl FnMut(&[u8], &mut [u8])) {
     let parted = [first[LINE_SIGNS], first[LINE_SIGNS + 1], second[0], second[1]];
-    groups(&first[..LINE_SIGNS], &mut bytes[..LINE])
-        | groups(&parted, &mut bytes[LINE..LINE + 3])
-        | groups(&second[2..COLUMNS], &mut bytes[LINE + 3..TWO_LINES])
+    put(&first[..LINE_SIGNS], &mut bytes[..LINE]);
+    put(&parted, &mut bytes[LINE..LINE + 3]);
+    put(&second[2..COLUMNS], &mut bytes[LINE + 3..TWO_LINES]);
 }
 
 #[inline(always)]
-fn groups(signs: &[u8], bytes: &mut [u8]) -> u8 {
-    let mut seen = 0;
+fn put_bytes(signs: &[u8], bytes: &mut [u8]) {
     for (four, three) in signs.chunks_exact(4).zip(bytes.chunks_exact_mut(3)) {
-        let [a, b, c, d] = [four[0], four[1], four[2], four[3]].map(|sign| VALUES[usize::from(sign)]);
-        let bits = u32::from(a) << 18 | u32::from(b) << 12 | u32::from(c) << 6 | u32::from(d);
-        three[0] = (bits >> 16) as u8;
-        three[1] = (bits >> 8) as u8;
-        three[2] = bits as u8;
-        seen |= a | b | c | d;
+        let [a, b, c, d] = [four[0], four[1], four[2], four[3]].map(|sign| u32::from(VALUES[usize::from(sign)]));
+        put_three(a << 18 | b << 12 | c << 6 | d, three);
     }
-    seen
+}
+
+#[inline(always)]
+fn put_three(bits: u32, three: &mut [u8]) {
+    three[0] = (bits >> 16) as u8;
+    three[1] = (bits >> 8) as u8;
+    three[2] = bits as u8;
 }
 
 /// What is left after twos of lines: it carries less than 105 bytes.
@@ -248,11 +249,27 @@ fn decode_last(rest: &[u8], out: &mut [u8]) {
         columns += line.len();
     }
     let mut bytes = [0; TWO_LINES];
-    groups(&signs, &mut bytes);
+    put_bytes(&signs, &mut bytes);
     out.copy_from_slice(&bytes[..out.len()]);
 }
 
-/// Decodes as it judges, so that a refused text may leave bytes behind. Where it would write past the room it begins anew as above.
+// ---- import at once
+
+/// The values, wider: what is no sign has a bit above the 24 of a group, wherever it stands in the group.
+const WIDE_VALUES: [u32; 256] = wide_values();
+const NO_SIGN: u32 = 1 << 24;
+
+const fn wide_values() -> [u32; 256] {
+    let mut values = [NO_SIGN; 256];
+    let mut i = 0;
+    while i < ALPHABET.len() {
+        values[ALPHABET[i] as usize] = i as u32;
+        i += 1;
+    }
+    values
+}
+
+/// Decodes as it judges, so that a refused text may leave bytes behind. What it doesn't take it hands on to import.
 pub fn import_at_once(text: &[u8], out: &mut [u8]) -> Reply {
     let carried = between(text).and_then(|body| decoded(body, out));
     match carried {
@@ -268,7 +285,10 @@ fn decoded(body: &[u8], out: &mut [u8]) -> Option<usize> {
         let (first, end) = rest.split_at(COLUMNS);
         let next = after_end(end)?;
         let (second, end) = next.split_at(COLUMNS);
-        if two_lines(first, second, out.get_mut(length..length + TWO_LINES)?) >= 64 {
+        let mut seen = 0;
+        let bytes = out.get_mut(length..length + TWO_LINES)?;
+        two_lines(first, second, bytes, |signs, bytes| seen |= put_and_see(signs, bytes));
+        if seen >= u64::from(NO_SIGN) {
             return None;
         }
         rest = after_end(end)?;
@@ -277,4 +297,17 @@ fn decoded(body: &[u8], out: &mut [u8]) -> Option<usize> {
     let last = judged(rest)?;
     decode_last(rest, out.get_mut(length..length + last)?);
     Some(length + last)
+}
+
+/// Answers the groups' bits together.
+#[inline(always)]
+fn put_and_see(signs: &[u8], bytes: &mut [u8]) -> u64 {
+    let mut seen = 0;
+    for (four, three) in signs.chunks_exact(4).zip(bytes.chunks_exact_mut(3)) {
+        let [a, b, c, d] = [four[0], four[1], four[2], four[3]].map(|sign| u64::from(WIDE_VALUES[usize::from(sign)]));
+        let bits = a << 18 | b << 12 | c << 6 | d;
+        put_three(bits as u32, three);
+        seen |= bits;
+    }
+    seen
 }
