@@ -260,13 +260,15 @@ const WIDE_VALUES: [u32; 256] = wide_values();
 const NO_SIGN: u32 = 1 << 24;
 
 const fn wide_values() -> [u32; 256] {
-    let mut values = [NO_SIGN; 256];
+    let mut wide = [NO_SIGN; 256];
     let mut i = 0;
-    while i < ALPHABET.len() {
-        values[ALPHABET[i] as usize] = i as u32;
+    while i < wide.len() {
+        if VALUES[i] != NONE {
+            wide[i] = VALUES[i] as u32;
+        }
         i += 1;
     }
-    values
+    wide
 }
 
 /// Decodes as it judges, so that a refused text may leave bytes behind. What it doesn't take it hands on to import.
