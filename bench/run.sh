@@ -1,9 +1,10 @@
 #!/usr/bin/env bash
 # Builds the bench against the archive and runs it. The archive is made by `rt staticlib saltorchard`.
 #
-#     bench/run.sh                  the answers compared, then the times as a table
+#     bench/run.sh                  the answers compared, then the times as tables
 #     bench/run.sh --check          the answers compared, and each job and the night's run once; no times
-#     bench/run.sh --same           the table with the yardstick in all four seats
+#     bench/run.sh --same           the tables with the yardstick in all seats
+#     bench/run.sh --armour         the tables of export and import alone
 #     bench/run.sh --night [DIR]    the night's job over made files, or over the files of DIR
 #
 # Under an emulator times mean nothing, so there it does what --check does.

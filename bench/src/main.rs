@@ -1,5 +1,6 @@
 //! Times the library beside a copy of the same bytes, a plain model and a yardstick; README.md says how.
 
+mod armour;
 mod damage;
 mod images;
 mod mixed;
@@ -11,8 +12,10 @@ mod passes;
 mod random;
 mod rounds;
 mod same;
+mod same_armour;
 mod timing;
 mod yardstick;
+mod yardstick_armour;
 
 use rounds::{in_rounds, median, order, print_head, print_row, print_waiting, ROUNDS};
 use std::ffi::OsString;
@@ -25,16 +28,17 @@ type Seats = [usize; COMPETITORS.len()];
 
 /// Below it the night's files are made.
 const TARGET: &str = concat!(env!("CARGO_MANIFEST_DIR"), "/../target");
-const USAGE: &str = "usage: saltorchard-bench [--check | --same | --night [FOLDER]]";
+const USAGE: &str = "usage: saltorchard-bench [--check | --same | --armour | --night [FOLDER]]";
 
 fn main() {
     let words: Vec<OsString> = std::env::args_os().skip(1).collect();
     let folder = words.get(1).map(Path::new);
     let seats = [0, 1, 2, 3];
     let result = match (words.first().and_then(|word| word.to_str()), words.len()) {
-        (None, 0) => table(seats, false),
-        (Some("--same"), 1) => table([YARDSTICK; COMPETITORS.len()], false),
-        (Some("--check"), 1) => table(seats, true).and_then(|()| night::run(&[], None, TARGET, true)),
+        (None, 0) => table(seats, false).and_then(|()| armour::run(false, false)),
+        (Some("--same"), 1) => same_seats(),
+        (Some("--check"), 1) => check(seats),
+        (Some("--armour"), 1) => armour::run(false, false),
         (Some("--night"), 1 | 2) => night::run(&[], folder, TARGET, false),
         _ => Err(USAGE.to_string()),
     };
@@ -42,6 +46,17 @@ fn main() {
         eprintln!("{}", why);
         exit(1)
     }
+}
+
+fn same_seats() -> Result<(), String> {
+    table([YARDSTICK; COMPETITORS.len()], false)?;
+    armour::run(true, false)
+}
+
+fn check(seats: Seats) -> Result<(), String> {
+    table(seats, true)?;
+    armour::run(false, true)?;
+    night::run(&[], None, TARGET, true)
 }
 
 fn table(seats: Seats, only_check: bool) -> Result<(), String> {

@@ -34,13 +34,24 @@ pub fn rewrite_pass<R>(
     rewrite: fn(&[u8], &mut [u8]) -> R,
     length: fn(&R) -> usize,
 ) -> Duration {
-    let rewrite = opaque(rewrite);
+    write_pass(images, out, rewrite, length, images.iter().map(Vec::len).sum())
+}
+
+/// The same for calls that write so many bytes together.
+pub fn write_pass<R>(
+    handed: &[Vec<u8>],
+    out: &mut [u8],
+    write: fn(&[u8], &mut [u8]) -> R,
+    length: fn(&R) -> usize,
+    wanted: usize,
+) -> Duration {
+    let write = opaque(write);
     let mut written = 0;
     let start = Instant::now();
-    for image in images {
-        written += length(&rewrite(image, out));
+    for bytes in handed {
+        written += length(&write(bytes, out));
     }
     let took = start.elapsed();
-    assert_eq!(opaque(written), images.iter().map(Vec::len).sum(), "a wrong length was written");
+    assert_eq!(opaque(written), wanted, "a wrong length was written");
     took
 }

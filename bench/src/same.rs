@@ -154,17 +154,17 @@ fn part(part: &model::Part) -> Part {
 
 // ---- rewrite and comment change: replies and whole buffers
 
-fn reply(answer: Result<usize, model::Refusal>) -> Reply {
+pub fn reply(answer: Result<usize, model::Refusal>) -> Reply {
     match answer {
         Ok(length) => Reply { number: 0, count: 0, at: 0, length: length as u64 },
         Err(refusal) => Reply { number: refusal.number, count: refusal.count, at: refusal.at, length: 0 },
     }
 }
 
-type Call<'a> = &'a dyn Fn(&mut [u8]) -> Reply;
+pub type Call<'a> = &'a dyn Fn(&mut [u8]) -> Reply;
 
 /// Calls each of the three on a buffer of its own, and compares replies and buffers.
-fn hold_alike(what: &str, buffer: Vec<u8>, calls: [Call; 3]) -> Result<(), String> {
+pub fn hold_alike(what: &str, buffer: Vec<u8>, calls: [Call; 3]) -> Result<(), String> {
     let mut buffers = [buffer.clone(), buffer.clone(), buffer];
     let [first, second, third] = &mut buffers;
     let replies = [calls[0](first), calls[1](second), calls[2](third)];

@@ -1,11 +1,11 @@
-/* Makes an Ed25519 image, reads it, prints its comment and changes it in place. Then makes an RSA image and has its header say the
- * size. The keys' bytes are made up. */
+/* Makes an Ed25519 image, reads it, prints its comment, changes it in place, and puts the image through its text form. Then makes an
+ * RSA image and has its header say the size. The keys' bytes are made up. */
 #include "saltorchard.h"
 
 #include <stdio.h>
 #include <string.h>
 
-static uint8_t buffer[SALTORCHARD_LIMIT];
+static uint8_t buffer[SALTORCHARD_LIMIT], text[88699]; /* room for the text of any image */
 
 static int refused(const char *what, uint64_t number, uint64_t count, uint64_t at)
 {
@@ -22,6 +22,20 @@ static int show(size_t length)
     fwrite(buffer + image.comment.start, 1, image.comment.length, stdout);
     puts("");
     return 0;
+}
+
+/* Armour on, as it stands in a key file, and off again, as for a file that was read into `text`. */
+static int armoured(size_t length)
+{
+    saltorchard_reply reply = saltorchard_export(buffer, length, text, sizeof text);
+    if (reply.number != SALTORCHARD_ACCEPTED)
+        return refused("export", reply.number, reply.count, reply.at);
+    printf("%d bytes of text: %.35s\n", (int)reply.length, (const char *)text);
+
+    reply = saltorchard_import(text, reply.length, buffer, sizeof buffer);
+    if (reply.number != SALTORCHARD_ACCEPTED)
+        return refused("import", reply.number, reply.count, reply.at);
+    return show(reply.length);
 }
 
 static int ed25519(void)
@@ -41,7 +55,7 @@ static int ed25519(void)
     reply = saltorchard_change_comment(buffer, sizeof buffer, reply.length, (const uint8_t *)second, strlen(second));
     if (reply.number != SALTORCHARD_ACCEPTED)
         return refused("change", reply.number, reply.count, reply.at);
-    return show(reply.length);
+    return show(reply.length) != 0 || armoured(reply.length) != 0;
 }
 
 static int rsa(void)

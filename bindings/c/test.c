@@ -2,9 +2,8 @@
  * and what must stay of a lent buffer. A failed check is a line; the last line counts the checks. */
 #include "saltorchard.h"
 
+#include "checks.h"
 #include "images.h"
-
-#include <stdio.h>
 
 _Static_assert(sizeof(saltorchard_part) == 16, "part");
 _Static_assert(sizeof(saltorchard_reply) == 32 && offsetof(saltorchard_reply, length) == 24, "reply");
@@ -15,42 +14,7 @@ _Static_assert(offsetof(saltorchard_image, comment) == 136 && offsetof(saltorcha
 _Static_assert(offsetof(saltorchard_image, section) == 200 && offsetof(saltorchard_image, bits) == 208, "image's last numbers");
 _Static_assert(offsetof(saltorchard_image, modulus) == 216 && offsetof(saltorchard_image, q) == 296, "image's RSA numbers");
 
-/* ---- checks */
-
-static unsigned long passed, failed;
-static const char *about = "";
-static size_t which;
-
-static void now(const char *what, size_t number)
-{
-    about = what;
-    which = number;
-}
-
-static int check_at(int line, int ok)
-{
-    if (ok)
-        passed++;
-    else {
-        failed++;
-        printf("%s:%d: %s %zu: ", __FILE__, line, about, which);
-    }
-    return ok;
-}
-
-static void true_at(int line, int ok, const char *text)
-{
-    if (!check_at(line, ok))
-        printf("not so: %s\n", text);
-}
-
-static void reply_at(int line, saltorchard_reply got, uint64_t number, uint64_t count, uint64_t at, uint64_t length)
-{
-    saltorchard_reply want = {number, count, at, length};
-    if (!check_at(line, memcmp(&got, &want, sizeof got) == 0))
-        printf("replies %d %d %d %d, not %d %d %d %d\n", (int)got.number, (int)got.count, (int)got.at, (int)got.length,
-               (int)number, (int)count, (int)at, (int)length);
-}
+/* ---- reads held to what they must answer */
 
 enum { NUMBERS = 39 };
 
@@ -99,23 +63,10 @@ static void reads_at(int line, const bytes *image, saltorchard_image want)
     halves_at(line, image, want);
 }
 
-#define CHECK(ok) true_at(__LINE__, (ok), #ok)
-#define REPLY(got, number, count, at, length) reply_at(__LINE__, (got), (number), (count), (at), (length))
 #define READS(image, want) reads_at(__LINE__, (image), (want))
 #define HALVES(image, want) halves_at(__LINE__, (image), (want))
 
-/* ---- the lent buffer: junk before, in and after it, and what all of it must be after a call */
-
-enum { GUARD = 64 };
-static uint8_t ground[GUARD + LARGEST + GUARD], want[sizeof ground];
-static uint8_t *const lent = ground + GUARD;
-
-static void lend_junk(void)
-{
-    for (size_t i = 0; i < sizeof ground; i++)
-        ground[i] = (uint8_t)(i * 37 + 11);
-    memcpy(want, ground, sizeof ground);
-}
+/* ---- the lent buffer with an image in it */
 
 static void lend_image(const bytes *image)
 {
@@ -124,22 +75,12 @@ static void lend_image(const bytes *image)
     memcpy(want, ground, sizeof ground);
 }
 
-static void ground_at(int line)
-{
-    size_t i = 0;
-    while (i < sizeof ground && ground[i] == want[i])
-        i++;
-    if (!check_at(line, i == sizeof ground))
-        printf("byte %ld of the lent buffer is %02x, not %02x\n", (long)i - GUARD, ground[i], want[i]);
-}
-
 static void holds_at(int line, const bytes *image)
 {
     memcpy(want + GUARD, image->at, image->length);
     ground_at(line);
 }
 
-#define KEPT() ground_at(__LINE__)
 #define HOLDS(image) holds_at(__LINE__, (image))
 
 /* ---- the calls, on the lent buffer */
@@ -1590,8 +1531,5 @@ int main(void)
     halves_forged();
     header_of_a_like_image();
     halves_above_the_limit();
-    if (failed > 0)
-        printf("%lu checks failed\n", failed);
-    printf("%lu checks passed\n", passed);
-    return failed > 0;
+    return checked();
 }

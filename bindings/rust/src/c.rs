@@ -41,7 +41,7 @@ pub struct Image {
     pub q: Part,
 }
 
-/// What a writer or a comment change answers.
+/// What a writer, a comment change, an export or an import answers.
 #[repr(C)]
 #[derive(Clone, Copy, Debug, PartialEq, Eq)]
 pub struct Reply {
@@ -52,7 +52,7 @@ pub struct Reply {
 }
 
 extern "C" {
-    fn saltorchard_interface_6() -> u64;
+    fn saltorchard_interface_7() -> u64;
     fn saltorchard_read(image: *const u8, image_len: usize) -> Image;
     fn saltorchard_read_header(image: *const u8, image_len: usize) -> Image;
     fn saltorchard_read_section(image: *const u8, image_len: usize, header: Image) -> Image;
@@ -112,10 +112,12 @@ extern "C" {
         comment: *const u8,
         comment_len: usize,
     ) -> Reply;
+    fn saltorchard_export(image: *const u8, image_len: usize, out: *mut u8, out_len: usize) -> Reply;
+    fn saltorchard_import(text: *const u8, text_len: usize, out: *mut u8, out_len: usize) -> Reply;
 }
 
 /// What the archive has under this name only if its structs and functions are the ones declared here.
-static INTERFACE: unsafe extern "C" fn() -> u64 = saltorchard_interface_6;
+static INTERFACE: unsafe extern "C" fn() -> u64 = saltorchard_interface_7;
 
 /// Before each call: refers to the archive's number, so that with an archive of another number nothing links. The pointer is read,
 /// and not only there, since older compilers let the linker drop a static that is no more than `#[used]`.
@@ -249,4 +251,18 @@ pub fn change_comment(buffer: &mut [u8], n: usize, comment: &[u8]) -> Reply {
     links();
     // SAFETY: each pointer and length are one live slice's; `buffer` is lent alone, so it doesn't overlap the comment.
     unsafe { saltorchard_change_comment(buffer.as_mut_ptr(), buffer.len(), n, comment.as_ptr(), comment.len()) }
+}
+
+/// `saltorchard_export`.
+pub fn export(image: &[u8], out: &mut [u8]) -> Reply {
+    links();
+    // SAFETY: each pointer and length are one live slice's; `out` is lent alone, so it doesn't overlap the image.
+    unsafe { saltorchard_export(image.as_ptr(), image.len(), out.as_mut_ptr(), out.len()) }
+}
+
+/// `saltorchard_import`.
+pub fn import(text: &[u8], out: &mut [u8]) -> Reply {
+    links();
+    // SAFETY: each pointer and length are one live slice's; `out` is lent alone, so it doesn't overlap the text.
+    unsafe { saltorchard_import(text.as_ptr(), text.len(), out.as_mut_ptr(), out.len()) }
 }

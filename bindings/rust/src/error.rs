@@ -12,7 +12,7 @@ use crate::{Field, MAX_IMAGE_LEN};
 /// | number | [`name`](Error::name) | meaning |
 /// |---|---|---|
 /// | 1 | `Length` | the field runs past its end, or has a wrong length or key count; empty (scalar); too few or too many bits (RSA) |
-/// | 2 | `FormatEncoding` | wrong magic, padding byte or point tag; a scalar's first byte, or zeros only; no positive minimal mpint (RSA) |
+/// | 2 | `FormatEncoding` | wrong magic, padding byte or point tag; a scalar's first byte, or zeros only; no positive minimal mpint (RSA); a text in another spelling than export's |
 /// | 3 | `Crypto` | checkints, KDF use, ciphertext length, Ed25519 halves |
 /// | 4 | `AlgorithmUnknown` | unknown name, or a curve unlike its algorithm |
 /// | 5 | `PublicKey` | the section's public key isn't the header's |
@@ -47,7 +47,7 @@ impl Error {
     }
 
     /// The byte of the image at which the failing field began, its length bytes included; for number 6 the first byte that is
-    /// too many. It is 0 where the reason is about the whole image, and for what was handed to a writer.
+    /// too many. It is 0 where the reason is about the whole image or text, and for what was handed to a writer.
     pub fn place(self) -> usize {
         self.at as usize
     }
@@ -100,6 +100,11 @@ impl Error {
     pub(crate) fn written(reply: c::Reply) -> Result<usize, Self> {
         let of_the_image = matches!(reply.number, 9 | 11);
         Self::answered(reply, if of_the_image { Field::Image } else { Field::HandedIn })
+    }
+
+    /// The length that export or import wrote, or the refusal. Size and room are those of what is carried, or of its text.
+    pub(crate) fn armoured(reply: c::Reply) -> Result<usize, Self> {
+        Self::answered(reply, if reply.number == 2 { Field::Text } else { Field::Image })
     }
 
     /// The length that was written of `image`, or the refusal.
@@ -193,6 +198,7 @@ fn encoding_fault(field: Field) -> &'static str {
         Field::BlobPoint | Field::SectionPoint => "doesn't begin with 4",
         Field::Scalar => "has zeros only, or is a byte longer than its curve's size and doesn't begin with 0",
         Field::Padding => "isn't 1, 2, 3 and so on",
+        Field::Text => "isn't what export writes, with LF or CR LF at each line's end",
         Field::HandedIn => {
             "has a point that doesn't begin with 4, a scalar of zeros only, or an RSA number that isn't positive and in \
              the fewest bytes"

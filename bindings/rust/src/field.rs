@@ -77,6 +77,8 @@ pub enum Field {
     Tag,
     /// What was handed to one of the three writers: there is no image yet.
     HandedIn,
+    /// An armoured text.
+    Text,
 }
 
 impl Field {
@@ -118,6 +120,7 @@ impl Field {
             Self::Ciphertext => "the ciphertext's string",
             Self::Tag => "the tag",
             Self::HandedIn => "what was handed in",
+            Self::Text => "the text",
         }
     }
 

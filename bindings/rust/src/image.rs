@@ -14,7 +14,8 @@ pub struct Image<'a> {
 }
 
 impl<'a> Image<'a> {
-    /// Reads an image, all of `bytes`, and checks every rule of the container.
+    /// Reads an image, all of `bytes`, and checks every rule of the container. It reads the binary container alone: the text that
+    /// most key files are, which begins with `-----BEGIN`, goes through [`armour::import`](crate::armour::import) first.
     pub fn read(bytes: &'a [u8]) -> Result<Self, Error> {
         Self::answered(bytes, c::read(bytes))
     }

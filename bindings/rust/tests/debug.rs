@@ -3,8 +3,8 @@
 use std::collections::BTreeSet;
 use std::fmt::Debug;
 
+use saltorchard::{armour, EncryptedKey, Field, Header, Image, LentImage, PlainKey, RsaKey};
 use saltorchard::{raw, write_encrypted, write_plain, write_rsa, Algorithm, Checkint, Cipher, EcdsaCurve, KdfAlg};
-use saltorchard::{EncryptedKey, Field, Header, Image, LentImage, PlainKey, RsaKey};
 
 /// Every private byte that isn't zero, and the four of the checkint, given or derived.
 const MARK: u8 = 0xd3;
@@ -122,12 +122,17 @@ fn handed() -> Vec<Line> {
 fn answered(image: &[u8]) -> Vec<Line> {
     let (mut lent, mut out) = (image.to_vec(), vec![0; image.len()]);
     let longer = [image, &[MARK]].concat();
+    let mut text = vec![0; armour::exported_len(image.len())];
+    armour::export(image, &mut text).expect("room for the text");
     let read = raw::read(image);
     lines! {
         "Header": Header::read(image).expect("a good image");
         "Image": Image::read(image).expect("a good image");
         "LentImage": LentImage::new(&mut lent, image.len()).expect("a good image");
-        "Error": Image::read(&longer).expect_err("a byte left over"), Image::read(&image[1..]).expect_err("no magic");
+        "Error": Image::read(&longer).expect_err("a byte left over"), Image::read(&image[1..]).expect_err("no magic"),
+            armour::import(&text[1..], &mut out).expect_err("no first line"),
+            armour::import(&text, &mut out[1..]).expect_err("no room"),
+            armour::export(image, &mut []).expect_err("no room");
         "raw::Image": read;
         "raw::Part": read.scalar;
         "raw::Reply": raw::rewrite(image, &mut out), raw::rewrite(&longer, &mut out);
@@ -153,13 +158,16 @@ fn no_mark_is_printed() {
     }
 }
 
-/// The types that lib.rs names in its `pub use`, those of its module `raw` with that before them.
+/// The types that lib.rs names in its `pub use`, those of its module `raw` with that before them. The module `armour` has none.
 fn public_types() -> BTreeSet<String> {
     let source = include_str!("../src/lib.rs");
+    let armour = include_str!("../src/armour.rs");
     for unseen in ["pub struct", "pub enum", "pub type", "pub union", "::*"] {
         assert!(!source.contains(unseen), "{} in lib.rs: a type of it wouldn't be seen here", unseen);
+        assert!(!armour.contains(unseen), "{} in armour.rs: a type of it wouldn't be seen here", unseen);
     }
-    assert_eq!(source.matches("pub mod ").count(), 1, "a type of another module than raw wouldn't be seen here");
+    assert!(!armour.contains("pub use"), "a type that armour.rs hands on wouldn't be seen here");
+    assert_eq!(source.matches("pub mod ").count(), 2, "a type of a third module wouldn't be seen here");
     let (crate_itself, raw) = source.split_once("pub mod raw {").expect("the module raw");
     let in_raw = types_used(raw).map(|name| format!("raw::{}", name));
     types_used(crate_itself).map(String::from).chain(in_raw).collect()

@@ -1,5 +1,7 @@
 //! The examples in the documents are run, and each is the same text in each place.
 
+#[path = "../examples/armoured.rs"]
+mod armoured;
 #[path = "../examples/oven.rs"]
 mod oven;
 #[path = "../examples/passphrase.rs"]
@@ -11,6 +13,7 @@ mod silo;
 
 #[test]
 fn run() {
+    armoured::main().expect("the example's key is fine");
     oven::main().expect("the example's key is fine");
     passphrase::main().expect("the example's keys are fine");
     short::main().expect("the example's key is fine");
@@ -20,9 +23,10 @@ fn run() {
 #[test]
 fn stand_in_the_readme() {
     let readme = include_str!("../README.md");
+    let armoured = include_str!("../examples/armoured.rs");
     let [oven, passphrase] = [include_str!("../examples/oven.rs"), include_str!("../examples/passphrase.rs")];
     let [short, silo] = [include_str!("../examples/short.rs"), include_str!("../examples/silo.rs")];
-    for example in [oven, passphrase, short, silo] {
+    for example in [armoured, oven, passphrase, short, silo] {
         assert!(readme.contains(&format!("```\n{}```", example)));
     }
 }

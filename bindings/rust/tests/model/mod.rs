@@ -2,6 +2,8 @@
 //! The tests hold the library's answers against it.
 #![allow(dead_code)] // each test takes what it needs
 
+pub mod armour;
+
 const LIMIT: usize = 65_535;
 const MAGIC: &[u8] = b"openssh-key-v1\0";
 

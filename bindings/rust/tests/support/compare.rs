@@ -74,6 +74,23 @@ pub struct Encrypted<'a> {
 
 type Written = Result<usize, Refusal>;
 
+/// A call from bytes into a lent buffer: the model's, the C interface's and the crate's own.
+struct Armour {
+    name: &'static str,
+    model: fn(&[u8], &mut [u8]) -> Written,
+    library: fn(&[u8], &mut [u8]) -> raw::Reply,
+    own: fn(&[u8], &mut [u8]) -> Result<usize, Error>,
+}
+
+const EXPORT: Armour =
+    Armour { name: "export", model: model::armour::export, library: raw::export, own: saltorchard::armour::export };
+const IMPORT: Armour = Armour {
+    name: "import",
+    model: model::armour::import,
+    library: raw::import,
+    own: |text, out| saltorchard::armour::import(text, out),
+};
+
 /// What both answered: the length that was written, none where it was refused, and the lent buffer.
 pub struct Answer {
     pub written: Option<usize>,
@@ -502,6 +519,31 @@ impl Tally {
             let answer = image.rewrite(lent(&mut buffer));
             self.same_written("rewrite of the crate", (answer, &buffer), (model, &right), &input);
         }
+        self.count(reply.number);
+        Answer { written: model.ok(), buffer: lent(&mut right).to_vec() }
+    }
+
+    /// Puts armour on with both, into buffers of `room` bytes.
+    pub fn export(&mut self, image: &[u8], room: usize) -> Answer {
+        self.armour(EXPORT, image, room)
+    }
+
+    /// Takes armour off with both, into buffers of `room` bytes.
+    pub fn import(&mut self, text: &[u8], room: usize) -> Answer {
+        self.armour(IMPORT, text, room)
+    }
+
+    fn armour(&mut self, call: Armour, handed: &[u8], room: usize) -> Answer {
+        let input = || format!("{} room {}", hex(handed), room);
+        let before = guarded(room);
+        let mut right = before.clone();
+        let model = (call.model)(handed, lent(&mut right));
+        let mut buffer = before.clone();
+        let reply = (call.library)(handed, lent(&mut buffer));
+        self.same(call.name, (reply, &buffer), (model, &right), &input);
+        let mut buffer = before;
+        let answer = (call.own)(handed, lent(&mut buffer));
+        self.same_written("armour of the crate", (answer, &buffer), (model, &right), &input);
         self.count(reply.number);
         Answer { written: model.ok(), buffer: lent(&mut right).to_vec() }
     }

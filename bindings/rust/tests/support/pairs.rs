@@ -1,7 +1,7 @@
 //! Every refusal that there is, by field and number.
 
 /// Each of these has its sentence tested, and no other came in any comparison.
-const NUMBERS: [(&str, &[u64]); 35] = [
+const NUMBERS: [(&str, &[u64]); 36] = [
     ("the image", &[1, 2, 6, 8, 9, 10, 11]),
     ("the cipher name's string", &[1, 4]),
     ("the KDF name's string", &[1, 3, 4]),
@@ -37,6 +37,7 @@ const NUMBERS: [(&str, &[u64]); 35] = [
     ("the ciphertext's string", &[1, 3]),
     ("the tag", &[1]),
     ("what was handed in", &[1, 2, 3, 4, 6, 7]),
+    ("the text", &[2]),
 ];
 
 /// The list, a field and a number each.
