@@ -16,12 +16,14 @@ use writer_reply::Written;
 fn renew(fd: i32, buf: &mut [u8]) -> usize {
     let mut head = [0u8; 12];
     io::read_full(fd, &mut head);
+    let length = number_at(&head, 0) as usize;
     let at = number_at(&head, 4) as usize;
     let new = number_at(&head, 8) as usize;
-    if at + new <= buf.len() {
-        io::read_full(fd, &mut buf[at..at + new]);
+    if at + new > buf.len() {
+        return length;
     }
-    number_at(&head, 0) as usize
+    io::read_full(fd, &mut buf[at..at + new]);
+    length
 }
 
 // ---- the calls
@@ -73,13 +75,17 @@ fn one(fd: i32, given: &mut [u8], lent: &mut [u8]) -> bool {
 }
 
 // A proved loop has to end, so it counts its turns down.
-fn all(fd: i32) {
-    let mut given = [0u8; 90000];
-    let mut lent = [0u8; 90000];
+fn all(fd: i32, given: &mut [u8], lent: &mut [u8]) {
     let mut turns = u64::MAX;
-    while turns > 0 && one(fd, &mut given, &mut lent) {
+    while turns > 0 && one(fd, given, lent) {
         turns -= 1;
     }
+}
+
+fn replay(fd: i32) {
+    let mut given = [0u8; 90000];
+    let mut lent = [0u8; 90000];
+    all(fd, &mut given, &mut lent);
 }
 
 fn main() {
@@ -89,6 +95,6 @@ fn main() {
         os::fail(path);
         return;
     }
-    all(fd);
+    replay(fd);
     libc::close(fd);
 }
