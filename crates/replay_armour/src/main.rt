@@ -70,7 +70,11 @@ fn one(fd: i32, given: &mut [u8], lent: &mut [u8]) -> bool {
         start: 0,
         length: length,
     };
-    called(number_at(&head, 0), fields::view(given, part), &mut lent[0..room]);
+    called(
+        number_at(&head, 0),
+        fields::view(given, part),
+        &mut lent[0..room],
+    );
     true
 }
 
