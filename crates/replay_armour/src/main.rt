@@ -37,18 +37,8 @@ fn call(code: u32, given: &[u8], lent: &mut [u8]) -> Written {
     armour_import::import(given, lent)
 }
 
-fn say_written(written: Written) {
-    match written {
-        Written::Refused(f) => {
-            let why = f.why;
-            replay_telling::say_reply(why.number(), why.count(), f.at, 0);
-        }
-        Written::Length(length) => replay_telling::say_reply(0, 0, 0, length),
-    }
-}
-
 fn called(code: u32, given: &[u8], lent: &mut [u8]) {
-    say_written(call(code, given, lent));
+    replay_telling::say_written(call(code, given, lent));
     replay_telling::say_buffer(lent);
 }
 
