@@ -91,12 +91,12 @@ def line_end_cases():
 # ---- misspelled ones
 
 
-def changed_at(text, at, values):
-    """The byte at a place set to each of these, and no other reply than 2 meant but for a sign among the signs."""
+def changed_at(text, at, values, room=ROOM):
+    """The byte at a place set to each of these, and no other reply than 2 meant but for a sign between the two lines."""
     within = len(BEGIN) < at < len(text) - len(END) - 2
     for byte in sorted({*values} - {text[at]}):
         reply = None if within and byte in SIGNS else refuses(2)
-        yield Case("a byte changed", "import", text[:at] + bytes([byte]) + text[at + 1 :], ROOM, reply)
+        yield Case("a byte changed", "import", text[:at] + bytes([byte]) + text[at + 1 :], room, reply)
 
 
 def change_cases():
@@ -105,9 +105,19 @@ def change_cases():
         ends = [at for at, byte in enumerate(text) if byte == ord("\n")]
         for at in [*range(ends[0], ends[1]), *ends[1:]]:
             yield from changed_at(text, at, range(256))
-    for text in map(text_of, (b"f", b"")):
-        for at, byte in enumerate(text):
-            yield from changed_at(text, at, [*OTHER_BYTES, byte ^ 1, byte ^ 0x20, byte ^ 0x80])
+    for at, byte in enumerate(text_of(b"f")):
+        yield from changed_at(text_of(b"f"), at, [*OTHER_BYTES, byte ^ 1, byte ^ 0x20, byte ^ 0x80])
+    for at in range(size_of(0)):
+        yield from changed_at(text_of(b""), at, b"\r\n =A")
+
+
+def line_change_cases():
+    """Every byte of three lines changed to some, and a few to all others: within a line, and in the groups at its end."""
+    text, line = text_of(THREE_LINES), COLUMNS + 1
+    for at in range(len(BEGIN), len(text) - len(END) - 1):
+        yield from changed_at(text, at, [*b"\r\n =-", text[at] ^ 0x80])
+    for line_number, column in ((0, 10), (0, 69), (1, 0), (1, 67), (2, 59)):
+        yield from changed_at(text, len(BEGIN) + 1 + line_number * line + column, range(256), 260)
 
 
 def cut_cases():
@@ -230,6 +240,7 @@ def armour_cases():
     yield from length_cases()
     yield from line_end_cases()
     yield from change_cases()
+    yield from line_change_cases()
     yield from cut_cases()
     yield from around_cases()
     yield from column_cases()
