@@ -144,7 +144,8 @@ def around_cases():
         (BEGIN.lower(), END.lower()), (END, BEGIN), (BEGIN, BEGIN), (END, END), (BEGIN + b"-", END), (BEGIN, END + b"-"),
     ]:
         yield misspelled("other lines around", begin + b"\n" + signs + end + b"\n")
-    for other in (b"", b"\n", BEGIN, BEGIN + b"\n", END + b"\n", BEGIN + END + b"\n", BEGIN + b"\n" + signs, signs + END + b"\n", signs):
+    parts = [b"", b"\n", BEGIN, BEGIN + b"\n", END + b"\n", BEGIN + END + b"\n"]
+    for other in [*parts, BEGIN + b"\n" + signs, signs + END + b"\n", signs]:
         yield misspelled("lines that are missing", other)
     for line in (b"Comment: oven-7", b"Proc-Type: 4,ENCRYPTED", b"", b" ", b"Zm9v"):
         yield misspelled("a line more before the signs", joined([line, b"Zm9vYmFy"]))

@@ -1,5 +1,5 @@
-"""The texts of docs/DIFFERENCES.md: one image in other spellings than export's, held against import's model, OpenSSH and the document's
-own rows, whose ids begin with A. differences.py runs it."""
+"""The texts of docs/DIFFERENCES.md: one image in other spellings than export's, held against the model of import, OpenSSH and the
+document's own rows, whose ids begin with A. differences.py runs it."""
 import itertools
 from typing import NamedTuple
 
