@@ -6,7 +6,7 @@
 Each writer that is here makes, of each kind, TIMES plain files (1 if none is said) with each of ten comments, and TIMES
 encrypted ones with each of its ciphers. RSA keys have 2,048 bits. Of every file the program's whole output must be the
 model's, and what it says of an accepted one must be what the writer was asked for. The first file of each row goes through
-./inspect too, in the writer's own armour. It exits with 1 if anything differs. A writer that isn't here is named with its
+./inspect --any-armour too, in the writer's own armour. It exits with 1 if anything differs. A writer that isn't here is named with its
 Debian package and left out; with --need-all that, or a file that a writer could not make, is a failure too.
 
 The keys are new and random each time, so the counts differ from run to run. Python's libraries are those of the Python that
@@ -310,7 +310,7 @@ def all_faults(writer, files):
     for turn, file in enumerate(files):
         answers = [said(["sh", RUN, "inspect"], file.image())]
         if turn == 0:
-            answers.append(said([ROOT / "inspect"], file.text))
+            answers.append(said([ROOT / "inspect", "--any-armour"], file.text))
         for answer in answers:
             for fault in faults_of(writer, file, answer):
                 yield f"DIFFERS: {writer.name}, {file.kind}, {file.cipher}: {fault}: {file.image().hex()}"
