@@ -4,15 +4,16 @@
 # shellcheck source=tools/root_scripts.sh
 . "$root/tools/root_scripts.sh" || exit 2
 
-# NAME: standard input through the program, which tells a refusal or a failure on standard error and can set no status.
+# NAME: standard input through the program, which tells a refusal or a failure on standard error and can set no status. A loader that is
+# given a library that it can't load says so there too, and goes on.
 pass() {
     local told status
     { told=$(run "$me" 2>&1 >&3 3>&-); status=$?; } 3>&1
     [ -z "$told" ] || printf '%s\n' "$told" >&2
-    case $status$told in
-    0) return 0 ;;
-    "0refused "*" 0 0") told=${told#refused }; say "$1: $(in_words "${told% 0 0}")"; return 1 ;;
-    *) say "$1: not done"; return 2 ;;
+    told=${told##*$'\n'}
+    case $status,$told in
+    0,"refused "*" 0 0") told=${told#refused }; say "$1: $(in_words "${told% 0 0}")"; return 1 ;;
+    0,"$me: "* | [!0]*) say "$1: not done"; return 2 ;;
     esac
 }
 

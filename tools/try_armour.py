@@ -55,6 +55,9 @@ def round_trips(folder):
         hold(f"{what} given back", run(DEARMOUR, "-", given=text), (0, content, ""))
         hold(f"{what} armoured, from a file", run(ARMOUR, written(folder, "bytes", content)), (0, text, ""))
         hold(f"{what} given back, from a file", run(DEARMOUR, written(folder, "text", text)), (0, content, ""))
+    preloaded = {**os.environ, "LD_PRELOAD": "/missing.so"}
+    hold("a loader that says something", run(ARMOUR, given=IMAGE, env=preloaded)[:2], (0, armoured(IMAGE)))
+    hold("and on a text", run(INSPECT, given=armoured(IMAGE), env=preloaded)[:2], (0, model.report(IMAGE).encode()))
     hold("line ends of both kinds", run(DEARMOUR, given=armoured(IMAGE).replace(b"\n", b"\r\n", 3)), (0, IMAGE, ""))
 
 
