@@ -300,9 +300,9 @@ def faults_of(writer, file, answer):
 
 
 def said(words, given):
-    """What the program writes, or how it ended."""
+    """What the program writes, or how it ended. ./inspect ends with 1 where it refuses."""
     done = subprocess.run(words, input=given, capture_output=True)
-    return done.stdout.decode() if done.returncode == 0 else f"exit {done.returncode}: {done.stderr!r}"
+    return done.stdout.decode() if done.returncode == 0 or done.stdout.startswith(b"refused ") else f"exit {done.returncode}: {done.stderr!r}"
 
 
 def all_faults(writer, files):
