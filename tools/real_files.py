@@ -302,7 +302,8 @@ def faults_of(writer, file, answer):
 def said(words, given):
     """What the program writes, or how it ended. ./inspect ends with 1 where it refuses."""
     done = subprocess.run(words, input=given, capture_output=True)
-    return done.stdout.decode() if done.returncode == 0 or done.stdout.startswith(b"refused ") else f"exit {done.returncode}: {done.stderr!r}"
+    answered = done.returncode == 0 or done.stdout.startswith(b"refused ")
+    return done.stdout.decode() if answered else f"exit {done.returncode}: {done.stderr!r}"
 
 
 def all_faults(writer, files):
