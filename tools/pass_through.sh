@@ -27,7 +27,7 @@ pass_through() {
     esac
     [ $# -le 1 ] || wrong_use "one file at a time"
     [ $# -eq 1 ] || set -- -
-    need flock sed tr
+    need sed tr
     [ -e "/proc/$$/fd/1" ] || { say "standard output is closed"; exit 2; }
     if why=$(out_of_reach "$1"); then say "$why"; exit 2; fi
     build "$me" || exit 2

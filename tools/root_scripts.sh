@@ -21,9 +21,8 @@ need() {
 
 # PROGRAM..: rt's check, one at a time: two at once, as in a pipe of two scripts, spoil each other's proofs.
 check() {
-    cd "$root" || return 1
-    flock -w 5 crates.txt true 2>/dev/null || say "another script is building: waiting for it"
-    flock crates.txt rt check "$@" 2>&1 </dev/null || echo "$me: it was not built"
+    flock -w 5 "$root/crates.txt" true 2>/dev/null || say "another script is building: waiting for it"
+    cd "$root" && flock crates.txt rt check "$@" 2>&1 </dev/null || echo "$me: it was not built"
 }
 
 # PROGRAM..: asks rt each time, so that no program answers that is older than its sources. Each crate that is proved anew is told.
@@ -37,6 +36,7 @@ build() {
         say "the Rattle kit's command rt is not on the PATH: this is the program as it was built last"
         return 0
     fi
+    need flock
     [ $all_built = yes ] || say "first use: proving and building the program, which takes some minutes"
     while IFS= read -r line; do
         log+=$line$'\n'
