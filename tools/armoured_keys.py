@@ -27,9 +27,10 @@ MOST = 100000  # bytes of room for any text
 
 
 def by_program(name, given):
-    """What a program writes, and what it says on standard error."""
+    """What a program writes, and what it says on standard error, where a loader may say something too."""
     done = subprocess.run(["sh", RUN, name], input=given, capture_output=True)
-    return done.stdout, done.stderr.decode()
+    lines = done.stderr.decode().splitlines(keepends=True)
+    return done.stdout, "".join(line for line in lines if line.startswith(("refused ", f"{name}: ")))
 
 
 def by_model(name, given):

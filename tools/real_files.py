@@ -312,8 +312,7 @@ def said(words, given):
 
 def armour_faults(file):
     """What is wrong with the answers to a file in its own armour."""
-    if differs("dearmour", file.text):
-        yield differs("dearmour", file.text)
+    yield from filter(None, [differs("dearmour", file.text)])
     report = model.report(file.image())
     strictly = "refused 2 0 0\n" if model_armour.accepted(file.text) is None else report
     for options, wanted in [((), strictly), (("--any-armour",), report)]:
