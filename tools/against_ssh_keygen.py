@@ -26,15 +26,19 @@ def armour(image):
     return b"\n".join([BEGIN, *lines, END, b""])
 
 
-def word_by_ssh_keygen(image, options):
-    """The second word that ssh-keygen prints of an image, None where it refuses it."""
+def word_in_text(text, options):
+    """The second word that ssh-keygen prints of an armoured text, None where it refuses it."""
     with tempfile.TemporaryDirectory() as folder:
         path = pathlib.Path(folder) / "key"
         path.touch(mode=0o600)
-        path.write_bytes(armour(image))
+        path.write_bytes(text)
         words = ["ssh-keygen", *options, "-f", path]
         run = subprocess.run(words, stdin=subprocess.DEVNULL, capture_output=True)
     return run.stdout.split()[1] if run.returncode == 0 else None
+
+
+def word_by_ssh_keygen(image, options):
+    return word_in_text(armour(image), options)
 
 
 def blob_by_ssh_keygen(image, passphrase=""):

@@ -1,8 +1,9 @@
 #!/usr/bin/env python3
-"""The inputs of docs/DIFFERENCES.md: an image for each id, held against the model, OpenSSH and the document's own rows.
+"""The inputs of docs/DIFFERENCES.md: an image for each id, held against the model, OpenSSH and the document's own rows; and one image's
+text in other spellings (differences_armour.py).
 
     python3 tools/differences.py                a line for each id; exit 1 if one is not as the document says
-    python3 tools/differences.py --write DIR    also writes each as DIR/D1.bin and, with its armour on, DIR/D1.key
+    python3 tools/differences.py --write DIR    also writes each as DIR/D1.bin and, with its armour on, DIR/D1.key, and DIR/A1.key..
 
 Without OpenSSH 9.2 its half is left out, and the script says so: the document speaks of no other version. The crate's
 half is what it answered when oracle/answers.txt was made (stored_answers.py). The images are the same each time.
@@ -21,6 +22,8 @@ from typing import NamedTuple
 import model
 import model_writing
 from against_ssh_keygen import armour, blob_by_ssh_keygen
+from differences_armour import compare as compare_spellings
+from differences_armour import spellings
 from differences_rsa import rsa_differences
 from fetch_corpus import CORPUS, PASSPHRASE
 from fields import ED25519, LIMIT, SIZES
@@ -328,13 +331,18 @@ def compare_written(cases):
     return differing
 
 
+def write_key(path, text):
+    path.touch(mode=0o600)
+    path.write_bytes(text)
+
+
 def write(cases, folder):
     folder.mkdir(parents=True, exist_ok=True)
     for case in cases:
         (folder / f"{case.id}.bin").write_bytes(case.image)
-        key = folder / f"{case.id}.key"
-        key.touch(mode=0o600)
-        key.write_bytes(armour(case.image))
+        write_key(folder / f"{case.id}.key", armour(case.image))
+    for case in spellings(join(ed25519())):
+        write_key(folder / f"{case.id}.key", case.text)
 
 
 def main():
@@ -346,6 +354,7 @@ def main():
         write(cases, pathlib.Path(words[1]))
     with_openssh = has_openssh()
     differing = compare(cases, with_openssh) + compare_written(cases)
+    differing += compare_spellings(join(ed25519()), with_openssh, DOCUMENT.read_text(encoding="utf-8"))
     if not with_openssh:
         print(f"no ssh-keygen of {OPENSSH} here: OpenSSH's half was left out")
     crate = crate_answers()

@@ -1,14 +1,14 @@
 #!/usr/bin/env python3
-"""Makes the stored vectors of crates/replay_images, replay_writing, replay_records and replay_halves anew: the images, the calls and
-the records handed in, and what must be answered to each; and for the Rust tests the images of cases_places.py once more, each
-with its place and its field.
+"""Makes the stored vectors of crates/replay_images, replay_writing, replay_records, replay_halves and replay_armour anew: the images,
+the calls and the records handed in, and what must be answered to each; and for the Rust tests the images of cases_places.py once
+more, each with its place and its field.
 
-    python3 tools/make_vectors.py            writes data/ and stdout of the four crates, and the file for the Rust tests
+    python3 tools/make_vectors.py            writes data/ and stdout of the five crates, and the file for the Rust tests
     python3 tools/make_vectors.py --check    only compares them with what would be written; exit status 1 if they differ
 
-It comes out the same each time: the images are made here or stored in tools/corpus, and the answers are those of model.py
-and model_writing.py. Of the calls of the writers and of the comment change calls.py says how they are stored and printed,
-of the records handed in records.py.
+It comes out the same each time: the images are made here or stored in tools/corpus, and the answers are those of model.py,
+model_writing.py and model_armour.py. Of the calls of the writers and of the comment change calls.py says how they are stored and
+printed, of the records handed in records.py, of export and import armoured.py.
 In the file of images each is its length, 4 bytes big-endian, and its bytes. For each image there are in stdout
   - `read` and 25 numbers: number, count, at, kind, algorithm, cipher, KDF, rounds, checkint, padding, section (where
     its length, or the ciphertext's, begins), then start and length of blob, point, scalar, comment, salt, ciphertext
@@ -21,15 +21,19 @@ In the file of images each is its length, 4 bytes big-endian, and its bytes. For
   - `header-rsa` and 5 numbers: its bits, start and length of modulus and exponent; only where one of them isn't 0,
   - the inspection program's lines.
 """
+import binascii
 import collections
 import itertools
 import pathlib
 import sys
 
+import armoured
 import calls
 import cases_places
 import model
 import records
+from against_ssh_keygen import armour
+from cases_armour import armour_cases
 from cases_change import change_rows
 from cases_encrypted import encrypted_rows
 from cases_half_records import half_record_cases
@@ -48,6 +52,7 @@ from cases_scalar import scalar_image_cases
 from cases_scalar_writing import scalar_rows
 from cases_section import section_cases, slipped_cases
 from damage import damages
+from fetch_corpus import armour_off
 from fields import content
 from images import corpus
 
@@ -57,6 +62,7 @@ REPLAY = CRATES / "replay_images"
 WRITING = CRATES / "replay_writing"
 RECORDS = CRATES / "replay_records"
 HALVES = CRATES / "replay_halves"
+ARMOUR = CRATES / "replay_armour"
 PLACES = ROOT / "bindings" / "rust" / "tests" / "data" / "places"
 MUST_OCCUR = {
     "read": [0, 1, 2, 3, 4, 5, 6, 7, 11],
@@ -68,6 +74,8 @@ MUST_OCCUR = {
     "change": [0, 1, 2, 3, 4, 5, 6, 7, 8, 9, 10, 11],
     "record": [0, 1, 9, 11],
     "section": [0, 1, 2, 3, 4, 5, 6, 7],
+    "export": [0, 9, 11],
+    "import": [0, 2, 9, 11],
 }
 
 
@@ -154,12 +162,17 @@ def all_rows():
     yield from rsa_change_rows()
 
 
-def hold_call(title, meant, reply, before, after):
-    """The model's reply must be what the maker of the call meant, and what was written must be read back."""
+def hold_meant(title, meant, reply, before, after):
+    """The model's reply must be what the maker of the call meant, and a refused call changes nothing."""
     if meant not in (None, reply):
         sys.exit(f"{title}: meant {meant}, but the model says {reply}")
     if reply.number != 0 and after != before:
         sys.exit(f"{title}: refused, but the buffer is changed")
+
+
+def hold_call(title, meant, reply, before, after):
+    """The same, and what was written must be read back."""
+    hold_meant(title, meant, reply, before, after)
     if reply.number == 0 and not model.form(after[: reply.length]):
         sys.exit(f"{title}: what was written isn't read back as in the form")
 
@@ -192,6 +205,35 @@ def handed(cases):
     return once
 
 
+# ---- export and import
+
+
+def by_base64(text):
+    """The bytes that Python's base64 finds in a text, if this is their one spelling but for carriage returns; else None."""
+    try:
+        carried = armour_off(text)
+    except (IndexError, binascii.Error):
+        return None
+    return carried if armour(carried) == text.replace(b"\r\n", b"\n") else None
+
+
+def hold_armour(case, reply, before, after):
+    """The model's answer must be what the maker of the call meant, and what Python's base64 gives."""
+    hold_meant(case.title, case.reply, reply, before, after)
+    expected_bytes = armour(case.given) if case.entry == "export" else by_base64(case.given)
+    if (expected_bytes is None) != (reply.number == 2):
+        sys.exit(f"{case.title}: by Python's base64 it is otherwise than the model's {reply}")
+    if reply.number == 0 and not (after[: reply.length] == expected_bytes and after.startswith(case.begins)):
+        sys.exit(f"{case.title}: other bytes than were meant, or than Python's base64 gives")
+
+
+def armour_calls():
+    """Each call of export and import as it is stored, with its entry, its reply and the buffer after it."""
+    for case, stored, reply, before, after in armoured.answered(armour_cases()):
+        hold_armour(case, reply, before, after)
+        yield stored, case.entry, reply, after
+
+
 # ---- all of them
 
 
@@ -199,7 +241,7 @@ def counted(vectors, answers, by_hand):
     """How often each entry gives each reply number."""
     count = collections.Counter(("read", model.read(image).number) for image in vectors)
     count.update(("header", model.read_header(image).number) for image in vectors)
-    count.update((call.entry, reply.number) for call, reply, _ in answers)
+    count.update((entry, reply.number) for entry, reply, _ in answers)
     count.update(("record", records.answer(case)[0].number) for case in by_hand)
     count.update(("section", records.section_answer(case).number) for case in by_hand)
     return count
@@ -211,14 +253,16 @@ def made():
     by_hand = {RECORDS: handed(record_cases()), HALVES: handed(itertools.chain(half_record_cases(), rsa_record_cases()))}
     data = b"".join(len(image).to_bytes(4, "big") + image for image in vectors)
     text = "".join(expected(image) for image in vectors)
-    answers = [answer for row in written.values() for answer in row]
-    lines = "".join(calls.line(call.entry, reply, after) for call, reply, after in answers)
-    count = counted(vectors, answers, [case for once in by_hand.values() for case in once.values()])
+    answers = [(call.entry, reply, after) for row in written.values() for call, reply, after in row]
+    stored, armours = zip(*((stored, answer) for stored, *answer in armour_calls()))
+    count = counted(vectors, [*answers, *armours], [case for once in by_hand.values() for case in once.values()])
     files = {
         REPLAY / "data" / "vectors": data,
         REPLAY / "stdout": text.encode(),
         WRITING / "data" / "calls": b"".join(written),
-        WRITING / "stdout": lines.encode(),
+        WRITING / "stdout": "".join(itertools.starmap(calls.line, answers)).encode(),
+        ARMOUR / "data" / "calls": b"".join(stored),
+        ARMOUR / "stdout": "".join(itertools.starmap(calls.line, armours)).encode(),
         **{crate / "data" / "records": b"".join(once) for crate, once in by_hand.items()},
         **{crate / "stdout": "".join(map(records.lines, once.values())).encode() for crate, once in by_hand.items()},
         PLACES: "".join(map(cases_places.stored, cases_places.rows())).encode(),

@@ -5,12 +5,12 @@
     python3 tools/package_keys.py --crate [..]      also hands them to the crate ssh-key (oracle/run.sh)
 
 The packages come through private roots of apt (tools/private_apt.sh), each from the first of the suites that has it; a mirror may lack
-some. Every text between the two
-lines of the armour that is an openssh-key-v1 image is taken, in source code too. Each distinct one goes through the program
-`inspect`, whose whole output must be the model's; an accepted one is written again by the library, a plain one's comment is changed three
-times and back, and what results must be the first bytes. Keys stay in memory or in a private temporary folder that is removed; they are
-published test keys. Status 1 if anything differs, 3 if the packages can't be had here. The archive and the program are
-needed (`rt staticlib saltorchard`, `rt check inspect`), and gcc.
+some. Every text between the two lines of the armour that is an openssh-key-v1 image is taken, in source code too. Each distinct one
+goes through the program `inspect`, whose whole output must be the model's; an accepted one is written again by the library, a plain
+one's comment is changed three times and back, and what results must be the first bytes. Of the keys that are files of their own it
+says how many import takes, by the model. Keys stay in memory or in a private temporary folder that is removed; they are published test
+keys. Status 1 if anything differs, 3 if the packages can't be had here. The archive and the program are needed
+(`rt staticlib saltorchard`, `rt check inspect`), and gcc.
 """
 import base64
 import binascii
@@ -24,6 +24,7 @@ import tarfile
 import tempfile
 
 import model
+import model_armour
 from fetch_corpus import BEGIN, END
 from fields import LIMIT, MAGIC, content
 from real_files import ROOT, RUN, said
@@ -36,6 +37,7 @@ SUITES = ["sid", "trixie", "bookworm"]
 ARCHIVE = ROOT / "target" / "staticlib" / "libsaltorchard.a"
 COMMENTS = [b"", "Bäckerei Süd, Ofen 7 – 炉 🥖".encode(), b"c" * 300]
 ARMOURED = re.compile(re.escape(BEGIN) + b"(.*?)" + re.escape(END), re.S)
+ALONE = re.compile(rb"\s*" + re.escape(BEGIN) + rb"[A-Za-z0-9+/=\s]*" + re.escape(END) + rb"\s*")
 QUOTED = re.compile(rb'"([^"]*)"|\'([^\']*)\'')
 
 
@@ -59,12 +61,14 @@ def in_base64(body):
     return None
 
 
-def images_in(archive):
-    """The images in every file of a packed source."""
+def keys_in(archive):
+    """The images in every file of a packed source, each with the file's bytes where they are nothing but its text."""
     with tarfile.open(archive) as packed:
         for member in packed:
             text = packed.extractfile(member).read() if member.isfile() else b""
-            yield from (in_base64(body) for body in ARMOURED.findall(text))
+            alone = ALONE.fullmatch(text) is not None
+            found = map(in_base64, ARMOURED.findall(text))
+            yield from ((image, text if alone else None) for image in found if image)
 
 
 def roots(folder):
@@ -165,9 +169,12 @@ def with_crate(images, folder):
 def package_faults(package, all_roots, loaded, seen):
     """Prints what a package has that wasn't seen before, and answers how many faults there are."""
     suite, sources = fetched(package, all_roots)
-    found = {image for source in sources for image in images_in(source) if image} - seen
+    keys = [key for source in sources for key in keys_in(source)]
+    found = {image for image, _ in keys} - seen
     seen |= found
-    print(f"{package}, {suite}: {len(found)} keys")
+    texts = {text for image, text in keys if text and image in found}
+    taken = sum(model_armour.accepted(text) is not None for text in texts)
+    print(f"{package}, {suite}: {len(found)} keys; {len(texts)} files hold nothing else, of which import takes {taken}")
     for line, count in sorted(collections.Counter(map(title, found)).items()):
         print(f"    {count:4} {line}")
     wrong = [fault for image in sorted(found) for fault in faults(loaded, image)]

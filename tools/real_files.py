@@ -5,12 +5,14 @@
 
 Each writer that is here makes, of each kind, TIMES plain files (1 if none is said) with each of ten comments, and TIMES
 encrypted ones with each of its ciphers. RSA keys have 2,048 bits. Of every file the program's whole output must be the
-model's, and what it says of an accepted one must be what the writer was asked for. The first file of each row goes through
-./inspect too, in the writer's own armour. It exits with 1 if anything differs. A writer that isn't here is named with its
-Debian package and left out; with --need-all that, or a file that a writer could not make, is a failure too.
+model's, and what it says of an accepted one must be what the writer was asked for. The first file of each row goes in the writer's
+own armour through `dearmour`, which must answer as the model, and through ./inspect, which must report on it with --any-armour and,
+without, where import takes it. A second table says how each writer armours, and how many of its files import takes. It exits with 1
+if anything differs. A writer that isn't here is named with its Debian package and left out; with --need-all that, or a file that a
+writer could not make, is a failure too.
 
 The keys are new and random each time, so the counts differ from run to run. Python's libraries are those of the Python that
-runs this or, where it lacks one, of Debian's. The built program is needed (`rt check inspect`). TIMES 1 makes some 570
+runs this or, where it lacks one, of Debian's. The built programs are needed (`rt check inspect dearmour`). TIMES 1 makes some 570
 files, and with 470 took a minute and a half where the program ran under an emulator.
 """
 import os
@@ -19,11 +21,13 @@ import shutil
 import subprocess
 import sys
 import tempfile
-from collections import defaultdict
+from collections import Counter, defaultdict
 from typing import NamedTuple
 
 import model
-from fetch_corpus import BEGIN, COMMENTS, KINDS, PASSPHRASE, armour_off
+import model_armour
+from armoured_keys import differs
+from fetch_corpus import BEGIN, COMMENTS, END, KINDS, PASSPHRASE, armour_off
 from fields import ALGORITHMS, CIPHER_NAMES, ED25519, MAGIC, NONE, RSA, Reader, Refused, content
 from rsa import NUMBERS
 from written_keys import RUN
@@ -300,20 +304,29 @@ def faults_of(writer, file, answer):
 
 
 def said(words, given):
-    """What the program writes, or how it ended."""
+    """What the program writes, or how it ended. ./inspect ends with 1 where it refuses."""
     done = subprocess.run(words, input=given, capture_output=True)
-    return done.stdout.decode() if done.returncode == 0 else f"exit {done.returncode}: {done.stderr!r}"
+    answered = done.returncode == 0 or done.stdout.startswith(b"refused ")
+    return done.stdout.decode() if answered else f"exit {done.returncode}: {done.stderr!r}"
+
+
+def armour_faults(file):
+    """What is wrong with the answers to a file in its own armour."""
+    yield from filter(None, [differs("dearmour", file.text)])
+    report = model.report(file.image())
+    strictly = "refused 2 0 0\n" if model_armour.accepted(file.text) is None else report
+    for options, wanted in [((), strictly), (("--any-armour",), report)]:
+        answer = said([ROOT / "inspect", *options], file.text)
+        if answer != wanted:
+            yield f"./inspect {' '.join(options)} says {answer!r}, but {wanted!r} is meant"
 
 
 def all_faults(writer, files):
     """The lines on whatever differs. The keys are throw-away ones, so an image is shown whole."""
     for turn, file in enumerate(files):
-        answers = [said(["sh", RUN, "inspect"], file.image())]
-        if turn == 0:
-            answers.append(said([ROOT / "inspect"], file.text))
-        for answer in answers:
-            for fault in faults_of(writer, file, answer):
-                yield f"DIFFERS: {writer.name}, {file.kind}, {file.cipher}: {fault}: {file.image().hex()}"
+        faults = faults_of(writer, file, said(["sh", RUN, "inspect"], file.image()))
+        for fault in [*faults, *(armour_faults(file) if turn == 0 else [])]:
+            yield f"DIFFERS: {writer.name}, {file.kind}, {file.cipher}: {fault}: {file.image().hex()}"
 
 
 def refused_field(image, at):
@@ -373,6 +386,28 @@ def print_row(writer, kind, title, files):
     print(COLUMNS.format(writer.name, kind, title, *counts, "; ".join(refusals(images))).rstrip(), flush=True)
 
 
+ARMOUR_COLUMNS = "{:13}{:>8}  {:10}{:10}{:>6}{:>6}"
+ARMOUR_TITLES = "writer", "columns", "ends", "after END", "files", "taken"
+END_NAMES = {b"\n": "LF", b"\r\n": "CR LF", b"": "nothing"}
+
+
+def armour_words(text):
+    """How a text is armoured: the columns of its longest line, the lines' ends, and what stands after the END line."""
+    before, _, after = text.partition(END)
+    lines = before.splitlines(keepends=True)
+    ends = {END_NAMES.get(line[len(line.rstrip(b"\r\n")) :], "other") for line in lines}
+    columns = max((len(line.rstrip(b"\r\n")) for line in lines[1:]), default=0)
+    return columns, " and ".join(sorted(ends)), END_NAMES.get(after, repr(after))
+
+
+def print_armours(armours):
+    """How often each writer armours its files how, and how many of these import takes, by the model."""
+    print("\n" + ARMOUR_COLUMNS.format(*ARMOUR_TITLES))
+    for words in sorted({words for words, _ in armours}):
+        taken = armours[words, True]
+        print(ARMOUR_COLUMNS.format(*words, taken + armours[words, False], taken))
+
+
 def made(writer, kind, ciphers, comments):
     files = []
     for cipher in ciphers:
@@ -389,8 +424,8 @@ def reason(failure):
     return next((line for line in reversed(lines) if line.strip()), str(failure))
 
 
-def rows(writer, times):
-    """Prints the writer's rows; answers how many answers differ and how many rows could not be made."""
+def rows(writer, times, armours):
+    """Prints the writer's rows and counts its armours; answers how many answers differ and how many rows could not be made."""
     differing = failed = 0
     plain = "plain", [NO_CIPHER], TEN_COMMENTS * times
     encrypted = "encrypted", writer.ciphers, [ENCRYPTED_COMMENT] * times
@@ -405,6 +440,8 @@ def rows(writer, times):
             faults = list(all_faults(writer, files))
             differing += len(faults)
             print_row(writer, kind, title, files)
+            texts = [file.text for file in files]
+            armours.update(((writer.name, *armour_words(text)), model_armour.accepted(text) is not None) for text in texts)
             print("\n".join(faults), end="\n" if faults else "")
     return differing, failed
 
@@ -428,12 +465,15 @@ def main():
     if len(words) > 1 or not all(word.isdigit() and int(word) > 0 for word in words):
         sys.exit(__doc__)
     times = int(words[0]) if words else 1
-    if not (ROOT / "target" / "bin" / "inspect").exists():
-        sys.exit("the program inspect isn't built: rt check inspect")
+    for name in ("inspect", "dearmour"):
+        if not (ROOT / "target" / "bin" / name).exists():
+            sys.exit(f"the program {name} isn't built: rt check {name}")
     here, missing = writers_here()
     print("\nThe keys are random: the counts differ from run to run.\n")
     print(COLUMNS.format(*TITLES), flush=True)
-    results = [rows(writer, times) for writer in here]
+    armours = Counter()
+    results = [rows(writer, times, armours) for writer in here]
+    print_armours(armours)
     differing, failed = sum(result[0] for result in results), sum(result[1] for result in results)
     print(f"\n{differing} answers differ, {missing} writers are not here, {failed} rows could not be made")
     sys.exit(1 if differing or ("--need-all" in sys.argv[1:] and (missing or failed)) else 0)

@@ -5,9 +5,7 @@ use fields::Part;
 use fields::Refusal;
 use key_material::Checkint;
 use key_material::Material;
-use libc::STDERR_FILENO;
 use libc::STDIN_FILENO;
-use libc::STDOUT_FILENO;
 use names::Algorithm;
 use names::Elliptic;
 use reader_image::Fields;
@@ -16,27 +14,9 @@ use reader_parts::Which;
 use reader_section::Kind;
 use writer_reply::Written;
 
-fn refuse(f: Fault) {
-    let why = f.why;
-    io::write_all(STDERR_FILENO, b"refused ");
-    io::print_decimal(STDERR_FILENO, why.number() as u64);
-    io::write_all(STDERR_FILENO, b" ");
-    io::print_decimal(STDERR_FILENO, why.count() as u64);
-    io::write_all(STDERR_FILENO, b"\n");
-}
-
 // What was written at the start of a buffer, or the refusal.
 fn hand_out(written: Written, out: &[u8]) {
-    match written {
-        Written::Refused(f) => refuse(f),
-        Written::Length(n) => {
-            let whole = Part {
-                start: 0,
-                length: n,
-            };
-            io::write_all(STDOUT_FILENO, fields::view(out, whole));
-        }
-    }
+    standard_streams::hand_out(written, out, b"afresh: standard output");
 }
 
 fn write_elliptic(image: &[u8], f: Fields, kind: Elliptic) {
@@ -78,7 +58,7 @@ fn write(image: &[u8], f: Fields) {
     let kind = section.kind;
     match kind {
         Kind::Plain => write_plain(image, f),
-        Kind::Encrypted => refuse(Fault {
+        Kind::Encrypted => standard_streams::tell_refused(Fault {
             why: Refusal::Encrypted,
             at: 0,
         }),
@@ -94,7 +74,7 @@ fn main() {
     };
     let image = fields::view(&buffer, whole);
     match reader_image::read(image) {
-        ImageRead::Refused(f) => refuse(f),
+        ImageRead::Refused(f) => standard_streams::tell_refused(f),
         ImageRead::Record(f) => write(image, f),
     }
 }

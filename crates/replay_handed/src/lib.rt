@@ -17,7 +17,6 @@ use reader_section::Kind;
 use reader_section::Section;
 use replay_telling::number_at;
 use replay_telling::word;
-use writer_reply::Written;
 
 // ---- the record's numbers, which follow the two lengths
 
@@ -98,18 +97,6 @@ fn record_of(head: &[u8]) -> Fields {
     }
 }
 
-// ---- what is said of the reply
-
-fn say_written(written: Written) {
-    match written {
-        Written::Refused(f) => {
-            let why = f.why;
-            replay_telling::say_reply(why.number(), why.count(), f.at, 0);
-        }
-        Written::Length(length) => replay_telling::say_reply(0, 0, 0, length),
-    }
-}
-
 // ---- the call
 
 // The i-th byte of a buffer before it is lent: never 0, and no run of one byte.
@@ -129,7 +116,7 @@ fn fill(lent: &mut [u8]) {
 fn handed_in(image: &[u8], f: Fields, lent: &mut [u8]) {
     fill(lent);
     word(b"record   ");
-    say_written(writer_again::rewrite_record(image, f, lent));
+    replay_telling::say_written(writer_again::rewrite_record(image, f, lent));
     replay_telling::say_buffer(lent);
     replay_saying::say_record(image, f);
 }

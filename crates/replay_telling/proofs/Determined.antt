@@ -19,6 +19,8 @@ use Rattle.replay_telling.proofs.say_number.Reads as say-number
 use Rattle.replay_telling.proofs.say_number.Kinds as say-number-kinds
 use Rattle.replay_telling.proofs.say_reply.Reads as say-reply
 use Rattle.replay_telling.proofs.say_reply.Kinds as say-reply-kinds
+use Rattle.replay_telling.proofs.say_written.Reads as say-written
+use Rattle.replay_telling.proofs.say_written.Kinds as say-written-kinds
 use Rattle.replay_telling.proofs.say_buffer.Reads as say-buffer
 use Rattle.replay_telling.proofs.say_buffer.Kinds as say-buffer-kinds
 
@@ -48,6 +50,9 @@ say-number-determined κs a r₁ r₂ s₁ s₂ p q = cc
 
 pub say-reply-determined : Determined 0 say-reply-kinds.ps say-reply-kinds.r say-reply.Post
 say-reply-determined κs a r₁ r₂ s₁ s₂ p q = cc
+
+pub say-written-determined : Determined 0 say-written-kinds.ps say-written-kinds.r say-written.Post
+say-written-determined κs a r₁ r₂ s₁ s₂ p q = cc
 
 pub say-buffer-determined : Determined 1 say-buffer-kinds.ps say-buffer-kinds.r say-buffer.Post
 say-buffer-determined κs a r₁ r₂ s₁ s₂ p q = cc

@@ -13,6 +13,7 @@ use names::CipherName;
 use names::Elliptic;
 use names::Kdf;
 use names::KdfName;
+use writer_reply::Written;
 
 // ---- numbers that were read
 
@@ -94,6 +95,18 @@ pub fn say_reply(number: u8, count: usize, at: usize, length: usize)
     say_number(count);
     say_number(at);
     say_number(length);
+}
+
+pub fn say_written(written: Written)
+    ensures { λ r. ⌜ r ≡ tt ⌝ }
+{
+    match written {
+        Written::Refused(f) => {
+            let why = f.why;
+            say_reply(why.number(), why.count(), f.at, 0);
+        }
+        Written::Length(length) => say_reply(0, 0, 0, length),
+    }
 }
 
 fn wide(x: u8) -> u64 {
