@@ -17,6 +17,10 @@ use Rattle.saltorchard.proofs.saltorchard_write_rsa.Reads as saltorchar
 use Rattle.saltorchard.proofs.saltorchard_write_rsa.Kinds as saltorchard-write-rsa-kinds
 use Rattle.saltorchard.proofs.saltorchard_write_encrypted.Reads as saltorchard-write-encrypted
 use Rattle.saltorchard.proofs.saltorchard_write_encrypted.Kinds as saltorchard-write-encrypted-kinds
+use Rattle.saltorchard.proofs.saltorchard_export.Reads as saltorchard-export
+use Rattle.saltorchard.proofs.saltorchard_export.Kinds as saltorchard-export-kinds
+use Rattle.saltorchard.proofs.saltorchard_import.Reads as saltorchard-import
+use Rattle.saltorchard.proofs.saltorchard_import.Kinds as saltorchard-import-kinds
 use Rattle.saltorchard.proofs.saltorchard_rewrite.Reads as saltorchard-rewrite
 use Rattle.saltorchard.proofs.saltorchard_rewrite.Kinds as saltorchard-rewrite-kinds
 use Rattle.saltorchard.proofs.saltorchard_change_comment.Reads as saltorchard-change-comment
@@ -48,3 +52,9 @@ saltorchard-rewrite-determined κs a r₁ r₂ s₁ s₂ p q = (cc, cc)
 
 pub saltorchard-change-comment-determined : DeterminedBuffer 2 saltorchard-change-comment-kinds.ps saltorchard-change-comment-kinds.r saltorchard-change-comment.Post (λ κs s. now (s .0))
 saltorchard-change-comment-determined κs a r₁ r₂ s₁ s₂ p q = (cc, cc)
+
+pub saltorchard-export-determined : DeterminedBuffer 2 saltorchard-export-kinds.ps saltorchard-export-kinds.r saltorchard-export.Post (λ κs s. now (s .1 .0))
+saltorchard-export-determined κs a r₁ r₂ s₁ s₂ p q = (cc, cc)
+
+pub saltorchard-import-determined : DeterminedBuffer 2 saltorchard-import-kinds.ps saltorchard-import-kinds.r saltorchard-import.Post (λ κs s. now (s .1 .0))
+saltorchard-import-determined κs a r₁ r₂ s₁ s₂ p q = (cc, cc)

@@ -10,6 +10,8 @@ ghost use Rattle.reader_image.specs.Form.{formReadAt};
 ghost use Rattle.writer_plain.specs.Plain.{plainReply, plainLeft};
 ghost use Rattle.writer_again.specs.Rewrite.{rewriteReply, rewriteLeft};
 ghost use Rattle.comment_change.specs.Change.{changeReply, changeLeft};
+ghost use Rattle.armour_text.specs.Text.{exportReply, exportLeft};
+ghost use Rattle.armour_text.specs.Import.{importReply, importLeft};
 ghost use Rattle.c_numbers.specs.Numbers.{imageOf, headerOf, replyOf};
 ghost use Rattle.saltorchard.specs.Interface.{answersC, namesNothing, forgedHalf, sectionC, checkintFor, codedPlainReply, codedPlainLeft, codedEncryptedReply, codedEncryptedLeft};
 use c_handed::Half;
@@ -191,4 +193,20 @@ pub extern "C" fn saltorchard_change_comment(buffer: &mut [u8], n: usize, commen
     ensures { λ r. ⌜ answersC (changeReply (now (buffer .entry)) n (now (comment .entry))) (changeLeft (now (buffer .entry)) n (now (comment .entry))) r (now (buffer .exit)) ⌝ }
 {
     reply_of(comment_change::change_comment(buffer, n, comment))
+}
+
+// The text form of any bytes within the limit.
+#[no_mangle]
+pub extern "C" fn saltorchard_export(image: &[u8], out: &mut [u8]) -> Reply
+    ensures { λ r. ⌜ answersC (exportReply (now (image .entry)) (length (now (out .entry)))) (exportLeft (now (image .entry)) (now (out .entry))) r (now (out .exit)) ⌝ }
+{
+    reply_of(armour_export::export(image, out))
+}
+
+// The bytes that such a text carries.
+#[no_mangle]
+pub extern "C" fn saltorchard_import(text: &[u8], out: &mut [u8]) -> Reply
+    ensures { λ r. ⌜ answersC (importReply (now (text .entry)) (length (now (out .entry)))) (importLeft (now (text .entry)) (now (out .entry))) r (now (out .exit)) ⌝ }
+{
+    reply_of(armour_import::import(text, out))
 }
