@@ -18,10 +18,9 @@ use Rattle.armour_text.specs.Inverse.{sign-0, sign-1, sign-2, sign-3}
 use Rattle.armour_text.specs.Text.{wrap, closing}
 use Rattle.armour_text.specs.Import.{strip}
 use Rattle.armour_text.specs.Places.{at-next, drop-end, encode-three, encode-two, encode-one}
-use Rattle.armour_import.specs.declared.Group.the-variants as group
-use Rattle.armour_import.specs.Rest.{rest, Front, strip-front}
-use Rattle.armour_import.specs.Signs.{four, after, Groups}
-use Rattle.armour_import.specs.Judge.{wrap-four, four-same, rest-four}
+use Rattle.armour_judge.specs.Rest.{rest, Front, strip-front}
+use Rattle.armour_judge.specs.Signs.{four, after, FourAt}
+use Rattle.armour_judge.specs.Judge.{wrap-four, four-same, rest-four}
 
 -- ---- four signs that are known to come next
 
@@ -35,7 +34,7 @@ pub record Ready (t : List ℕ) (p k : ℕ) : Type 0 where
   pub begins : rest t p ≡ four k w x y z more
 
 -- the byte at a place, where what is left begins with one that ends no line
-byte-at : (t : List ℕ) (p x : ℕ) (r : List ℕ) → 42 < x → rest t p ≡ x ∷ r → (p < length t) × (getD t p 0 ≡ x) × (rest t (p + 1) ≡ r)
+pub byte-at : (t : List ℕ) (p x : ℕ) (r : List ℕ) → 42 < x → rest t p ≡ x ∷ r → (p < length t) × (getD t p 0 ≡ x) × (rest t (p + 1) ≡ r)
 byte-at t p x r h e =
     let f = strip-front (drop p t) x r (omega arith) e in
     let l : length (drop p t) ≡ suc (length (f .tail)) = ap length (f .is) in
@@ -64,8 +63,7 @@ ready-four t p (suc (suc (suc zero))) r h = absurd (omega arith)
 -- in their line they stand one after the other
 pub four-in-line :
     (t : List ℕ) (p k : ℕ) → Ready t p k → 4 ≤ k
-    → Groups t p k (group.Are (getD t p 0) (getD t (p + 1) 0) (getD t (p + 2) 0) (getD t (p + 3) 0) (p + 4) (k - 4))
-unfolding Groups
+    → FourAt t p k (getD t p 0) (getD t (p + 1) 0) (getD t (p + 2) 0) (getD t (p + 3) 0) (p + 4) (k - 4)
 four-in-line t p k r h =
     let a = ready-four t p k r h in
     let f = rest-four t p k (a .0) h (a .1) (a .2) (a .3) (a .4) in
@@ -160,14 +158,9 @@ module _ (t b : List ℕ) (o p k : ℕ) (e : Lines t b o p k) (s : Next b o) whe
   pub ready : Ready t p k
   ready = record { w = s .w; x = s .x; y = s .y; z = s .z; more = wrap (s .more) (after k) ++ closing; high = s .high; begins = begun }
 
-  pub never : Groups t p k group.Missing → ⊥
-  unfolding Groups
-  never h = h (s .w) (s .x) (s .y) (s .z) _ (s .high) begun
-
   pub these :
-      (w x y z q j : ℕ) → Groups t p k (group.Are w x y z q j)
+      (w x y z q j : ℕ) → FourAt t p k w x y z q j
       → (w ≡ s .w) × (x ≡ s .x) × (y ≡ s .y) × (z ≡ s .z) × (rest t q ≡ wrap (s .more) j ++ closing)
-  unfolding Groups
   these w x y z q j h =
       let u = four-same k w x y z (s .w) (s .x) (s .y) (s .z) (rest t q) _ (sym (h .0) ∙ begun) in
       (u .0, u .1, u .2, u .3, u .4 ∙ rw (h .1))
@@ -220,7 +213,7 @@ a-value = refl
 no-third : (a : ℕ) → bitsOfBytes a 0 0 / 64 % 64 ≡ 0
 no-third a = omega arith
 
-module _ (t b : List ℕ) (o p k : ℕ) (e : Lines t b o p k) (all : AllBytes b) (w x y z q j : ℕ) (h : Groups t p k (group.Are w x y z q j)) where
+module _ (t b : List ℕ) (o p k : ℕ) (e : Lines t b o p k) (all : AllBytes b) (w x y z q j : ℕ) (h : FourAt t p k w x y z q j) where
   module _ (l : o + 3 ≤ length b) where
     bits-three : bitsOfValues (valueOf w) (valueOf x) (valueOf y) (valueOf z) ≡ bitsAt b o
     unfolding next-three

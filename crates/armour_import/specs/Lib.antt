@@ -1,5 +1,3 @@
-pub mod Rest
-pub mod Signs
-pub mod Judge
 pub mod Fill
+pub mod FillTwo
 pub mod Reply

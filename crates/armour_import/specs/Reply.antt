@@ -7,20 +7,17 @@ use mathlib.Core.List.{List, _++_}
 use borrow.Author.Tests.{le-leb, lt-leb}
 use lib.ListN.{length, drop}
 use lib.Seq.{sets, sets-eq}
-use Rattle.fields.specs.Bytes.{AllBytes}
 use Rattle.fields.specs.declared.Refusal.the-variants.{FormatEncoding, Size, Room}
 use Rattle.buffer.specs.Puts.{splice}
 use Rattle.writer_reply.specs.Reply.{refused, sized, answers, answered}
 use Rattle.writer_reply.specs.declared.Written.the-variants as written
 use Rattle.armour_text.specs.Base64.{encode}
-use Rattle.armour_text.specs.Text.{wrap, closing, text}
-use Rattle.armour_text.specs.Import.{strip, carried, carries, importReply, importLeft}
-use Rattle.armour_text.specs.Exactly.{carried-of, carries-of, carried-bytes, carries-only}
-use Rattle.armour_import.specs.declared.Judged.{Judged}
-use Rattle.armour_import.specs.declared.Judged.the-variants.{Count, Bad}
-use Rattle.armour_import.specs.Rest.{rest}
-use Rattle.armour_import.specs.Signs.{stands, opens, opens-line, rest-stands}
-use Rattle.armour_import.specs.Judge.{Judges, Whole, lines-of, text-lines}
+use Rattle.armour_text.specs.Text.{wrap, closing}
+use Rattle.armour_text.specs.Import.{carried, carries, importReply, importLeft}
+use Rattle.armour_judge.specs.declared.Judged.{Judged}
+use Rattle.armour_judge.specs.declared.Judged.the-variants.{Count, Bad}
+use Rattle.armour_judge.specs.Rest.{rest}
+use Rattle.armour_judge.specs.Judgement.{judgeOf, lines-carried}
 
 -- the text carries n bytes, which stand in its lines
 pub record Body (t : List ℕ) (n : ℕ) : Type 0 where
@@ -28,23 +25,25 @@ pub record Body (t : List ℕ) (n : ℕ) : Type 0 where
   pub size : length (carried t) ≡ n
   pub lines : rest t 35 ≡ wrap (encode (carried t)) 0 ++ closing
 
-pub judged-body : (t : List ℕ) (n : ℕ) → Judges t (Count n) → Body t n
-unfolding Judges
-judged-body t n j =
-    let c = carried-of t (j .bytes) (j .are) (j .whole) in
-    let s = rest-stands t 0 opens (opens-line .0) _ (j .whole ∙ text-lines (j .bytes)) in
-    record { taken = carries-of t (j .bytes) (j .are) (j .whole); size = rw c (j .size); lines = rw c (lines-of t s (j .bytes) (j .whole)) }
-
-not-taken : (t : List ℕ) → Judges t Bad → carries t ≡ false
-unfolding Judges
-not-taken t f = go (carries t) refl
+-- by the judgement
+pub judged-body : (t : List ℕ) (n : ℕ) → Count n ≡ judgeOf t → Body t n
+unfolding judgeOf
+judged-body t n = go (carries t) refl
   where
-    go : (b : Bool) → carries t ≡ b → b ≡ false
-    go true e = absurd (f (carried t) (carried-bytes t) (sym (carries-only t e)))
-    go false e = refl
+    go : (b : Bool) → carries t ≡ b → Count n ≡ cond b (Count (length (carried t))) Bad → Body t n
+    go true e j = record { taken = e; size = cc; lines = lines-carried t e }
+    go false e j = absurd (let z : _≡_ {A = ℕ} 0 1 = cc in omega arith)
+
+not-taken : (t : List ℕ) → Bad ≡ judgeOf t → carries t ≡ false
+unfolding judgeOf
+not-taken t = go (carries t)
+  where
+    go : (b : Bool) → Bad ≡ cond b (Count (length (carried t))) Bad → b ≡ false
+    go true j = absurd (let z : _≡_ {A = ℕ} 0 1 = cc in omega arith)
+    go false j = refl
 
 module _ (t old : List ℕ) where
-  pub refused-text : Judges t Bad → answers (importReply t (length old)) (importLeft t old) (refused FormatEncoding) old
+  pub refused-text : Bad ≡ judgeOf t → answers (importReply t (length old)) (importLeft t old) (refused FormatEncoding) old
   unfolding importReply importLeft
   refused-text j = answered (refused FormatEncoding) _ old _ (rw (not-taken t j) (refl, refl))
 

@@ -1,23 +1,20 @@
--- `armour_import::fill` meets its contract: the bytes before o are filled in.
-use Rattle.armour_text.specs.Base64.{bytesOfBits}
+-- `armour_import::fill` meets its contract: two lines at a time, and then the rest.
 use native.Mathlib.Omega.{arith}
 use Prim.Native.Nat.{_+_, _-_, _≤_}
 use mathlib.Core.Path.{_≡_, refl, ap, _∙_}
 use lib.ListN.{length, drop}
 use lib.Seq.{sets, length-sets}
-use Rattle.armour_text.specs.Exactly.{carried-bytes}
 use Rattle.armour_text.specs.Import.{carried}
-use Rattle.armour_import.specs.Fill.{Lines, ready, never, next-three, fill-three}
-use borrow.Author.Needs.{needs}
+use Rattle.armour_import.specs.Fill.{Lines}
 use Rattle.armour_import.proofs.fill.Statement.{statement}
 use Rattle.armour_import.proofs.fill.Tie as tie
 
 abbrev Inv-loop : tie.InvT-loop
-Inv-loop text table n out₀ at₀ left₀ o₀ out at left o =
-    (o ≤ n) × Lines text (carried text) o at left × (sets out o (drop o (carried text)) ≡ sets out₀ 0 (carried text)) × (length out ≡ length out₀)
+Inv-loop text table n out₀ at₀ o₀ out at o =
+    (o ≤ n) × Lines text (carried text) o at 0 × (sets out o (drop o (carried text)) ≡ sets out₀ 0 (carried text)) × (length out ≡ length out₀)
 
 abbrev μ-loop : tie.MeasureT-loop
-μ-loop text table n out₀ at₀ left₀ o₀ out at left o = n - o
+μ-loop text table n out₀ at₀ o₀ out at o = n - o
 
 loop-holds : tie.Need-loop-holds Inv-loop μ-loop
 loop-holds c = (omega arith, c .before .before .before .pre .1 .lines, refl, refl)
@@ -25,57 +22,31 @@ loop-holds c = (omega arith, c .before .before .before .pre .1 .lines, refl, ref
 sub-loop : tie.Need-sub-loop Inv-loop μ-loop
 sub-loop c = c .loop .inv .0
 
-four-at-requires : tie.Need-four-at-requires Inv-loop μ-loop
-four-at-requires c κs = ready _ (carried (c .before .before .before .before .before .args .text .now)) (c .before .loop .o) _ _ (c .before .loop .inv .1) (next-three _ _ (omega (arith, c .before .before .before .before .before .pre .1 .size, c .loop-test .taken, c .before .loop .inv .0)))
-
-enum-told : tie.Need-enum-told Inv-loop μ-loop
-enum-told c = search needs
-
-same-length : tie.Need-same-length Inv-loop μ-loop
-same-length c = search needs
-
-returns : tie.Need-returns Inv-loop μ-loop
-returns c =
-    let a = c .before .before .before .before .before .before .before .before .args in
-    let l = c .before .before .before .before .loop in
-    let n = next-three (carried (a .text .now)) (l .o) (omega (arith, c .before .before .before .before .before .before .before .before .pre .1 .size, c .before .before .before .loop-test .taken, l .inv .0)) in
-    absurd (never (a .text .now) (carried (a .text .now)) (l .o) _ _ (l .inv .1) n (rw (c .enum-told .given .1) at (c .before .before .four-at .ensures)))
-
-enum-known-w : tie.Need-enum-known-w Inv-loop μ-loop
-enum-known-w c = search needs
-
-bits-of-requires : tie.Need-bits-of-requires Inv-loop μ-loop
-bits-of-requires c κs = c .before .before .before .before .before .before .before .before .before .before .pre .0
-
-store-three-requires : tie.Need-store-three-requires Inv-loop μ-loop
-store-three-requires c κs = omega (arith, c .before .before .before .before .before .before .before .before .before .before .before .pre .2, c .before .before .before .before .before .before .loop-test .taken, c .before .before .before .before .before .before .before .loop .inv .0, c .before .before .before .before .before .before .before .loop .inv .3)
+fill-two-requires : tie.Need-fill-two-requires Inv-loop μ-loop
+fill-two-requires c κs = ((c .before .before .before .before .before .before .pre .0, c .before .before .loop .inv .1), (omega (arith, c .before .loop-test .taken, c .before .before .before .before .before .before .pre .1 .size, c .before .before .loop .inv .0), omega (arith, c .before .loop-test .taken, c .before .before .before .before .before .before .pre .2, c .before .before .loop .inv .0, c .before .before .loop .inv .3)))
 
 add-o : tie.Need-add-o Inv-loop μ-loop
-add-o c = omega (arith, c .before .before .before .before .before .before .before .before .before .loop-test .taken)
+add-o c = omega (arith, c .before .before .before .before .loop-test .taken)
 
 loop-less : tie.Need-loop-less Inv-loop μ-loop
-loop-less c = omega (arith, c .before .before .before .before .before .before .before .before .before .loop-test .taken)
+loop-less c = omega (arith, c .before .before .before .before .loop-test .taken)
 
 loop-again : tie.Need-loop-again Inv-loop μ-loop
 loop-again c =
-    let a = c .before .before .before .before .before .before .before .before .before .before .before .before .before .before .args in
-    let l = c .before .before .before .before .before .before .before .before .before .before .loop in
-    let i : l .o + 3 ≤ a .n = omega (arith, c .before .before .before .before .before .before .before .before .before .loop-test .taken, l .inv .0) in
-    let f = fill-three (a .text .now) (carried (a .text .now)) (l .o) _ _ (l .inv .1) (carried-bytes (a .text .now)) _ _ _ _ _ _ (rw (c .before .before .before .before .before .before .w .given .1) at (c .before .before .before .before .before .before .before .before .four-at .ensures)) (omega (arith, i, c .before .before .before .before .before .before .before .before .before .before .before .before .before .before .pre .1 .size)) (l .out) in
-    let g = c .before .before .store-three .ensures in
-    let s = rw (c .before .before .before .bits-of .ensures) at g in
-    (i, f .1, rw s (f .0 ∙ l .inv .2), ap length g ∙ length-sets (l .out) (l .o) (bytesOfBits (c .before .before .before .bits-of .result)) ∙ l .inv .3)
-
-fill-rest-requires : tie.Need-fill-rest-requires Inv-loop μ-loop
-fill-rest-requires c κs = ((c .before .before .before .before .before .before .pre .0, c .before .before .before .before .before .before .pre .1, c .before .before .loop .inv .1), (c .before .before .loop .inv .0, omega (arith, c .before .loop-test .left), omega (arith, c .before .before .before .before .before .before .pre .2, c .before .before .loop .inv .3)))
-
-same-length-2 : tie.Need-same-length-2 Inv-loop μ-loop
-same-length-2 c =
     let l = c .before .before .before .before .before .loop in
-    omega (arith, ap length (c .before .before .fill-rest .ensures) ∙ length-sets (l .out) (l .o) (drop (l .o) (carried (c .before .before .before .before .before .before .before .before .before .args .text .now))), l .inv .3)
+    let f = c .before .before .fill-two .ensures in
+    (omega (arith, c .before .before .before .before .loop-test .taken, l .inv .0), f .0, f .1 .0 ∙ l .inv .2, f .1 .1 ∙ l .inv .3)
 
-returns-2 : tie.Need-returns-2 Inv-loop μ-loop
-returns-2 c = c .before .before .fill-rest .ensures ∙ c .before .before .before .before .before .loop .inv .2
+fill-last-requires : tie.Need-fill-last-requires Inv-loop μ-loop
+fill-last-requires c κs = ((c .before .before .before .before .before .before .pre .0, c .before .before .before .before .before .before .pre .1, c .before .before .loop .inv .1), (c .before .before .loop .inv .0, omega (arith, c .before .before .before .before .before .before .pre .2, c .before .before .loop .inv .3)))
+
+same-length : tie.Need-same-length Inv-loop μ-loop
+same-length c =
+    let l = c .before .before .before .before .before .loop in
+    omega (arith, ap length (c .before .before .fill-last .ensures) ∙ length-sets (l .out) (l .o) (drop (l .o) (carried (c .before .before .before .before .before .before .before .before .before .args .text .now))), l .inv .3)
+
+returns : tie.Need-returns Inv-loop μ-loop
+returns c = c .before .before .fill-last .ensures ∙ c .before .before .before .before .before .loop .inv .2
 
 pub fill-spec : {M : Type 1} → statement M
 fill-spec =
@@ -85,16 +56,10 @@ fill-spec =
     μ-loop
     loop-holds
     sub-loop
-    four-at-requires
-    enum-told
-    same-length
-    returns
-    enum-known-w
-    bits-of-requires
-    store-three-requires
+    fill-two-requires
     add-o
     loop-less
     loop-again
-    fill-rest-requires
-    same-length-2
-    returns-2)
+    fill-last-requires
+    same-length
+    returns)
