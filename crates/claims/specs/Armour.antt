@@ -74,7 +74,7 @@ exported b old r out small fit p = holds (text b) old (exportReply b (length old
 
 -- ---- import
 
--- a text of some bytes as export writes it
+-- as export writes it, a text spells its bytes
 pub itself : (b : List ℕ) → AllBytes b → CrLf (text b) (text b)
 itself b all = let h = import-export b all in rw (h .1) at (takes-only (text b) (h .0) .1)
 
@@ -108,7 +108,7 @@ imported t b old r out s small fit p =
     let q : answers (importReply t (length old)) (left (importReply t (length old)) b old) r out = rw (spelled-carried t b s) at p in
     holds b old (importReply t (length old)) r out answer fit q
 
--- and nothing else gives any
+-- nothing else gives any: of a text that was answered with n, the bytes that it spells, which stand at the buffer's start
 pub record Taken (t old : List ℕ) (n : ℕ) (out : List ℕ) : Type 0 where
   pub bytes : List ℕ
   pub spells : Spells t bytes
