@@ -28,6 +28,10 @@ use Rattle.comment_change.proofs.change_comment.Reads as change-comment-reads
 use Rattle.comment_change.proofs.change_comment.Kinds as change-comment-kinds
 use Rattle.inspect_report.proofs.write_report.Reads as write-report-reads
 use Rattle.inspect_report.proofs.write_report.Kinds as write-report-kinds
+use Rattle.armour_export.proofs.export.Reads as export-reads
+use Rattle.armour_export.proofs.export.Kinds as export-kinds
+use Rattle.armour_import.proofs.import.Reads as import-reads
+use Rattle.armour_import.proofs.import.Kinds as import-kinds
 use Rattle.saltorchard.proofs.saltorchard_write_plain.Reads as saltorchard-write-plain-reads
 use Rattle.saltorchard.proofs.saltorchard_write_plain.Kinds as saltorchard-write-plain-kinds
 use Rattle.saltorchard.proofs.saltorchard_write_rsa.Reads as saltorchard-write-rsa-reads
@@ -38,9 +42,13 @@ use Rattle.saltorchard.proofs.saltorchard_rewrite.Reads as saltorchard-rewrite-
 use Rattle.saltorchard.proofs.saltorchard_rewrite.Kinds as saltorchard-rewrite-kinds
 use Rattle.saltorchard.proofs.saltorchard_change_comment.Reads as saltorchard-change-comment-reads
 use Rattle.saltorchard.proofs.saltorchard_change_comment.Kinds as saltorchard-change-comment-kinds
+use Rattle.saltorchard.proofs.saltorchard_export.Reads as saltorchard-export-reads
+use Rattle.saltorchard.proofs.saltorchard_export.Kinds as saltorchard-export-kinds
+use Rattle.saltorchard.proofs.saltorchard_import.Reads as saltorchard-import-reads
+use Rattle.saltorchard.proofs.saltorchard_import.Kinds as saltorchard-import-kinds
 use Rattle.reader_image.specs.declared.Fields.{Fields}
 use Rattle.claims.specs.Demand.{Asked, Demanded, demand-three}
-use Rattle.claims.specs.Refusals.{write-parts, write-filled, write-numbers, write-rsa, write-plain, write-encrypted, rewrite, rewrite-record, change-comment, write-report, Promise, saltorchard-write-plain, saltorchard-write-rsa, saltorchard-write-encrypted, saltorchard-rewrite, saltorchard-change-comment, PromiseC}
+use Rattle.claims.specs.Refusals.{write-parts, write-filled, write-numbers, write-rsa, write-plain, write-encrypted, rewrite, rewrite-record, change-comment, write-report, export, import, Promise, saltorchard-write-plain, saltorchard-write-rsa, saltorchard-write-encrypted, saltorchard-rewrite, saltorchard-change-comment, saltorchard-export, saltorchard-import, PromiseC}
 
 -- what meets the contract keeps the line: a are the arguments, in their order, r the answer, s what the lent places hold at the end
 abbrev pub Listed : (n : ℕ) (ps : List (PK n)) (r : RK n) → Out n ps r → Out n ps r → Type 0
@@ -117,6 +125,18 @@ pub write-report-listed :
     (λ κs a r s. Promise (write-report (now (a .0))) (now (a .1 .0)) r (now (s .1 .0)))
 write-report-listed κs a r s p = p
 
+-- armour_export::export
+pub export-listed :
+    Listed 2 export-kinds.ps export-kinds.r export-reads.Post
+    (λ κs a r s. Promise (export (now (a .0))) (now (a .1 .0)) r (now (s .1 .0)))
+export-listed κs a r s p = p
+
+-- armour_import::import
+pub import-listed :
+    Listed 2 import-kinds.ps import-kinds.r import-reads.Post
+    (λ κs a r s. Promise (import (now (a .0))) (now (a .1 .0)) r (now (s .1 .0)))
+import-listed κs a r s p = p
+
 -- saltorchard::saltorchard_write_plain
 pub saltorchard-write-plain-listed :
     Listed 4 saltorchard-write-plain-kinds.ps saltorchard-write-plain-kinds.r saltorchard-write-plain-reads.Post
@@ -152,6 +172,18 @@ pub saltorchard-change-comment-listed :
     Listed 2 saltorchard-change-comment-kinds.ps saltorchard-change-comment-kinds.r saltorchard-change-comment-reads.Post
     (λ κs a r s. PromiseC (saltorchard-change-comment (a .1 .0) (now (a .1 .1 .0))) (now (a .0)) r (now (s .0)))
 saltorchard-change-comment-listed κs a r s p = p
+
+-- saltorchard::saltorchard_export
+pub saltorchard-export-listed :
+    Listed 2 saltorchard-export-kinds.ps saltorchard-export-kinds.r saltorchard-export-reads.Post
+    (λ κs a r s. PromiseC (saltorchard-export (now (a .0))) (now (a .1 .0)) r (now (s .1 .0)))
+saltorchard-export-listed κs a r s p = p
+
+-- saltorchard::saltorchard_import
+pub saltorchard-import-listed :
+    Listed 2 saltorchard-import-kinds.ps saltorchard-import-kinds.r saltorchard-import-reads.Post
+    (λ κs a r s. PromiseC (saltorchard-import (now (a .0))) (now (a .1 .0)) r (now (s .1 .0)))
+saltorchard-import-listed κs a r s p = p
 
 -- demand 3 of whatever meets the comment change's own contract
 pub change-comment-demanded :

@@ -1,7 +1,7 @@
 -- Demand 1: Refusals, Entries, Ordered. Demand 2: Reading, Sealed, Form, Rewritten. Demand 3: Demand, from Change and Front; Sequence. The
 -- two halves of a read: Halves, HeaderAlone. Scalars of any length: Scalars, NoScalars. Records handed in: Handed. What is printed: Printed.
--- Where a refusal is: Places, PlacesWritten. The marked examples: Marked. The paper's wrong programs: ShutOut. The others hold what these
--- rest on.
+-- Where a refusal is: Places, PlacesWritten. Armoured files: Armour. The marked examples: Marked. The paper's wrong programs: ShutOut,
+-- ArmourShutOut. The others hold what these rest on.
 pub mod Reading
 pub mod Sealed
 pub mod Form
@@ -22,9 +22,11 @@ pub mod HeaderAlone
 pub mod Refusals
 pub mod Entries
 pub mod Ordered
+pub mod Armour
 pub mod Sizes
 pub mod Marked
 pub mod ShutOut
+pub mod ArmourShutOut
 pub mod Printed
 pub mod Places
 pub mod PlacesWritten

@@ -1,5 +1,5 @@
--- Document 01, 'Writing', and document 02, requests Two and Five: the conditions of the writers and of the comment change, as lists in the paper's order, each with its
--- number. The reply is the first that holds, for every input; where none does it is 0 0 0 and the length.
+-- Document 01, 'Writing', and document 02, requests Two, Five and Eleven: the conditions of the writers, of the comment change, of export and of import, as lists in the
+-- paper's order, each with its number. The reply is the first that holds, for every input; where none does it is 0 0 0 and the length.
 use Prim.Native.Nat.{ℕ, _%_}
 use mathlib.Core.Path.{_≡_, refl, sym, _∙_, ap}
 use mathlib.Core.Bool.{Bool, true, false, cond, not, _&&_, _||_}
@@ -39,6 +39,8 @@ use Rattle.writer_plain.specs.Plain.{allMpints, sizesFit, keyChecked, plainRepl
 use Rattle.writer_encrypted.specs.Encrypted.{optionsFit, encryptedReply}
 use Rattle.comment_change.specs.Change.{afresh, afreshReply, commentField, acceptedReply, changeReply}
 use Rattle.comment_change.specs.Afresh.{afresh-sized}
+use Rattle.armour_text.specs.Text.{text, exportReply}
+use Rattle.armour_text.specs.Import.{carried, carries, importReply}
 use Rattle.claims.specs.Refusals.{by-kind}
 
 -- a condition: whether it holds, and the reply that it gives
@@ -118,6 +120,14 @@ changeConditions old n comment =
 
 abbrev pub changedLength : List ℕ → ℕ → List ℕ → ℕ
 changedLength old n comment = onRead (readAt (take n old)) (λ g. 0) (λ f. length (afresh (take n old) f comment))
+
+-- above the limit 11; then room 9, for the text
+abbrev pub exportConditions : List ℕ → ℕ → List Condition
+exportConditions b room = says (ltb 65535 (length b)) 11 ∷ says (ltb room (length (text b))) 9 ∷ []
+
+-- a text that carries nothing 2; then, of what it carries, size 11; room 9
+abbrev pub importConditions : List ℕ → ℕ → List Condition
+importConditions t room = says (not (carries t)) 2 ∷ sizes (carried t) room
 
 -- ---- one condition after another
 
@@ -300,3 +310,18 @@ change-first old n comment all =
     (by-read (readAt s)
     (λ g e. rw e (fault-first g [] 0))
     (λ f e. rw e (accepted-first s f comment (length old) (plain-of s all f e)))))
+
+pub export-first : (b : List ℕ) (room : ℕ) → told (exportReply b room) ≡ first (exportConditions b room) (length (text b))
+unfolding exportReply
+export-first b room =
+    let n = length (text b) in
+    let w = written.Length n in
+    then-first (ltb 65535 (length b)) (leb (length b) 65535) (above 65535 (length b)) Size refl (unless (leb n room) Room w) (says (ltb room n) 9 ∷ []) n
+    (then-first (ltb room n) (leb n room) (above room n) Room refl w [] n (done-first n))
+
+pub import-first : (t : List ℕ) (room : ℕ) → told (importReply t room) ≡ first (importConditions t room) (length (carried t))
+unfolding importReply
+import-first t room =
+    by-bool (carries t)
+    (λ e. rw e (sized-first (carried t) room ∙ passed-first 2 0 0 (sizes (carried t) room) (length (carried t))))
+    (λ e. rw e (refused-first FormatEncoding (sizes (carried t) room) (length (carried t))))

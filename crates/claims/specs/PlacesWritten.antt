@@ -1,6 +1,6 @@
--- Document 02, request Three, of every entry that takes a lent buffer, and whatever answer meets its promise: a writer's refusal is at 0, a rewrite's
--- and a comment change's is where the reader refused, a new comment's 7 is at the old comment's field, and what is about the whole image is at 0.
--- An answer that refuses nothing gives 0 too.
+-- Document 02, request Three, of every entry that takes a lent buffer, and whatever answer meets its promise: a writer's refusal is at 0, and so
+-- are export's and import's; a rewrite's and a comment change's is where the reader refused, a new comment's 7 is at the old comment's field, and what
+-- is about the whole image is at 0. An answer that refuses nothing gives 0 too.
 use Prim.Native.Nat.{ℕ, _-_, _%_, _≤_}
 use native.Mathlib.Omega.{arith}
 use mathlib.Core.Path.{_≡_, refl, _∙_}
@@ -44,12 +44,14 @@ use Rattle.writer_encrypted.specs.Encrypted.{optionsFit, encryptedReply}
 use Rattle.writer_again.specs.Rewrite.{plainAgain, recordReply, rewriteReply, handedReply}
 use Rattle.comment_change.specs.Change.{afreshReply, commentField, acceptedReply, changeReply}
 use Rattle.inspect_report.specs.Report.{reportOf, reportReply}
+use Rattle.armour_text.specs.Text.{text, exportReply}
+use Rattle.armour_text.specs.Import.{carried, carries, importReply}
 use Rattle.c_numbers.specs.Numbers.{replyOf}
 use Rattle.c_numbers.specs.declared.Reply.{Reply}
 use Rattle.saltorchard.specs.Interface.{namesNothing, checkintFor, codedPlainReply, codedEncryptedReply, answersC}
 use Rattle.laws_places.specs.Read.{read-said}
 use Rattle.claims.specs.Places.{place-within}
-use Rattle.claims.specs.Refusals.{by-kind, Entry, write-parts, write-filled, write-numbers, write-rsa, write-plain, write-encrypted, rewrite, rewrite-record, recorded-rewrite, change-comment, write-report, Promise, EntryC, saltorchard-write-plain, saltorchard-write-rsa, saltorchard-write-encrypted, saltorchard-rewrite, saltorchard-change-comment, PromiseC}
+use Rattle.claims.specs.Refusals.{by-kind, Entry, write-parts, write-filled, write-numbers, write-rsa, write-plain, write-encrypted, rewrite, rewrite-record, recorded-rewrite, change-comment, write-report, export, import, Promise, EntryC, saltorchard-write-plain, saltorchard-write-rsa, saltorchard-write-encrypted, saltorchard-rewrite, saltorchard-change-comment, saltorchard-export, saltorchard-import, PromiseC}
 
 -- ---- the place by the reply's number
 
@@ -78,6 +80,8 @@ placeOf (rewrite-record s f) old number = 0
 placeOf (recorded-rewrite s f) old number = 0
 placeOf (change-comment n comment) old number = changePlace old n number
 placeOf (write-report s) old number = 0
+placeOf (export b) old number = 0
+placeOf (import t) old number = 0
 
 abbrev pub placeOfC : EntryC → List ℕ → ℕ → ℕ
 placeOfC (saltorchard-write-plain code public private derive checkint comment) old number = 0
@@ -85,6 +89,8 @@ placeOfC (saltorchard-write-rsa n e d iqmp p q derive checkint comment) old numb
 placeOfC (saltorchard-write-encrypted cipher k salt rounds blob ciphertext tag) old number = 0
 placeOfC (saltorchard-rewrite s) old number = readerPlace s
 placeOfC (saltorchard-change-comment n comment) old number = changePlace old n number
+placeOfC (saltorchard-export b) old number = 0
+placeOfC (saltorchard-import t) old number = 0
 
 -- ---- each by itself
 
@@ -230,6 +236,20 @@ report-at : (s old : List ℕ) → At nowhere (reportReply s old)
 unfolding reportReply
 report-at s old = unless-at nowhere (fits old 0 (reportOf s)) Room (written.Length (length (reportOf s))) refl refl
 
+export-at : (b : List ℕ) (room : ℕ) → At nowhere (exportReply b room)
+unfolding exportReply
+export-at b room =
+    let fits = leb (length (text b)) room in
+    unless-at nowhere (leb (length b) 65535) Size (unless fits Room (written.Length (length (text b)))) refl
+    (unless-at nowhere fits Room (written.Length (length (text b))) refl refl)
+
+import-at : (t : List ℕ) (room : ℕ) → At nowhere (importReply t room)
+unfolding importReply
+import-at t room =
+    by-bool (carries t)
+    (λ e. rw e (sized-at nowhere (carried t) room refl refl refl))
+    (λ e. rw e refl)
+
 coded-plain-at :
     (code : ℕ) (public private : List ℕ) (checkint : ℕ) (comment : List ℕ) (room : ℕ)
     → At nowhere (codedPlainReply code public private checkint comment room)
@@ -285,6 +305,8 @@ place-said (rewrite-record s f) old r out p = told-at nowhere _ r _ out (handed-
 place-said (recorded-rewrite s f) old r out p = told-at nowhere _ r _ out (handed-at s f (length old)) p
 place-said (change-comment n comment) old r out p = told-at (changePlace old n) _ r _ out (change-at old n comment) p
 place-said (write-report s) old r out p = told-at nowhere _ r _ out (report-at s old) (p .0)
+place-said (export b) old r out p = told-at nowhere _ r _ out (export-at b (length old)) p
+place-said (import t) old r out p = told-at nowhere _ r _ out (import-at t (length old)) p
 
 told-at-c : (place : ℕ → ℕ) (w : Written) (r : Reply) (after out : List ℕ) → At place w → answersC w after r out → r .at ≡ place (r .number)
 unfolding replyOf told
@@ -300,6 +322,8 @@ place-said-c (saltorchard-write-encrypted cipher k salt rounds blob ciphertext t
     told-at-c nowhere _ r _ out (coded-encrypted-at cipher k salt rounds blob ciphertext tag (length old)) p
 place-said-c (saltorchard-rewrite s) old r out p = told-at-c (λ number. readerPlace s) _ r _ out (rewrite-at s (length old)) p
 place-said-c (saltorchard-change-comment n comment) old r out p = told-at-c (changePlace old n) _ r _ out (change-at old n comment) p
+place-said-c (saltorchard-export b) old r out p = told-at-c nowhere _ r _ out (export-at b (length old)) p
+place-said-c (saltorchard-import t) old r out p = told-at-c nowhere _ r _ out (import-at t (length old)) p
 
 -- and these places too are within the image or at its end
 pub reader-place-within : (s : List ℕ) → readerPlace s ≤ length s

@@ -31,6 +31,8 @@ use Rattle.writer_reply.specs.declared.Written.the-variants as written
 use Rattle.writer_plain.specs.Plain.{plainReply, plainLeft, isPlain}
 use Rattle.writer_encrypted.specs.Encrypted.{encryptedReply, encryptedLeft, isEncrypted}
 use Rattle.writer_again.specs.Rewrite.{plainAgain, plainAgainLeft, recordReply, recordLeft, rewriteReply, rewriteLeft, isRewritten, handedReply, handedLeft, isHanded}
+use Rattle.armour_text.specs.Text.{exportReply, exportLeft}
+use Rattle.armour_text.specs.Import.{importReply, importLeft}
 use Rattle.inspect_report.specs.Report.{reportOf, reportReply, isReport}
 use Rattle.buffer.specs.Puts.{placed, fits}
 use Rattle.comment_change.specs.Change.{changeReply, changeLeft, isChange}
@@ -52,6 +54,8 @@ pub data Entry : Type 0 where
   recorded-rewrite : List ℕ → Fields → Entry
   change-comment : ℕ → List ℕ → Entry
   write-report : List ℕ → Entry
+  export : List ℕ → Entry
+  import : List ℕ → Entry
 
 abbrev pub Promise : Entry → List ℕ → Written → List ℕ → Type 0
 Promise (write-parts e point scalar checkint comment) old r out = isPlain (OnCurve e) (ofPoint point) (ofScalar scalar) checkint comment old r out
@@ -67,6 +71,8 @@ Promise (rewrite-record s f) old r out = isHanded s f old r out
 Promise (recorded-rewrite s f) old r out = isHanded s f old r out
 Promise (change-comment n comment) old r out = isChange old n comment r out
 Promise (write-report s) old r out = isReport s old r out
+Promise (export b) old r out = answers (exportReply b (length old)) (exportLeft b old) r out
+Promise (import t) old r out = answers (importReply t (length old)) (importLeft t old) r out
 
 -- the entries for C
 pub data EntryC : Type 0 where
@@ -75,6 +81,8 @@ pub data EntryC : Type 0 where
   saltorchard-write-encrypted : ℕ → ℕ → List ℕ → ℕ → List ℕ → List ℕ → List ℕ → EntryC
   saltorchard-rewrite : List ℕ → EntryC
   saltorchard-change-comment : ℕ → List ℕ → EntryC
+  saltorchard-export : List ℕ → EntryC
+  saltorchard-import : List ℕ → EntryC
 
 abbrev pub PromiseC : EntryC → List ℕ → Reply → List ℕ → Type 0
 PromiseC (saltorchard-write-plain code public private derive checkint comment) old r out =
@@ -87,6 +95,8 @@ PromiseC (saltorchard-write-encrypted cipher k salt rounds blob ciphertext tag) 
     answersC (codedEncryptedReply cipher k salt rounds blob ciphertext tag (length old)) (codedEncryptedLeft cipher k salt rounds blob ciphertext tag old) r out
 PromiseC (saltorchard-rewrite s) old r out = answersC (rewriteReply s (length old)) (rewriteLeft s old) r out
 PromiseC (saltorchard-change-comment n comment) old r out = answersC (changeReply old n comment) (changeLeft old n comment) r out
+PromiseC (saltorchard-export b) old r out = answersC (exportReply b (length old)) (exportLeft b old) r out
+PromiseC (saltorchard-import t) old r out = answersC (importReply t (length old)) (importLeft t old) r out
 
 -- ---- each by itself
 
@@ -167,6 +177,14 @@ report-keeps s old g e =
     (λ b. let d : written.Length (length (reportOf s)) ≡ written.Refused g = rw b at e in clash cc)
     (λ b. rw b)
 
+export-keeps : (b old : List ℕ) (g : Fault) → exportReply b (length old) ≡ written.Refused g → exportLeft b old ≡ old
+unfolding exportLeft
+export-keeps b old g e = rw e
+
+import-keeps : (t old : List ℕ) (g : Fault) → importReply t (length old) ≡ written.Refused g → importLeft t old ≡ old
+unfolding importLeft
+import-keeps t old g e = rw e
+
 -- ---- the claims
 
 -- a promise whose answer is refused, of one that keeps the buffer where it refuses
@@ -195,6 +213,8 @@ refused-keeps (rewrite-record s f) old r out g p e = kept _ r _ out old g (hande
 refused-keeps (recorded-rewrite s f) old r out g p e = kept _ r _ out old g (handed-keeps s f old) p e
 refused-keeps (change-comment n comment) old r out g p e = kept _ r _ out old g (refused-stays old n comment) p e
 refused-keeps (write-report s) old r out g p e = kept _ r _ out old g (report-keeps s old) (p .0) e
+refused-keeps (export b) old r out g p e = kept _ r _ out old g (export-keeps b old) p e
+refused-keeps (import t) old r out g p e = kept _ r _ out old g (import-keeps t old) p e
 
 -- over C a refusal is a number that isn't 0
 kept-c :
@@ -213,3 +233,5 @@ refused-keeps-c (saltorchard-write-encrypted cipher k salt rounds blob ciphertex
     kept-c _ r _ out old (coded-encrypted-keeps cipher k salt rounds blob ciphertext tag old) p refused
 refused-keeps-c (saltorchard-rewrite s) old r out p refused = kept-c _ r _ out old (rewrite-keeps s old) p refused
 refused-keeps-c (saltorchard-change-comment n comment) old r out p refused = kept-c _ r _ out old (refused-stays old n comment) p refused
+refused-keeps-c (saltorchard-export b) old r out p refused = kept-c _ r _ out old (export-keeps b old) p refused
+refused-keeps-c (saltorchard-import t) old r out p refused = kept-c _ r _ out old (import-keeps t old) p refused

@@ -88,11 +88,11 @@ abbrev buffer : List ℕ
 buffer = replicate 300 0
 
 -- bytes, by a test of each
-unfoldable below : List ℕ → Bool
+unfoldable pub below : List ℕ → Bool
 below [] = true
 below (x ∷ xs) = ltb x 256 && below xs
 
-all-below : (s : List ℕ) → below s ≡ true → AllBytes s
+pub all-below : (s : List ℕ) → below s ≡ true → AllBytes s
 unfolding below
 all-below [] e i = omega arith
 all-below (x ∷ xs) e zero = ltb-true x 256 (both-true (ltb x 256) (below xs) e .0)
