@@ -104,10 +104,10 @@ def contracts_document():
 
 
 def named_functions():
-    """Each `crate::name` that a document names is a function or a type there."""
+    """Each `crate::name` of a library that a document names is a function or a type there."""
     for path in documents():
         for crate, name in re.findall(r"`(\w+)::(?:\w+::)?(\w+)", open(path, encoding="utf-8").read()):
-            if os.path.isdir(f"crates/{crate}") and not re.search(r"\b%s\b" % name, all_text(f"crates/{crate}/src/*.rt")):
+            if os.path.isfile(f"crates/{crate}/src/lib.rt") and not re.search(r"\b%s\b" % name, all_text(f"crates/{crate}/src/*.rt")):
                 yield f"{path} names {crate}::{name}, which isn't there"
 
 

@@ -1,15 +1,15 @@
 -- Writing the text as a run of stores: what is still to be stored gives the buffer of the whole.
 use Prim.Native.Nat.{ℕ, zero, suc, _+_, _*_, _-_, _<_, _≤_}
-use native.Mathlib.Nat.{add-zero, zero-add}
+use native.Mathlib.Nat.{add-zero}
 use native.Mathlib.Numerals.{add-one}
 use native.Mathlib.Omega.{arith}
 use mathlib.Core.Path.{_≡_, refl, sym, ap, _∙_}
 use mathlib.Core.List.{List, [], _∷_, _++_, append-assoc, append-nil}
-use lib.ListN.{length, take, drop, getD, set, length-append, length-drop, length-set, drop-of-length-le}
-use lib.Seq.{sets, sets-eq, length-sets, drop-cons}
+use lib.ListN.{length, drop, getD, set, length-append, length-drop, length-set}
+use lib.Seq.{sets, sets-eq}
 use Rattle.buffer.specs.Puts.{splice, isPut, placed-fits}
 use Rattle.armour_signs.specs.Alphabet.{signs, signOf}
-use Rattle.armour_text.specs.Base64.{pad, bitsOfBytes, signsOfBits, encode}
+use Rattle.armour_text.specs.Base64.{bitsOfBytes, signsOfBits, encode}
 use Rattle.armour_text.specs.Text.{wrap}
 use Rattle.armour_text.specs.Places.{encode-three}
 use Rattle.armour_export.specs.Sizes.{encode-length}

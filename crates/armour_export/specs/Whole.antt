@@ -5,12 +5,11 @@ use native.Mathlib.Omega.{arith}
 use mathlib.Core.Path.{_≡_, refl, sym, ap, _∙_}
 use mathlib.Core.List.{List, [], _∷_, _++_, append-nil}
 use borrow.Author.Tests.{eq-eqb, ne-eqb, le-leb, lt-leb}
-use lib.Dec.{leb}
-use lib.ListN.{length, drop, length-append}
+use lib.ListN.{length, length-append}
 use lib.Seq.{sets, sets-eq, length-sets}
 use Rattle.fields.specs.declared.Refusal.the-variants.{Size, Room}
 use Rattle.buffer.specs.Puts.{splice, isPut}
-use Rattle.writer_reply.specs.Reply.{refused, answers, answered, left}
+use Rattle.writer_reply.specs.Reply.{refused, answers, answered}
 use Rattle.writer_reply.specs.declared.Written.the-variants as written
 use Rattle.armour_text.specs.Base64.{encode}
 use Rattle.armour_text.specs.Text.{opening, closing, last, wrap, text, exportReply, exportLeft}

@@ -1,17 +1,17 @@
 -- How many bytes four signs give: three, or two before one `=`, or one before two, with no stray bits; and none where they are not the
 -- signs of some bytes. Rests on the alphabet's rule and on the arithmetic of 24 bits.
-use Prim.Native.Nat.{ℕ, zero, suc, _+_, _*_, _/_, _%_, _<_, _≤_}
+use Prim.Native.Nat.{ℕ, _*_, _/_, _%_, _<_, _≤_}
 use native.Mathlib.Omega.{arith}
 use mathlib.Core.Path.{_≡_, refl, sym, ap, _∙_}
-use mathlib.Core.Bool.{Bool, true, false, cond, _&&_, false≢true}
-use mathlib.Core.List.{List, [], _∷_, _++_, append-nil}
+use mathlib.Core.Bool.{Bool, true, false, cond, _&&_}
+use mathlib.Core.List.{List, [], _∷_, append-nil}
 use borrow.Author.Tests.{eq-eqb, ne-eqb, eqb-true, lt-ltb, ltb-true}
 use lib.Dec.{eqb, ltb}
 use lib.ListN.{length, take}
 use Rattle.fields.specs.Bytes.{AllBytes, sameBytes, same-true, same-self, both-true}
 use Rattle.armour_signs.specs.Alphabet.{signs, signOf, valueOf}
 use Rattle.armour_signs.specs.Rule.{sign-value}
-use Rattle.armour_text.specs.Base64.{pad, bitsOfBytes, bitsOfValues, bytesOfBits, signsOfBits, bytesOfSigns, encode, loosely}
+use Rattle.armour_text.specs.Base64.{pad, bitsOfBytes, bitsOfValues, bytesOfBits, bytesOfSigns, encode, loosely}
 use Rattle.armour_text.specs.Groups.{bits-of, group-0, group-1, group-2, group-3}
 use Rattle.armour_text.specs.Inverse.{sign-0, sign-1, sign-2, sign-3, loosely-encode}
 

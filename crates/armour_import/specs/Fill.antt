@@ -1,6 +1,5 @@
 -- The bytes of a text that was judged, read off four signs at a time.
-use Prim.Native.Nat.{ℕ, zero, suc, _+_, _*_, _/_, _%_, _-_, _<_, _≤_}
-use native.Mathlib.Nat.{zero-add}
+use Prim.Native.Nat.{ℕ, zero, suc, _+_, _/_, _%_, _-_, _<_, _≤_}
 use native.Mathlib.Numerals.{add-one}
 use native.Mathlib.Omega.{arith}
 use mathlib.Core.Path.{_≡_, refl, sym, ap, _∙_}
@@ -12,13 +11,12 @@ use lib.ListN.{length, take, drop, getD, set, length-drop}
 use lib.Seq.{sets}
 use Rattle.fields.specs.Bytes.{AllBytes}
 use Rattle.armour_signs.specs.Alphabet.{signs, signOf, valueOf}
-use Rattle.armour_text.specs.Base64.{pad, bitsOfBytes, bitsOfValues, bytesOfBits, signsOfBits, encode}
-use Rattle.armour_text.specs.Groups.{groups-of, bytes-of}
+use Rattle.armour_text.specs.Base64.{pad, bitsOfBytes, bitsOfValues, bytesOfBits, encode}
+use Rattle.armour_text.specs.Groups.{groups-of}
 use Rattle.armour_text.specs.Inverse.{sign-0, sign-1, sign-2, sign-3}
 use Rattle.armour_text.specs.Text.{wrap, closing}
-use Rattle.armour_text.specs.Import.{strip}
 use Rattle.armour_text.specs.Places.{at-next, drop-end, encode-three, encode-two, encode-one}
-use Rattle.armour_judge.specs.Rest.{rest, Front, strip-front}
+use Rattle.armour_judge.specs.Rest.{rest, strip-front}
 use Rattle.armour_judge.specs.Signs.{four, after, FourAt}
 use Rattle.armour_judge.specs.Judge.{wrap-four, four-same, rest-four}
 

@@ -2,7 +2,7 @@
 use Prim.Native.Nat.{ℕ, zero, suc, _+_, _*_, _%_, _-_, _<_, _≤_}
 use native.Mathlib.Nat.{add-zero}
 use native.Mathlib.Omega.{arith}
-use mathlib.Core.Path.{_≡_, refl, sym, ap, _∙_}
+use mathlib.Core.Path.{_≡_, refl, ap, _∙_}
 use mathlib.Core.Bool.{Bool, true, false}
 use mathlib.Core.List.{List, [], _∷_, _++_}
 use borrow.Author.Tests.{eqb-true, eqb-false, ltb-true, ltb-false}
@@ -13,7 +13,6 @@ use Rattle.fields.specs.Bytes.{AllBytes}
 use Rattle.armour_signs.specs.Alphabet.{valueOf}
 use Rattle.armour_text.specs.Base64.{bytesOfBits, bitsOfValues, encode}
 use Rattle.armour_text.specs.Text.{wrap, closing}
-use Rattle.armour_text.specs.Import.{strip}
 use Rattle.armour_judge.specs.Rest.{rest, EndedAt, rest-none, rest-byte, rest-last, rest-return, rest-feed}
 use Rattle.armour_judge.specs.Signs.{FourAt, after}
 use Rattle.armour_judge.specs.Judge.{wrap-opened}
@@ -204,9 +203,6 @@ module _ (t b : List ℕ) (all : AllBytes b) (o at : ℕ) (e : Lines t b o at 0)
 
     is-parted : Ready t (p + 68) 2
     is-parted = ready t b (o + 51) (p + 68) 2 at-parted (next-three b (o + 51) (omega arith))
-
-    pub first-within : p + 70 ≤ length t
-    first-within = omega (arith, parted-within t (p + 68) is-parted)
 
     pub second-feed : Feed t (p + 70)
     second-feed = let a : p + 68 + 2 ≡ p + 70 = omega arith in rw a at (parted-feed t (p + 68) is-parted)

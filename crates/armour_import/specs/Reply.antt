@@ -1,11 +1,11 @@
 -- What import answers and leaves, by what the judgement was.
 use Prim.Native.Nat.{ℕ, _+_, _<_, _≤_}
 use native.Mathlib.Omega.{arith}
-use mathlib.Core.Path.{_≡_, refl, sym, ap, _∙_}
+use mathlib.Core.Path.{_≡_, refl, _∙_}
 use mathlib.Core.Bool.{Bool, true, false, cond}
 use mathlib.Core.List.{List, _++_}
 use borrow.Author.Tests.{le-leb, lt-leb}
-use lib.ListN.{length, drop}
+use lib.ListN.{length}
 use lib.Seq.{sets, sets-eq}
 use Rattle.fields.specs.declared.Refusal.the-variants.{FormatEncoding, Size, Room}
 use Rattle.buffer.specs.Puts.{splice}
@@ -14,7 +14,6 @@ use Rattle.writer_reply.specs.declared.Written.the-variants as written
 use Rattle.armour_text.specs.Base64.{encode}
 use Rattle.armour_text.specs.Text.{wrap, closing}
 use Rattle.armour_text.specs.Import.{carried, carries, importReply, importLeft}
-use Rattle.armour_judge.specs.declared.Judged.{Judged}
 use Rattle.armour_judge.specs.declared.Judged.the-variants.{Count, Bad}
 use Rattle.armour_judge.specs.Rest.{rest}
 use Rattle.armour_judge.specs.Judgement.{judgeOf, lines-carried}

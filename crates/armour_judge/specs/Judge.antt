@@ -11,19 +11,19 @@ use lib.Dec.{ltb, leb}
 use lib.ListN.{length, drop, getD, length-append}
 use lib.Seq.{drop-at}
 use Rattle.fields.specs.Bytes.{AllBytes, both-true}
-use Rattle.armour_signs.specs.Alphabet.{signOf, valueOf, isSign, allSigns}
+use Rattle.armour_signs.specs.Alphabet.{valueOf, isSign, allSigns}
 use Rattle.armour_signs.specs.Rule.{value-sign, sign-value}
 use Rattle.armour_text.specs.Base64.{bytesOfSigns, encode}
 use Rattle.armour_text.specs.Inverse.{append-bytes, signs-bytes}
-use Rattle.armour_text.specs.Text.{lead, fewer, last, wrap, opening, closing, text}
+use Rattle.armour_text.specs.Text.{fewer, last, wrap, opening, closing, text}
 use Rattle.armour_text.specs.Import.{strip}
-use Rattle.armour_text.specs.Ends.{Within, encode-within}
+use Rattle.armour_text.specs.Ends.{encode-within}
 use Rattle.armour_judge.specs.declared.Judged.{Judged}
 use Rattle.armour_judge.specs.declared.Judged.the-variants.{Count, Bad}
 use Rattle.armour_judge.specs.declared.Group.the-variants as group
 use Rattle.armour_judge.specs.Rest.{rest, rest-byte}
 use Rattle.armour_judge.specs.Signs.{stands, stands-rest, rest-stands, opens, opens-line, End, Groups, four, after, lead-same}
-use Rattle.armour_groups.specs.Kinds.{kindOf, kind-is, kind-of, kind-most, kind-signs}
+use Rattle.armour_groups.specs.Kinds.{kindOf, kind-is, kind-of, kind-signs}
 
 -- r is what is left of the text of n bytes, where the line has k columns left
 pub record Sized (r : List ℕ) (k n : ℕ) : Type 0 where

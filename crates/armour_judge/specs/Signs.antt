@@ -5,21 +5,20 @@ use native.Mathlib.Omega.{arith}
 use mathlib.Core.Logic.{⊎-elim}
 use mathlib.Core.Path.{_≡_, refl, sym, ap, _∙_}
 use mathlib.Core.Bool.{Bool, true, false, cond, _&&_, false≢true}
-use mathlib.Core.List.{List, [], _∷_, _++_, append-assoc}
+use mathlib.Core.List.{List, [], _∷_, _++_}
 use borrow.Author.Tests.{ltb-true, ne-eqb, eqb-true, eqb-false}
 use lib.Dec.{eqb, ltb}
-use lib.ListN.{length, take, drop, getD, length-append, length-drop, length-take, take-append-drop}
+use lib.ListN.{length, take, drop, getD, length-drop, length-take, take-append-drop}
 use lib.Seq.{drop-drop, drop-at, drop-cons, take-all}
 use Rattle.fields.specs.Bytes.{ascii, sameBytes, same-true, same-self, not-as-long}
 use Rattle.armour_text.specs.Text.{lead, fewer, closing}
 use Rattle.armour_text.specs.Import.{strip}
-use Rattle.armour_judge.specs.declared.Past.{Past}
 use Rattle.armour_judge.specs.declared.Past.the-variants.{At, Nowhere}
 use Rattle.armour_judge.specs.declared.Sign.{Sign}
 use Rattle.armour_judge.specs.declared.Sign.the-variants as sign
 use Rattle.armour_judge.specs.declared.Group.{Group}
 use Rattle.armour_judge.specs.declared.Group.the-variants as group
-use Rattle.armour_judge.specs.Rest.{rest, Front, strip-front, above, Ended, rest-none, rest-byte, rest-last, rest-return, rest-feed}
+use Rattle.armour_judge.specs.Rest.{rest, strip-front, above, Ended, rest-none, rest-byte}
 
 -- ---- a line
 

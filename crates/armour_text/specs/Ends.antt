@@ -1,17 +1,15 @@
 -- The lines of a text: their ends, LF or CR LF, and the signs between them.
-use Prim.Native.Nat.{ℕ, zero, suc, _+_, _*_, _/_, _%_, _<_}
+use Prim.Native.Nat.{ℕ, zero, suc, _+_, _<_}
 use native.Mathlib.Omega.{arith}
-use mathlib.Core.Path.{_≡_, refl, sym, ap, _∙_}
+use mathlib.Core.Path.{_≡_, refl, ap}
 use mathlib.Core.Bool.{Bool, true, false, cond, _&&_, false≢true}
 use mathlib.Core.List.{List, [], _∷_, _++_}
-use borrow.Author.Tests.{eq-eqb, ne-eqb, eqb-true}
+use borrow.Author.Tests.{ne-eqb, eqb-true}
 use lib.Dec.{eqb}
 use lib.ListN.{take, drop}
-use Rattle.armour_signs.specs.Alphabet.{signOf}
-use Rattle.armour_signs.specs.Rule.{Inner}
 use Rattle.armour_text.specs.Base64.{pad, bitsOfBytes, signsOfBits, encode}
 use Rattle.armour_text.specs.Inverse.{sign-0, sign-1, sign-2, sign-3}
-use Rattle.armour_text.specs.Text.{opening, closing, last, wrap, text}
+use Rattle.armour_text.specs.Text.{opening, closing, wrap, text}
 use Rattle.armour_text.specs.Import.{feeds, strip, unwrap}
 
 -- ---- signs, `=` among them, are neither ends of lines nor `-`

@@ -3,10 +3,9 @@
 -- the bytes back.
 use Prim.Native.Nat.{ℕ}
 use mathlib.Core.Path.{_≡_, sym, _∙_}
-use mathlib.Core.Bool.{Bool, true, false}
+use mathlib.Core.Bool.{true}
 use mathlib.Core.List.{List}
-use Rattle.fields.specs.Bytes.{AllBytes, sameBytes, same-true, same-self}
-use Rattle.armour_text.specs.Base64.{loosely}
+use Rattle.fields.specs.Bytes.{AllBytes, same-true, same-self}
 use Rattle.armour_text.specs.Inverse.{loosely-encode, loosely-bytes}
 use Rattle.armour_text.specs.Text.{text}
 use Rattle.armour_text.specs.Import.{strip, carried, carries}

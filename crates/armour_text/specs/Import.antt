@@ -2,7 +2,7 @@
 -- else in the text is 2, then an image above the limit 11, then room 9. All of the text is judged before 11.
 --
 -- That a text is taken exactly if it is export's of some bytes with some of its line feeds made CR LF is `takes` and `takes-only` (Exactly).
-use Prim.Native.Nat.{ℕ, zero, suc}
+use Prim.Native.Nat.{ℕ}
 use mathlib.Core.Bool.{Bool, false, cond, _&&_}
 use mathlib.Core.List.{List, [], _∷_}
 use lib.Dec.{eqb}

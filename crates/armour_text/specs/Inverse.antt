@@ -1,17 +1,17 @@
 -- Reading loosely what was encoded gives the bytes back, and whatever is read loosely are bytes. Rests on the alphabet's rule and on the
 -- arithmetic of 24 bits.
-use Prim.Native.Nat.{ℕ, zero, suc, _+_, _*_, _/_, _%_, _<_}
+use Prim.Native.Nat.{ℕ, zero, suc, _+_, _/_, _%_, _<_}
 use native.Mathlib.Omega.{arith}
-use mathlib.Core.Path.{_≡_, refl, sym, ap, _∙_}
+use mathlib.Core.Path.{_≡_, refl, ap, _∙_}
 use mathlib.Core.Bool.{Bool, true, false, cond}
 use mathlib.Core.List.{List, [], _∷_, _++_}
-use borrow.Author.Tests.{eq-eqb, ne-eqb}
+use borrow.Author.Tests.{ne-eqb}
 use lib.Dec.{eqb}
-use lib.ListN.{take, getD}
+use lib.ListN.{take}
 use Rattle.fields.specs.Bytes.{AllBytes}
 use Rattle.armour_signs.specs.Alphabet.{signOf, valueOf}
 use Rattle.armour_signs.specs.Rule.{Inner, value-sign}
-use Rattle.armour_text.specs.Base64.{pad, bitsOfBytes, bitsOfValues, bytesOfBits, signsOfBits, bytesOfSigns, encode, loosely}
+use Rattle.armour_text.specs.Base64.{pad, bitsOfBytes, bitsOfValues, bytesOfBits, bytesOfSigns, encode, loosely}
 use Rattle.armour_text.specs.Groups.{groups-of, bytes-of}
 
 -- ---- the signs of 24 bits

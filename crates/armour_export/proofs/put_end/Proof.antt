@@ -1,5 +1,4 @@
 -- `armour_export::put_end` meets its contract: with a line feed before it or without, the closing line is put, and it fits.
-use native.Mathlib.Omega.{arith}
 use Rattle.armour_text.specs.Text.{closing}
 use Rattle.armour_export.specs.Stores.{put-sets}
 use Rattle.armour_export.specs.Whole.{last-none, last-feed}

@@ -1,7 +1,6 @@
 -- `armour_export::put_signs` meets its contract: the signs of the bytes before the next one are put.
 use native.Mathlib.Omega.{arith}
-use Prim.Native.Nat.{_+_, _-_, _≤_}
-use mathlib.Core.Path.{_≡_, refl}
+use Prim.Native.Nat.{_-_}
 use lib.ListN.{length}
 use Rattle.armour_export.specs.Stores.{Passes, Room, passes-none, passes-then, passes-last, passes-room}
 use Rattle.armour_export.proofs.put_signs.Statement.{statement}

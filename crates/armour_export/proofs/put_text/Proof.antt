@@ -1,5 +1,4 @@
 -- `armour_export::put_text` meets its contract: the opening line, the signs and the end, one after the other, are the text.
-use native.Mathlib.Omega.{arith}
 use mathlib.Core.Path.{refl, _∙_}
 use Rattle.armour_text.specs.Text.{opening}
 use Rattle.armour_export.specs.Whole.{signs-room, end-room, whole-text}

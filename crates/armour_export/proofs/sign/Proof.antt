@@ -3,7 +3,6 @@ use Rattle.armour_export.specs.Stores.{signs-length, sign-at}
 use mathlib.Core.Path.{ap, _∙_}
 use lib.ListN.{length}
 use native.Mathlib.Omega.{arith}
-use Rattle.armour_signs.specs.Alphabet.{signs, signOf}
 use Rattle.armour_export.proofs.sign.Statement.{statement}
 use Rattle.armour_export.proofs.sign.Tie as tie
 

@@ -1,6 +1,6 @@
 -- `armour_import::fill` meets its contract: two lines at a time, and then the rest.
 use native.Mathlib.Omega.{arith}
-use Prim.Native.Nat.{_+_, _-_, _≤_}
+use Prim.Native.Nat.{_-_, _≤_}
 use mathlib.Core.Path.{_≡_, refl, ap, _∙_}
 use lib.ListN.{length, drop}
 use lib.Seq.{sets, length-sets}

@@ -9,7 +9,6 @@ use Rattle.armour_text.specs.Exactly.{carried-bytes}
 use Rattle.armour_text.specs.Import.{carried}
 use Rattle.armour_import.specs.Fill.{Lines, ready, next-three, fill-three}
 use Rattle.armour_import.specs.FillTwo.{even-after}
-use borrow.Author.Needs.{needs}
 use Rattle.armour_import.proofs.fill_last.Statement.{statement}
 use Rattle.armour_import.proofs.fill_last.Tie as tie
 

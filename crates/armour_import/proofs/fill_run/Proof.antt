@@ -9,7 +9,6 @@ use Rattle.armour_text.specs.Base64.{bytesOfBits}
 use Rattle.armour_text.specs.Exactly.{carried-bytes}
 use Rattle.armour_text.specs.Import.{carried}
 use Rattle.armour_import.specs.FillTwo.{run-within, run-three}
-use borrow.Author.Needs.{needs}
 use Rattle.armour_import.proofs.fill_run.Statement.{statement}
 use Rattle.armour_import.proofs.fill_run.Tie as tie
 

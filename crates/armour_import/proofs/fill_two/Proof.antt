@@ -2,8 +2,8 @@
 use native.Mathlib.Omega.{arith}
 use mathlib.Core.Path.{_≡_, ap, _∙_}
 use Prim.Native.Nat.{_+_}
-use lib.ListN.{length, drop}
-use lib.Seq.{sets, length-sets}
+use lib.ListN.{length}
+use lib.Seq.{length-sets}
 use Rattle.armour_text.specs.Base64.{bytesOfBits}
 use Rattle.armour_text.specs.Exactly.{carried-bytes}
 use Rattle.armour_text.specs.Import.{carried}

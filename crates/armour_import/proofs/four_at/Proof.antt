@@ -1,14 +1,10 @@
 -- `armour_import::four_at` meets its contract: in their line, after its end, or two before it and two after it.
 use native.Mathlib.Omega.{arith}
-use Prim.Native.Nat.{ℕ, _<_, _≤_}
 use Rattle.armour_import.specs.Fill.{ready-four, four-in-line}
 use Rattle.armour_import.specs.FillTwo.{opened-feed, opened-within, opened-is, parted-within, parted-feed, parted-past, parted-is, two-columns}
 use borrow.Author.Needs.{needs}
 use Rattle.armour_import.proofs.four_at.Statement.{statement}
 use Rattle.armour_import.proofs.four_at.Tie as tie
-
-lt4 : {k : ℕ} → k < 4 → k < 4
-lt4 h = h
 
 shared-slice-read-t8 : tie.Need-shared-slice-read-t8
 shared-slice-read-t8 c = omega (arith, ready-four _ _ _ (c .before .before .before .pre .0) (c .before .if1 .taken) .0)
@@ -68,10 +64,10 @@ returns-2 : tie.Need-returns-2
 returns-2 c = rw (c .before .before .before .before .before .if2 .taken) (opened-is _ _ (rw (c .before .before .before .before .before .if2 .taken) at (c .before .before .before .before .before .before .before .before .pre .0)) _ (c .before .before .before .before .after-end .ensures))
 
 add-after-end : tie.Need-add-after-end
-add-after-end c = omega (arith, parted-within _ _ (rw (two-columns _ (lt4 (c .before .if1 .left)) (c .if2 .left) (c .before .before .before .pre .1)) at (c .before .before .before .pre .0)))
+add-after-end c = omega (arith, parted-within _ _ (rw (two-columns _ (c .before .if1 .left) (c .if2 .left) (c .before .before .before .pre .1)) at (c .before .before .before .pre .0)))
 
 after-end-requires-2 : tie.Need-after-end-requires-2
-after-end-requires-2 c κs = parted-feed _ _ (rw (two-columns _ (lt4 (c .before .if1 .left)) (c .if2 .left) (c .before .before .before .pre .1)) at (c .before .before .before .pre .0))
+after-end-requires-2 c κs = parted-feed _ _ (rw (two-columns _ (c .before .if1 .left) (c .if2 .left) (c .before .before .before .pre .1)) at (c .before .before .before .pre .0))
 
 shared-slice-read-t34 : tie.Need-shared-slice-read-t34
 shared-slice-read-t34 c = search needs
@@ -83,19 +79,19 @@ shared-slice-read-t36 : tie.Need-shared-slice-read-t36
 shared-slice-read-t36 c = search needs
 
 shared-slice-read-t38 : tie.Need-shared-slice-read-t38
-shared-slice-read-t38 c = omega (arith, parted-past _ _ (rw (two-columns _ (lt4 (c .before .before .before .before .before .if1 .left)) (c .before .before .before .before .if2 .left) (c .before .before .before .before .before .before .before .pre .1)) at (c .before .before .before .before .before .before .before .pre .0)) _ (c .before .before .before .after-end2 .ensures))
+shared-slice-read-t38 c = omega (arith, parted-past _ _ (rw (two-columns _ (c .before .before .before .before .before .if1 .left) (c .before .before .before .before .if2 .left) (c .before .before .before .before .before .before .before .pre .1)) at (c .before .before .before .before .before .before .before .pre .0)) _ (c .before .before .before .after-end2 .ensures))
 
 add-t39 : tie.Need-add-t39
 add-t39 c = search needs
 
 shared-slice-read-t41 : tie.Need-shared-slice-read-t41
-shared-slice-read-t41 c = omega (arith, parted-past _ _ (rw (two-columns _ (lt4 (c .before .before .before .before .before .before .if1 .left)) (c .before .before .before .before .before .if2 .left) (c .before .before .before .before .before .before .before .before .pre .1)) at (c .before .before .before .before .before .before .before .before .pre .0)) _ (c .before .before .before .before .after-end2 .ensures))
+shared-slice-read-t41 c = omega (arith, parted-past _ _ (rw (two-columns _ (c .before .before .before .before .before .before .if1 .left) (c .before .before .before .before .before .if2 .left) (c .before .before .before .before .before .before .before .before .pre .1)) at (c .before .before .before .before .before .before .before .before .pre .0)) _ (c .before .before .before .before .after-end2 .ensures))
 
 add-t42 : tie.Need-add-t42
 add-t42 c = search needs
 
 returns-3 : tie.Need-returns-3
-returns-3 c = rw (two-columns _ (lt4 (c .before .before .before .before .before .before .if1 .left)) (c .before .before .before .before .before .if2 .left) (c .before .before .before .before .before .before .before .before .pre .1)) (parted-is _ _ (rw (two-columns _ (lt4 (c .before .before .before .before .before .before .if1 .left)) (c .before .before .before .before .before .if2 .left) (c .before .before .before .before .before .before .before .before .pre .1)) at (c .before .before .before .before .before .before .before .before .pre .0)) _ (c .before .before .before .before .after-end2 .ensures))
+returns-3 c = rw (two-columns _ (c .before .before .before .before .before .before .if1 .left) (c .before .before .before .before .before .if2 .left) (c .before .before .before .before .before .before .before .before .pre .1)) (parted-is _ _ (rw (two-columns _ (c .before .before .before .before .before .before .if1 .left) (c .before .before .before .before .before .if2 .left) (c .before .before .before .before .before .before .before .before .pre .1)) at (c .before .before .before .before .before .before .before .before .pre .0)) _ (c .before .before .before .before .after-end2 .ensures))
 
 pub four-at-spec : {M : Type 1} → statement M
 four-at-spec =

@@ -1,9 +1,5 @@
 -- `armour_signs::value` meets its contract: the table has the value of every byte.
-use native.Mathlib.Omega.{arith}
-use Prim.Native.Nat.{_<_}
-use mathlib.Core.Path.{ap, _∙_}
-use lib.ListN.{length}
-use Rattle.armour_signs.specs.Rule.{values-length, value-at}
+use Rattle.armour_signs.specs.Rule.{value-at}
 use borrow.Author.Needs.{needs}
 use Rattle.armour_signs.proofs.value.Statement.{statement}
 use Rattle.armour_signs.proofs.value.Tie as tie
