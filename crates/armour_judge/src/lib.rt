@@ -31,7 +31,7 @@ enum Group {
     Missing,
 }
 
-// How many bytes a text carries, if it carries any.
+// How many bytes a text carries, or that it is the text of none.
 pub enum Judged {
     Count(usize),
     Bad,
@@ -145,6 +145,7 @@ fn are_groups(text: &[u8], at: usize, left: usize, n: usize) -> bool
     armour_signs::all_signs(text, at, 4 * n)
 }
 
+// Sixteen such groups, or none.
 fn first_run(text: &[u8], at: usize, left: usize) -> usize
     requires { ⌜ at ≤ length (now text) ⌝ }
     ensures { λ r. ⌜ Run (now (text .entry)) at left r ⌝ }
@@ -155,7 +156,7 @@ fn first_run(text: &[u8], at: usize, left: usize) -> usize
     0
 }
 
-// How many such groups: sixteen at once, if they stand there, and then one by one.
+// How many such groups: sixteen at once, if they stand there, and then one after the other.
 fn run_of(text: &[u8], at: usize, left: usize) -> usize
     requires { ⌜ at ≤ length (now text) ⌝ }
     ensures { λ r. ⌜ Run (now (text .entry)) at left r ⌝ }
