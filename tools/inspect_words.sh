@@ -20,7 +20,8 @@ refusal_in_words() {
     5) echo "refused with 5: the private key that begins at byte $3 belongs to another public key than the file's header." ;;
     6) echo "refused with 6: bytes are left over, $2 of them, from byte $3 on." ;;
     7) echo "refused with 7: the comment that begins at byte $3 isn't UTF-8." ;;
-    11) echo "refused with 11: the image has more than 65,535 bytes." ;;
+    11) echo "refused with 11: the image has more than 65,535 bytes, or its text is too long to be judged: a mebibyte or more," \
+        "with --any-armour above 262,212 bytes." ;;
     *) echo "refused with $1." ;;
     esac
     [ "$1" != 1 ] || [ "$3" = 0 ] || echo "If ssh-keygen reads the file, \`ssh-keygen -p -f COPY\` writes a copy of it anew," \

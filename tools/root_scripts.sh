@@ -22,7 +22,7 @@ need() {
 # PROGRAM..: rt's check, one at a time: two at once, as in a pipe of two scripts, spoil each other's proofs.
 check() {
     flock -w 5 "$root/crates.txt" true 2>/dev/null || say "another script is building: waiting for it"
-    cd "$root" && flock crates.txt rt check "$@" 2>&1 </dev/null || echo "$me: it was not built"
+    cd "$root" && flock -o crates.txt rt check "$@" 2>&1 </dev/null || echo "$me: it was not built"
 }
 
 # PROGRAM..: asks rt each time, so that no program answers that is older than its sources. Each crate that is proved anew is told.

@@ -196,6 +196,17 @@ static void line_ends(void)
     }
 }
 
+/* The six bytes that were taken give the text again. */
+static void gives_again(const text *taken)
+{
+    uint8_t six[6];
+    memcpy(six, lent, 6);
+    lend_junk();
+    memcpy(want + GUARD, taken->at, taken->length);
+    REPLY(saltorchard_export(six, 6, lent, LENT), 0, 0, 0, taken->length);
+    KEPT();
+}
+
 /* Of a text without "=" every byte is made every other: taken only as a sign where a sign was. */
 static void a_byte_changed(void)
 {
@@ -211,8 +222,11 @@ static void a_byte_changed(void)
             saltorchard_reply reply = saltorchard_import(other.at, other.length, lent, 6);
             int taken = other.at[at] == plain.at[at] || (is_sign && byte != 0 && strchr(SIGNS, byte) != NULL);
             CHECK(reply.number == (taken ? 0u : 2u) && reply.length == (taken ? 6u : 0u) && reply.count == 0 && reply.at == 0);
-            if (!taken)
-                KEPT();
+            if (taken)
+                memcpy(want + GUARD, lent, 6);
+            KEPT();
+            if (taken)
+                gives_again(&other);
         }
     }
 }

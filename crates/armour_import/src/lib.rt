@@ -191,7 +191,7 @@ fn fill_two(text: &[u8], at: usize, table: &[u8], o: usize, out: &mut [u8]) -> u
     q + 70
 }
 
-// The bytes from o on, of which fewer than 105 are left.
+// The bytes from `done` on; `fill` leaves fewer than 105 to it.
 fn fill_last(text: &[u8], from: usize, table: &[u8], done: usize, n: usize, out: &mut [u8])
     requires { ⌜ (now table ≡ values) × Body (now text) n × Lines (now text) (carried (now text)) done from 0 ⌝ }
     requires { ⌜ (done ≤ n) × (n ≤ length (now out)) ⌝ }

@@ -32,7 +32,7 @@ pub record Sized (r : List ℕ) (k n : ℕ) : Type 0 where
   pub lines : r ≡ wrap (encode bytes) k ++ closing
   pub size : length bytes ≡ n
 
--- it is that of no bytes
+-- it is that of no list of bytes, however long
 abbrev pub None : List ℕ → ℕ → Type 0
 None r k = (m : ℕ) → Sized r k m → ⊥
 

@@ -1,4 +1,4 @@
--- The judgement of a text: how many bytes it carries, if it carries any.
+-- The judgement of a text: how many bytes it carries, if it is that of some list of bytes.
 use Prim.Native.Nat.{ℕ}
 use mathlib.Core.Path.{_≡_, refl, sym, ap, _∙_}
 use mathlib.Core.Bool.{Bool, true, false, cond}

@@ -31,7 +31,7 @@ enum Group {
     Missing,
 }
 
-// How many bytes a text carries, or that it is the text of none.
+// How many bytes a text carries, or that it is no list's text.
 pub enum Judged {
     Count(usize),
     Bad,

@@ -10,7 +10,7 @@ use lib.ListN.{take, drop}
 use Rattle.armour_text.specs.Base64.{pad, bitsOfBytes, signsOfBits, encode}
 use Rattle.armour_text.specs.Inverse.{sign-0, sign-1, sign-2, sign-3}
 use Rattle.armour_text.specs.Text.{opening, closing, wrap, text}
-use Rattle.armour_text.specs.Import.{feeds, strip, unwrap}
+use Rattle.armour_text.specs.Import.{strip, unwrap}
 
 -- ---- signs, `=` among them, are neither ends of lines nor `-`
 
@@ -98,6 +98,11 @@ pub data CrLf : List ℕ → List ℕ → Type 0 where
   none : CrLf [] []
   same : (x : ℕ) (s t : List ℕ) → CrLf s t → CrLf (x ∷ s) (x ∷ t)
   crlf : (s t : List ℕ) → CrLf s t → CrLf (10 ∷ s) (13 ∷ 10 ∷ t)
+
+-- none of them
+pub crlf-same : (t : List ℕ) → CrLf t t
+crlf-same [] = none
+crlf-same (x ∷ t) = same x t t (crlf-same t)
 
 -- every text is that without its carriage returns before line feeds, with some line feeds made CR LF
 pub strip-crlf : (t : List ℕ) → CrLf (strip t) t

@@ -29,7 +29,7 @@ unfoldable pub unwrap : List ℕ → List ℕ
 unwrap [] = []
 unwrap (x ∷ t) = cond (eqb x 10) (unwrap t) (cond (eqb x 45) [] (x ∷ unwrap t))
 
--- the bytes that the text carries, if it carries any: those of the signs after the line that opens it, whose length is 36
+-- the bytes that the text carries, if it is that of some list of bytes: those of the signs after the line that opens it, whose length is 36
 unfoldable pub carried : List ℕ → List ℕ
 carried t = loosely (unwrap (drop 36 (strip t)))
 

@@ -1,7 +1,7 @@
 -- Document 02, request Eleven, of whatever answer meets the promise of export or of import (Refusals; of the functions themselves Entries).
--- Import after export gives the bytes back; export after import gives the text back with LF ends. Import answers a length exactly for the texts
--- that are export's of some bytes within the limit with some of their line feeds made CR LF, and 2 exactly for what is no such text of any
--- bytes, however many. So a text that carries more than the limit and is misspelled after it is 2.
+-- Import after export gives the bytes back; export after import gives the text back with LF ends. Import answers a length exactly where there
+-- is room for the bytes and the text is export's of some bytes within the limit with some of its line feeds made CR LF, and 2 exactly for what
+-- is no such text of any bytes, however many. So a text that carries more than the limit and is misspelled after it is 2.
 use Prim.Native.Nat.{ℕ, _+_, _≤_, _<_}
 use native.Mathlib.Omega.{arith}
 use mathlib.Core.Path.{_≡_, refl, sym, _∙_, ap}
@@ -19,7 +19,7 @@ use Rattle.writer_reply.specs.declared.Written.the-variants as written
 use Rattle.writer_reply.specs.Reply.{told, refused, sized, left, answers}
 use Rattle.armour_text.specs.Text.{text, exportReply, exportLeft}
 use Rattle.armour_text.specs.Import.{strip, carried, carries, importReply, importLeft}
-use Rattle.armour_text.specs.Ends.{CrLf, crlf-strip, text-no-return}
+use Rattle.armour_text.specs.Ends.{CrLf, noReturn, crlf-same, crlf-strip, text-no-return}
 use Rattle.armour_text.specs.Exactly.{takes, takes-only, import-export}
 use Rattle.claims.specs.Reading.{held, sized-held}
 use Rattle.claims.specs.Form.{sized-fits}
@@ -158,6 +158,10 @@ one-list t b d s u = sym (spelled-carried t b s) ∙ spelled-carried t d u
 
 pub one-text : (t b : List ℕ) → Spells t b → strip t ≡ text b
 one-text t b s = crlf-strip (text-no-return b) (s .1)
+
+-- so the one spelling with LF ends of a list of bytes is its text
+pub one-spelling : (t b : List ℕ) → noReturn t ≡ true → Spells t b → t ≡ text b
+one-spelling t b n s = sym (crlf-strip n (crlf-same t)) ∙ one-text t b s
 
 -- import of the bytes that export wrote
 pub import-after-export :

@@ -125,7 +125,7 @@ changedLength old n comment = onRead (readAt (take n old)) (λ g. 0) (λ f. leng
 abbrev pub exportConditions : List ℕ → ℕ → List Condition
 exportConditions b room = says (ltb 65535 (length b)) 11 ∷ says (ltb room (length (text b))) 9 ∷ []
 
--- a text that carries nothing 2; then, of what it carries, size 11; room 9
+-- what is the text of no list of bytes 2; then, of what it carries, size 11; room 9
 abbrev pub importConditions : List ℕ → ℕ → List Condition
 importConditions t room = says (not (carries t)) 2 ∷ sizes (carried t) room
 

@@ -1,6 +1,6 @@
 // Reads a text armour from standard input and writes the bytes that it carries to standard output. A refusal,
-// and why a read or a write failed, stands on standard error. A text of a mebibyte or more, ten times the
-// longest that is taken, is above the limit whatever it holds.
+// and why a read or a write failed, stands on standard error. A text of a mebibyte or more, which
+// is more than ten times the longest that is taken, is above the limit whatever it holds.
 ghost use mathlib.Core.Path.{_≡_};
 ghost use lib.ListN.{length};
 use fields::Fault;

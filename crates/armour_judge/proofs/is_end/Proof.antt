@@ -4,7 +4,6 @@ use Rattle.armour_judge.specs.Signs.{closes, end-no-line, end-other, end
 use mathlib.Core.Path.{_∙_, sym}
 use borrow.Author.Tests.{not-true, not-false}
 use native.Mathlib.Omega.{arith}
-use Rattle.armour_judge.specs.Signs.{closes, end-no-line, end-other, end-cut}
 use borrow.Author.Needs.{needs}
 use Rattle.armour_judge.proofs.is_end.Statement.{statement}
 use Rattle.armour_judge.proofs.is_end.Tie as tie

@@ -17,9 +17,9 @@ Inv-loop text from before at₀ left₀ n₀ at left n = (at ≤ length text) ×
 abbrev μ-loop : tie.MeasureT-loop
 μ-loop text from before at₀ left₀ n₀ at left n = length text - at
 
-pos : (n : ℕ) → (n ≡ 0 → ⊥) → 0 < n
-pos zero f = absurd (f refl)
-pos (suc n) f = omega arith
+above-zero : (n : ℕ) → (n ≡ 0 → ⊥) → 0 < n
+above-zero zero f = absurd (f refl)
+above-zero (suc n) f = omega arith
 
 is-three : {n : ℕ} → n ≤ 3 → 3 ≤ n → n ≡ 3
 is-three h k = omega arith
@@ -64,7 +64,7 @@ returns-3 : tie.Need-returns-3 Inv-loop μ-loop
 returns-3 c =
     let l = c .before .before .before .before .before .before .before .before .before .before .before .loop .inv in
     let k = c .before .before .before .before .kind .ensures in
-    rw k (body-last _ _ _ _ (l .2) (l .3) (rw (not-true (c .before .before .before .before .before .before .before .before .before .before .is-end .result) (c .before .before .before .before .before .before .before .before .before .if1 .taken)) at (c .before .before .before .before .before .before .before .before .before .before .is-end .ensures)) _ _ _ _ _ _ (rw (c .before .before .before .before .before .before .w .given .1) at (c .before .before .before .before .before .before .before .before .group-at .ensures)) (rw k at (pos _ (c .before .before .before .if2 .left))) (rw (c .if4 .taken) at (c .before .is-end2 .ensures)))
+    rw k (body-last _ _ _ _ (l .2) (l .3) (rw (not-true (c .before .before .before .before .before .before .before .before .before .before .is-end .result) (c .before .before .before .before .before .before .before .before .before .if1 .taken)) at (c .before .before .before .before .before .before .before .before .before .before .is-end .ensures)) _ _ _ _ _ _ (rw (c .before .before .before .before .before .before .w .given .1) at (c .before .before .before .before .before .before .before .before .group-at .ensures)) (rw k at (above-zero _ (c .before .before .before .if2 .left))) (rw (c .if4 .taken) at (c .before .is-end2 .ensures)))
 
 returns-4 : tie.Need-returns-4 Inv-loop μ-loop
 returns-4 c =
