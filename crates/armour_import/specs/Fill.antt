@@ -18,7 +18,8 @@ use Rattle.armour_text.specs.Text.{wrap, closing}
 use Rattle.armour_text.specs.Places.{at-next, drop-end, encode-three, encode-two, encode-one}
 use Rattle.armour_judge.specs.Rest.{rest, strip-front}
 use Rattle.armour_judge.specs.Signs.{four, after, FourAt}
-use Rattle.armour_judge.specs.Judge.{wrap-four, four-same, rest-four}
+use Rattle.armour_judge.specs.Sized.{wrap-four, four-same}
+use Rattle.armour_judge.specs.Runs.{rest-four}
 
 -- ---- four signs that are known to come next
 

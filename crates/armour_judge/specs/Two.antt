@@ -17,7 +17,8 @@ use Rattle.armour_judge.specs.declared.Past.{Past}
 use Rattle.armour_judge.specs.declared.Past.the-variants.{At, Nowhere}
 use Rattle.armour_judge.specs.Rest.{rest, rest-byte, Ended}
 use Rattle.armour_judge.specs.Signs.{four, after}
-use Rattle.armour_judge.specs.Judge.{Through, through-more, through-run, AllSigns, all-are, sign-below, rest-four}
+use Rattle.armour_judge.specs.Sized.{Through, through-more}
+use Rattle.armour_judge.specs.Runs.{through-run, AllSigns, all-are, sign-below, rest-four}
 
 -- as a line is tested
 pub line-tested : (t : List ℕ) (p : ℕ) (x : Bool) → x ≡ (leb (p + 70) (length t) && allSigns 70 t p) → x ≡ true → (p + 70 ≤ length t) × AllSigns t p 70

@@ -9,7 +9,9 @@ ghost use lib.ListN.{length};
 ghost use Rattle.armour_signs.specs.Alphabet.{allSigns};
 ghost use Rattle.armour_judge.specs.Rest.{rest, Ended};
 ghost use Rattle.armour_judge.specs.Signs.{stands, End, Signs, Groups};
-ghost use Rattle.armour_judge.specs.Judge.{Run, Through, Bodies};
+ghost use Rattle.armour_judge.specs.Sized.{Through};
+ghost use Rattle.armour_judge.specs.Runs.{Run};
+ghost use Rattle.armour_judge.specs.Judge.{Bodies};
 ghost use Rattle.armour_judge.specs.Two.{Pairs};
 ghost use Rattle.armour_judge.specs.Judgement.{judgeOf};
 

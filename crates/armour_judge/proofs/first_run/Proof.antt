@@ -1,7 +1,7 @@
 -- `armour_judge::first_run` meets its contract: sixteen groups, or none.
 use mathlib.Core.Path.{sym, _∙_}
 use native.Mathlib.Omega.{arith}
-use Rattle.armour_judge.specs.Judge.{run-none, run-tested}
+use Rattle.armour_judge.specs.Runs.{run-none, run-tested}
 use borrow.Author.Needs.{needs}
 use Rattle.armour_judge.proofs.first_run.Statement.{statement}
 use Rattle.armour_judge.proofs.first_run.Tie as tie

@@ -3,7 +3,7 @@ use native.Mathlib.Omega.{arith}
 use Prim.Native.Nat.{_-_, _≤_}
 use lib.ListN.{length}
 use Rattle.armour_judge.specs.Rest.{rest}
-use Rattle.armour_judge.specs.Judge.{Through, through-none}
+use Rattle.armour_judge.specs.Sized.{Through, through-none}
 use Rattle.armour_judge.specs.Two.{the-pair, pair-past, through-two}
 use borrow.Author.Needs.{needs}
 use Rattle.armour_judge.proofs.judge_lines.Statement.{statement}

@@ -7,7 +7,9 @@ use lib.ListN.{length}
 use borrow.Author.Needs.{needs}
 use Rattle.armour_judge.specs.Rest.{rest}
 use Rattle.armour_groups.specs.Kinds.{kind-most}
-use Rattle.armour_judge.specs.Judge.{Through, through-run, group-past, body-end, body-none, body-kind, body-last, body-not-last, body-more}
+use Rattle.armour_judge.specs.Sized.{Through}
+use Rattle.armour_judge.specs.Runs.{through-run}
+use Rattle.armour_judge.specs.Judge.{group-past, body-end, body-none, body-kind, body-last, body-not-last, body-more}
 use Rattle.armour_judge.proofs.judge_rest.Statement.{statement}
 use Rattle.armour_judge.proofs.judge_rest.Tie as tie
 

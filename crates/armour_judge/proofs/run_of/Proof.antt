@@ -2,7 +2,7 @@
 use Prim.Native.Nat.{_+_, _*_, _-_}
 use mathlib.Core.Path.{sym, _∙_}
 use native.Mathlib.Omega.{arith}
-use Rattle.armour_judge.specs.Judge.{Run, run-tested, run-then}
+use Rattle.armour_judge.specs.Runs.{Run, run-tested, run-then}
 use borrow.Author.Needs.{needs}
 use Rattle.armour_judge.proofs.run_of.Statement.{statement}
 use Rattle.armour_judge.proofs.run_of.Tie as tie
