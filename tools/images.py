@@ -3,10 +3,9 @@
 A field's content is its bytes, or the list of the fields within it. A field within another is named with a point
 between: 'section.scalar', 'options.salt'. The lengths follow the contents, unless a field is given a length of its own.
 """
-import copy
 import hashlib
 import pathlib
-from dataclasses import dataclass
+from dataclasses import dataclass, replace
 from typing import NamedTuple
 
 from fields import ALGORITHMS, CIPHERS, ED25519, MAGIC, SIZES
@@ -77,9 +76,14 @@ def place(fields, path):
     return spot(fields, path).start
 
 
+def copied(fields):
+    """New fields, at every depth, with the same contents."""
+    return [replace(field, content=copied(field.content) if isinstance(field.content, list) else field.content) for field in fields]
+
+
 def put(fields, path, content):
     """The same fields, but with this content in that one."""
-    fields = copy.deepcopy(fields)
+    fields = copied(fields)
     spot(fields, path).field.content = content
     return fields
 
@@ -92,14 +96,14 @@ def put_all(fields, contents):
 
 def put_length(fields, path, length):
     """The same fields, but with this length in front of that one."""
-    fields = copy.deepcopy(fields)
+    fields = copied(fields)
     spot(fields, path).field.length = length
     return fields
 
 
 def longer(fields, path, extra):
     """The same fields, but with the extra bytes at the end of that one, within it."""
-    fields = copy.deepcopy(fields)
+    fields = copied(fields)
     field = spot(fields, path).field
     if isinstance(field.content, list):
         field.content.append(Field("extra", extra, counted=False))

@@ -3,7 +3,6 @@
 sentences to what they must be. The texts are the model's. The gate runs it once all is built."""
 import os
 import random
-import shutil
 import subprocess
 import sys
 import tempfile
@@ -13,7 +12,7 @@ from fields import ED25519, LIMIT
 from images import join, plain
 from model_armour import BEGIN, END, accepted
 from model_armour import text_of as armoured
-from trying import IMAGE, ROOT, failing_reads, hold, lines_of, run, text_of, with_script, without, written
+from trying import IMAGE, ROOT, checked_already, failing_reads, hold, lines_of, run, text_of, with_script, without, written
 
 ARMOUR, DEARMOUR, INSPECT = (ROOT / name for name in ("armour", "dearmour", "inspect"))
 MEBIBYTE = 1 << 20
@@ -30,11 +29,6 @@ def refusal(number, name, what="standard input"):
 def hold_refused(what, script, given, number):
     status, out, err = run(script, given=given)
     hold(what, (status, out, err.startswith(refusal(number, script.name))), (1, b"", True))
-
-
-def checked_already(folder):
-    """A PATH whose rt answers a check at once: all is built, and the first calls have asked it."""
-    return with_script(folder, "rt", f'[ "$1" = check ] || exec {shutil.which("rt")} "$@"')["PATH"]
 
 
 # ---- ./armour and ./dearmour

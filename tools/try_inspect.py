@@ -22,7 +22,7 @@ import model
 from fields import ED25519
 from images import CORPUS, join, plain
 from model_armour import BEGIN, END
-from trying import IMAGE, ROOT, failing_reads, hold, lines_of, program, run, text_of, with_script, without, written
+from trying import IMAGE, ROOT, checked_already, failing_reads, hold, lines_of, program, run, text_of, with_script, without, written
 
 INSPECT = ROOT / "inspect"
 LONGEST_TEXT = 1_048_576  # as much as is looked at
@@ -241,12 +241,15 @@ def stale(folder):
 def main():
     hold("an empty input", ask()[:2], (1, "refused 1 0 0\n"))
     with tempfile.TemporaryDirectory() as folder:
+        path = os.environ["PATH"]
+        os.environ["PATH"] = checked_already(folder)
         reports(folder)
         usage(folder)
         several(folder)
         desk(folder)
         read_errors()
         bounded()
+        os.environ["PATH"] = path
         stale(folder)
         closed_input()
         nobody_else(folder)

@@ -70,6 +70,11 @@ def with_script(folder, name, body):
     return {**os.environ, "PATH": f"{path}:{os.environ['PATH']}"}
 
 
+def checked_already(folder):
+    """A PATH whose rt answers a check at once: all is built, and the first calls have asked it."""
+    return with_script(folder, "rt", f'[ "$1" = check ] || exec {shutil.which("rt")} "$@"')["PATH"]
+
+
 def without(folder, missing):
     """A PATH with what the scripts need, but for one command."""
     path = pathlib.Path(tempfile.mkdtemp(dir=folder))
