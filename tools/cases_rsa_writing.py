@@ -35,7 +35,7 @@ def size_of(key, c):
 
 
 def largest_comment(key):
-    return max(c for c in range(LIMIT - 10000, LIMIT) if size_of(key, c) <= LIMIT)
+    return next(c for c in range(LIMIT, 0, -1) if size_of(key, c) <= LIMIT)
 
 
 def image_of(key, checkint, comment):

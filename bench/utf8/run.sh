@@ -14,7 +14,17 @@ root=$(cd ../.. && pwd)
 made=$root/target/bench-utf8
 binutils=${SALTORCHARD_CC%gcc}
 
-# The check has no C name of its own. So it is proved anew in a folder of its own, under a function that only calls it.
+# What the project's own check has proved of utf8, where that was done. rt goes by it only if it is of the same files.
+take_proved() { # NAME
+    local kept
+    for kept in rlib/utf8.rlib stamp/utf8; do
+        [ -e "$root/target/$kept" ] || return 0
+        mkdir -p "$made/$1/target/${kept%/*}"
+        cp -r "$root/target/$kept" "$made/$1/target/$kept"
+    done
+}
+
+# The check has no C name of its own. So it is proved in a folder of its own, under a function that only calls it.
 prove() { # NAME: proves made/NAME/crates/utf8 and the function NAME over it, and leaves made/NAME/NAME.o
     mkdir -p "$made/$1/crates/$1/src"
     printf 'utf8:\n%s: utf8\n' "$1" >"$made/$1/crates.txt"
@@ -45,6 +55,7 @@ place() { # NAME: puts NAME_0, NAME_16, NAME_32 and NAME_48 into made/lib/libNAM
 rm -rf "$made"
 mkdir -p "$made/lib" "$made/utf8_now/crates"
 cp -r "$root/crates/utf8" "$made/utf8_now/crates/"
+take_proved utf8_now
 prove utf8_now
 place utf8_now
 if [ $# -eq 1 ] && [ "$1" != --check ]; then
