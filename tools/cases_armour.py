@@ -1,4 +1,4 @@
-"""Calls of export and import for each sentence of document 02's request Eleven, with the reply meant for each."""
+"""Calls of export and import for each sentence of docs/RULES.md, 14, with the reply meant for each."""
 import itertools
 
 from armoured import Case

@@ -1,4 +1,4 @@
-"""Calls of the encrypted writer for each sentence of document 01 on it, with the reply meant for each."""
+"""Calls of the encrypted writer for each condition of docs/RULES.md, 10.7, with the reply meant for each."""
 import itertools
 
 from calls import LARGE, Row, encrypted, filled, refuses, writes
@@ -184,7 +184,7 @@ def limit_calls():
 
 
 def conditions():
-    """The conditions in document 01's order: a name, the reply, and what brings it about."""
+    """The conditions in the rules' order: a name, the reply, and what brings it about."""
     yield "cipher none", refuses(3), lambda a: a.update(cipher=NONE)
     yield "KDF none with rounds", refuses(3), lambda a: a.update(kdf=NONE)
     yield "blob", refuses(6, 2), lambda a: a.update(blob=a["blob"] + b"\0\0")

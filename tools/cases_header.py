@@ -1,4 +1,4 @@
-"""One image or more for each sentence of document 01 on the container, steps 1 to 7, with the reply meant for it."""
+"""One image or more for each sentence of docs/RULES.md, 4, with the reply meant for it."""
 from fields import ALGORITHMS, CIPHER_NAMES, CIPHERS, CURVES, ED25519, KDFS, SIZES
 from images import Case, Field, accepted, bcrypt_options, curve_name, encrypted, join, longer, place, plain
 from images import other_curves, other_kinds, point_of, public_fields, put, put_all, put_length, refused, stream

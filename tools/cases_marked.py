@@ -1,4 +1,4 @@
-"""The marked examples of document 01 that are images, M1 to M15, where M14 is as document 02's request Five has it, and images
+"""The marked examples of docs/RULES.md, 17, that are images, M1 to M15, and images
 about as large as the limit."""
 import model
 from fields import ED25519, LIMIT, MAGIC

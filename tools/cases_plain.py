@@ -1,4 +1,4 @@
-"""Calls of the plain writer for each sentence of document 01 on it, and of document 02's request Five, with the reply meant for
+"""Calls of the plain writer for each condition of docs/RULES.md, 10.5, with the reply meant for
 each."""
 import itertools
 

@@ -1,4 +1,4 @@
-"""One image or more for each sentence of document 02's request Two on mpints and sizes, with the replies meant for it."""
+"""One image or more for each sentence of docs/RULES.md, 3.5 and 6.7, on mpints and sizes, with the replies meant for it."""
 import itertools
 
 from cases_halves import READ, answered_alike

@@ -1,4 +1,4 @@
-"""Calls of the plain writer for RSA keys, for each sentence of document 02's request Two on it, with the reply meant for each,
+"""Calls of the plain writer for RSA keys, for each condition of docs/RULES.md, 10.6, with the reply meant for each,
 and of the encrypted writer with RSA blobs."""
 import itertools
 

@@ -1,4 +1,4 @@
-"""ECDSA scalars by document 02's request Five, for each curve: strings of every length and first byte, every number of leading
+"""ECDSA scalars by docs/RULES.md, 6.5, for each curve: strings of every length and first byte, every number of leading
 zeros, zeros alone, a second fault beside the scalar, a section that ends in it, and images of the writer as it was before.
 
 P-256 has every combination; the larger curves have all of them at the borders, and between these one first byte in turn for each

@@ -1,4 +1,4 @@
-"""ECDSA scalars by document 02's request Five: images with short ones, with needless zeros and with a missing zero written again,
+"""ECDSA scalars by docs/RULES.md, 10.2 and 11.2: images with short ones, with needless zeros and with a missing zero written again,
 and their comments changed one after another, refusals among them; images of the writer as it was before."""
 from calls import LARGE, Row, change, filled, lent, refuses, rewrite, writes
 from cases_change import image_of, limit_rows, sequence

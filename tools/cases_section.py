@@ -1,5 +1,5 @@
-"""One image or more for each sentence of document 01 on the plain section and on keys, with the reply meant for it; of scalars, as
-document 02's request Five has them, cases_scalar.py has more."""
+"""One image or more for each sentence of docs/RULES.md, 5 and 6, with the reply meant for it; of scalars, as
+6.5 has them, cases_scalar.py has more."""
 import itertools
 
 from cases_header import FOREIGN_CURVES, FOREIGN_NAMES, near_misses, wrong_lengths

@@ -9,7 +9,7 @@ Without OpenSSH 9.2 its half is left out, and the script says so: the document s
 half is what it answered when oracle/answers.txt was made (stored_answers.py). The images are the same each time.
 Their keys are throw-away ones: the Ed25519 pair is RFC 8032's first test, the ECDSA scalars come from images.py, and
 what OpenSSH must have written itself is the corpus's, but for the one file below that has a cipher of OpenSSH's which
-document 01 lacks. Those of RSA keys are in differences_rsa.py.
+the rules lack. Those of RSA keys are in differences_rsa.py.
 """
 import base64
 import itertools
@@ -273,7 +273,7 @@ def said_by_openssh(image, passphrase):
     return "refuses" if blob_by_ssh_keygen(image, passphrase) is None else "reads"
 
 
-# The crate's errors by document 01's numbers; it has others, which that table hasn't.
+# The crate's errors by the numbers of docs/RULES.md, 2.1; it has others, which that table hasn't.
 ERRORS = {"1": "Length", "2": "FormatEncoding", "3": "Crypto", "4": "AlgorithmUnknown", "5": "PublicKey", "7": "CharacterEncoding"}
 
 

@@ -1,4 +1,4 @@
-"""Names, and how a field is read and written: the ground that model.py stands on, from document 01's 'Bytes of the container'."""
+"""Names, and how a field is read and written: the ground that model.py stands on, from docs/RULES.md, 3 and 4.9."""
 
 LIMIT = 65535
 MAGIC = b"openssh-key-v1\0"

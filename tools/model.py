@@ -1,4 +1,4 @@
-"""The reading rules of document 01, and of document 02's requests One to Five, once more, in plain Python: a second opinion.
+"""The reading rules of docs/RULES.md, 2 to 9, 11 and 13, once more, in plain Python: a second opinion.
 
 This file was written from these and from the readings recorded in docs/DECISIONS.md, and from no other code of
 this project. Nothing is proved here. It says what the reader, the form and the inspection program should answer, so

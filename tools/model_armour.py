@@ -1,4 +1,4 @@
-"""Document 02's request Eleven once more, in plain Python: a second opinion on the armour, the text form of an image.
+"""The rules of docs/RULES.md, 14, once more, in plain Python: a second opinion on the armour, the text form of an image.
 
 Like model.py, this was written from the document and the readings recorded in docs/DECISIONS.md, and from no other code of this
 project: RFC 4648's section 4 in its own words, bit by bit, and the lines one by one. Python's base64 is not asked here; what export

@@ -1,4 +1,4 @@
-"""The rules on keys, of document 01's 'Keys' and of document 02's requests Two and Five: how a blob's key and a section's keypair
+"""The rules on keys, docs/RULES.md, 6: how a blob's key and a section's keypair
 are read, and how they are written. Like model.py, whose part this is, it was written from the documents alone."""
 from fields import ALGORITHMS, CURVES, ED25519, RSA, SIZES, Refused, content, string
 from rsa import BLOB_NUMBERS, NUMBERS, bits_of, read_numbers

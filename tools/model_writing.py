@@ -1,4 +1,4 @@
-"""Document 01's writing rules, and those of document 02's requests Two and Five, once more, in plain Python: a second opinion on
+"""The writing rules of docs/RULES.md, 9.3, 10 and 12, once more, in plain Python: a second opinion on
 the writers, on records that are handed in, and on the comment change.
 
 Like model.py, this was written from the documents and the readings recorded in docs/DECISIONS.md, and from no other code of

@@ -1,4 +1,4 @@
-/* Puts armour on and takes it off by saltorchard.h, and holds replies and bytes to document 02's request Eleven: RFC 4648's vectors,
+/* Puts armour on and takes it off by saltorchard.h, and holds replies and bytes to docs/RULES.md, 14: RFC 4648's vectors,
  * every short length, the limit, line ends, each way to misspell a text, and what must stay of a lent buffer. A failed check is a line;
  * the last line counts the checks. */
 #include "saltorchard.h"

@@ -1,4 +1,4 @@
-//! Changes of an image's parts that the tests' damage doesn't make: those on which the crate's rules and document 01's differ.
+//! Changes of an image's parts that the tests' damage doesn't make: those on which the crate's rules and ours differ.
 
 use crate::support::images::{mpint, Draft, Key, RsaKey, ALGORITHMS};
 use crate::support::Rng;

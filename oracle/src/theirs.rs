@@ -9,7 +9,7 @@ use ssh_key::private::{EcdsaKeypair, KeypairData};
 use ssh_key::public::KeyData;
 use ssh_key::{Error, Kdf, PrivateKey};
 
-/// By document 01's table, or by its own name where the table has none.
+/// By the table of docs/RULES.md, 2.1, or by its own name where the table has none.
 fn refused(error: &Error) -> Answer {
     match error {
         Error::Encoding(EncodingError::Length) => Answer::refused(1),

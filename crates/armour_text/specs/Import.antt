@@ -1,5 +1,5 @@
--- Document 02, request Eleven: import takes LF or CR LF line ends, and only the spelling that export gives otherwise. Refusals: anything
--- else in the text is 2, then an image above the limit 11, then room 9. All of the text is judged before 11.
+-- docs/RULES.md, 14.3: import takes LF or CR LF line ends, and only the spelling that export gives otherwise. Refusals: anything else in
+-- the text is 2, then bytes above the limit 11, then room 9. All of the text is judged before 11.
 --
 -- That a text is taken exactly if it is export's of some bytes with some of its line feeds made CR LF is `takes` and `takes-only` (Exactly).
 use Prim.Native.Nat.{ℕ}

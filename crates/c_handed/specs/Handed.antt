@@ -1,4 +1,4 @@
--- Document 02, request One, over the C boundary: a half is handed in as the numbers of a `saltorchard_image`. They are a header's exactly if
+-- docs/RULES.md, 15.3: over the C boundary a half is handed in as the numbers of a `saltorchard_image`. They are a header's exactly if
 -- they are all the numbers of one (`half-own`, `half-numbers`); a code that names nothing, a full read's answer and a refusal's are none.
 use Prim.Native.Nat.{ℕ, _^_}
 use mathlib.Core.Bool.{Bool, cond, _&&_}

@@ -1,4 +1,4 @@
--- Document 02, request Eleven, of whatever answer meets the promise of export or of import (Refusals; of the functions themselves Entries).
+-- docs/RULES.md, 14, of whatever answer meets the promise of export or of import (Refusals; of the functions themselves Entries).
 -- Import after export gives the bytes back; export after import gives the text back with LF ends. Import answers a length exactly where there
 -- is room for the bytes and the text is export's of some bytes within the limit with some of its line feeds made CR LF, and 2 exactly for what
 -- is no such text of any bytes, however many. So a text that carries more than the limit and is misspelled after it is 2.

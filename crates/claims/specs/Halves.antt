@@ -1,5 +1,6 @@
--- Document 02, request One. The full read is the header read followed by the section read, with the same replies, for every input: as fields or
--- refusal, with the form, and in C's numbers. A half that isn't what an accepted header read of its image gives is 1, at 0. Step 7's 3 is the section's.
+-- docs/RULES.md, 8.2, 8.3 and 9.3. The full read is the header read followed by the section read, with the same replies, for every input: as
+-- fields or refusal, with the form, and in C's numbers. A half that isn't what an accepted header read of its image gives is 1, at 0. The 3 of a
+-- KDF without a cipher is the section's.
 use Prim.Native.Nat.{ℕ}
 use native.Mathlib.Omega.{arith}
 use mathlib.Core.Path.{_≡_, sym, _∙_, ap}

@@ -1,4 +1,4 @@
--- Document 01, 'Views', last sentence: an entry that is handed a record that isn't what an accepted read of its image gives replies 1
+-- docs/RULES.md, 9.3: an entry that is handed a record that isn't what an accepted read of its image gives replies 1
 -- before all else. So rewriting from a record is rewriting its image where the record is the read's, every field of it, and else 1, at 0,
 -- with every byte of the buffer as it was.
 use Prim.Native.Nat.{ℕ}

@@ -1,4 +1,4 @@
--- Document 02, request One: a header read never says more of the section than where it begins. If one image's header is accepted, and another of at most
+-- docs/RULES.md, 8.1: a header read never says more of the section than where it begins. If one image's header is accepted, and another of at most
 -- 65,535 bytes agrees with it up to the section's beginning, both get the same header.
 use Prim.Native.Nat.{ℕ, _+_, _≤_}
 use native.Mathlib.Omega.{arith}

@@ -1,7 +1,7 @@
--- Demand 1: Refusals, Entries, Ordered. Demand 2: Reading, Sealed, Form, Rewritten. Demand 3: Demand, from Change and Front; Sequence. The
--- two halves of a read: Halves, HeaderAlone. Scalars of any length: Scalars, NoScalars. Records handed in: Handed. What is printed: Printed.
--- Where a refusal is: Places, PlacesWritten. Armoured files: Armour. The marked examples: Marked. The paper's wrong programs: ShutOut,
--- ArmourShutOut. The others hold what these rest on.
+-- What docs/RULES.md, 16, asks for. Demand 1: Refusals, Entries, Ordered. Demand 2: Reading, Sealed, Form, Rewritten. Demand 3: Demand, from
+-- Change and Front; Sequence. The two halves of a read: Halves, HeaderAlone. Scalars of any length: Scalars, NoScalars. Records handed in:
+-- Handed. What is printed: Printed. Where a refusal is: Places, PlacesWritten. Armoured files: Armour. The marked examples: Marked. Wrong
+-- programs: ShutOut, ArmourShutOut. The others hold what these rest on.
 pub mod Reading
 pub mod Sealed
 pub mod Form

@@ -1,4 +1,4 @@
--- The paper's marked examples, M1 to M16, as one table under one claim: `marked`, M14 as document 02's request Five has it. What is
+-- docs/RULES.md, 17: the marked examples, M1 to M16, as one table under one claim: `marked`, M14 as request Five has it. What is
 -- written, and what is read, in the form or not, or refused for its scalar, holds for every key, checkint, comment and buffer of the row's
 -- kind. M1 to M4 are one image each.
 use Prim.Native.Nat.{ℕ, zero, suc, _+_, _-_, _≤_, _<_, _^_}

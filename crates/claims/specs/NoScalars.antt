@@ -1,4 +1,4 @@
--- Document 02, request Five: every plain image of an ECDSA key in which a string that isn't a scalar's stands as the scalar is refused for
+-- docs/RULES.md, 6.5: every plain image of an ECDSA key in which a string that isn't a scalar's stands as the scalar is refused for
 -- it, at the scalar's field or at the first byte too many, whatever point, checkint and comment it has; on every curve by one proof.
 -- `other-scalars` (Marked) has such images.
 use Prim.Native.Nat.{ℕ, _+_, _*_, _-_, _%_, _≤_, _<_, _^_}

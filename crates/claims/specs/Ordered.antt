@@ -1,5 +1,5 @@
--- Document 01, 'Writing', and document 02, requests Two, Five and Eleven: the conditions of the writers, of the comment change, of export and of import, as lists in the
--- paper's order, each with its number. The reply is the first that holds, for every input; where none does it is 0 0 0 and the length.
+-- docs/RULES.md, 10.5 to 10.7, 12.1, 14.2 and 14.3: the conditions of the writers, of the comment change, of export and of import, as lists in
+-- the rules' order, each with its number. The reply is the first that holds, for every input; where none does it is 0 0 0 and the length.
 use Prim.Native.Nat.{ℕ, _%_}
 use mathlib.Core.Path.{_≡_, refl, sym, _∙_, ap}
 use mathlib.Core.Bool.{Bool, true, false, cond, not, _&&_, _||_}

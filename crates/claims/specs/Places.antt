@@ -1,4 +1,4 @@
--- Document 02, request Three, of every image that is refused. The place is within the image or at its end. A refusal about the whole image gives
+-- docs/RULES.md, 7, of every image that is refused. The place is within the image or at its end. A refusal about the whole image gives
 -- its first byte, any other a byte after the magic. All that read hand the reader's refusal up as it is, the place unchanged.
 use Prim.Native.Nat.{ℕ, _≤_}
 use native.Mathlib.Omega.{arith}

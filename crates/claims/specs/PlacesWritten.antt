@@ -1,4 +1,4 @@
--- Document 02, request Three, of every entry that takes a lent buffer, and whatever answer meets its promise: a writer's refusal is at 0, and so
+-- docs/RULES.md, 7.3 to 7.5, of every entry that takes a lent buffer, and whatever answer meets its promise: a writer's refusal is at 0, and so
 -- are export's and import's; a rewrite's and a comment change's is where the reader refused, a new comment's 7 is at the old comment's field, and what
 -- is about the whole image is at 0. An answer that refuses nothing gives 0 too.
 use Prim.Native.Nat.{ℕ, _-_, _%_, _≤_}

@@ -1,4 +1,4 @@
--- Document 01, 'Views and the inspection program': the program prints no private byte. What it prints of every image: of an accepted one its
+-- docs/RULES.md, 13: the program prints no private byte. What it prints of every image: of an accepted one its
 -- kind, its names, its lengths and its form, of a refused one number, count and place. Accepted images that are alike in these have the same
 -- report, whatever their private bytes. (The lengths of a plain ECDSA image tell how many bytes its scalar's string has; in the form the
 -- scalar has as many, or one fewer and then a first byte of 0x80 or more.) Of a refused image no more is said than `report-refused`: its
@@ -132,7 +132,7 @@ oven7-text : utf8 (ascii "oven7") ≡ true
 unfolding utf8 utf8From UTF8-char
 oven7-text = refl
 
--- the paper's example: an Ed25519 image with comment `oven7`, whatever the key and the checkint
+-- the rules' example: an Ed25519 image with comment `oven7`, whatever the key and the checkint
 pub oven7-report :
     (n : ℕ) (point seed : List ℕ) → n < 2 ^ 32 → length point ≡ 32 → length seed ≡ 32
     → reportOf (writtenImage n (OnCurve Ed25519) (ofPoint point) (ofScalar seed) (ascii "oven7"))

@@ -1,4 +1,4 @@
--- Document 02, request Two: the bits that a record tells are those of its modulus, which of an accepted RSA image has 1,024 to 8,192. They are the
+-- docs/RULES.md, 6.7 and 6.8: the bits that a record tells are those of its modulus, which of an accepted RSA image has 1,024 to 8,192. They are the
 -- number's own: it is below 2 to the power of its bits, and not below half of that.
 use Prim.Native.Nat.{ℕ, _+_, _-_, _≤_, _<_, _^_}
 use native.Mathlib.Omega.{arith}

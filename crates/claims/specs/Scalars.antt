@@ -1,4 +1,4 @@
--- Document 02, request Five: short scalars, on every curve by one proof for any SIZE. Which bytes may be a scalar's string, what is read of
+-- docs/RULES.md, 6.5 and 10.2: short scalars, on every curve by one proof for any SIZE. Which bytes may be a scalar's string, what is read of
 -- them and which are in the form; what the writer makes of a scalar; that files of the old writer, which kept leading zeros, are read.
 use Prim.Native.Nat.{ℕ, zero, suc, _+_, _-_, _≤_, _<_, _^_}
 use native.Mathlib.Omega.{arith}

@@ -1,4 +1,4 @@
--- Document 01, 'Writing', the comment change, given a buffer, the image's length n and the comment. Order: n above 65,535: 11; n
+-- docs/RULES.md, 12: the comment change, given a buffer, the image's length n and the comment. Order: n above 65,535: 11; n
 -- above the buffer's length: 1; the reader's refusals; encrypted: 8; not the writer's form: 10; comment 7; size 11; room 9.
 use Prim.Native.Nat.{ℕ, _-_}
 use mathlib.Core.Bool.{cond}

@@ -1,4 +1,4 @@
--- Document 01, 'Bytes of the container', first paragraph: what reading a field at a place of an image finds.
+-- docs/RULES.md, 3.1 to 3.4, and 7.1: what reading a field at a place of an image finds.
 --
 -- A uint32 is big-endian; a string is a uint32 length and that many bytes. If fewer bytes remain in the enclosing part than the
 -- length says: 1. A field of fixed length k with string length L: L < k gives 1, L > k gives 6 with count L - k. A field begins

@@ -1,4 +1,4 @@
--- Document 01, 'Reply numbers': the number of each refusal, and the count that only number 6 carries.
+-- docs/RULES.md, 2.1 and 2.2: the number of each refusal, and the count that only number 6 carries.
 use Prim.Native.Nat.{ℕ}
 use Rattle.fields.specs.declared.Refusal.{Refusal}
 use Rattle.fields.specs.declared.Refusal.the-variants.{Length, FormatEncoding, Crypto, AlgorithmUnknown, PublicKey, TrailingData, CharacterEncoding, Encrypted, Room, Form, Size}

@@ -25,7 +25,7 @@ pub enum Refusal {
 }
 
 impl Refusal {
-    // The paper's number.
+    // The rules' number.
     pub fn number(self) -> u8
         ensures { λ r. ⌜ r ≡ numberOf self ⌝ }
     {

@@ -1,6 +1,5 @@
--- The container as a list of fields joined: OpenSSH's PROTOCOL.key, document 01's 'Bytes of the container', 'Plain section' and
--- 'Keys', and document 02's requests Two and Five. How many zeros stand before a scalar is a parameter, so that each of its readable forms
--- is written here.
+-- docs/RULES.md, 4 to 6, and OpenSSH's PROTOCOL.key: the container as a list of fields joined. How many zeros stand before a scalar is a
+-- parameter, so that each of its readable forms is written here; what the writer puts there is 10.2.
 use Prim.Native.Nat.{ℕ, _+_, _-_, _*_, _%_, _≤_, _<_, _^_}
 use mathlib.Core.Path.{_≡_}
 use mathlib.Core.Bool.{Bool, true, false}

@@ -1,2 +1,2 @@
-// The container's bytes from its fields, as PROTOCOL.key and document 01 write them: definitions and
+// The container's bytes from its fields, as PROTOCOL.key and docs/RULES.md have them: definitions and
 // laws only, in specs/.

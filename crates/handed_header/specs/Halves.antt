@@ -1,4 +1,4 @@
--- Document 01, 'Views', and document 02, request One: an entry that is handed the first half of a record that isn't what an accepted
+-- docs/RULES.md, 9.3: an entry that is handed the first half of a record that isn't what an accepted
 -- header read of its image gives replies 1 before all else. So every field is compared: names, rounds, bits and every place.
 use Prim.Native.Nat.{ℕ}
 use mathlib.Core.Path.{_≡_, refl, sym, _∙_, ap, ap₂}

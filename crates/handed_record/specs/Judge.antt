@@ -1,4 +1,4 @@
--- Document 01, 'Views': any entry that is handed a record that isn't what an accepted read of its image gives replies 1 before all
+-- docs/RULES.md, 9.3: any entry that is handed a record that isn't what an accepted read of its image gives replies 1 before all
 -- else. So every field is compared: kind, checkint, rounds, padding and every place included.
 use Prim.Native.Nat.{ℕ}
 use mathlib.Core.Path.{_≡_, refl, sym, _∙_, ap}

@@ -1,4 +1,4 @@
--- Document 01, 'Views and the inspection program': its examples, and the limit for every input.
+-- docs/RULES.md, 13.2 and 13.3: the program's examples, and the limit for every input.
 use Prim.Native.Nat.{ℕ, _<_}
 use Prim.Native.String.{String}
 use mathlib.Core.Path.{_≡_, refl}

@@ -1,7 +1,6 @@
--- Document 01, 'Views and the inspection program': the program reads standard input and prints no private byte. What it prints of an
--- image is its summary in lines; what the summary holds is its kind, its names, its lengths and its form, or the refusal. Document 02,
--- request Two: the program shows the modulus size as a line `bits N` after `algorithm`; request Three: it prints the byte at which the
--- failing field began as a third number.
+-- docs/RULES.md, 13: the program reads standard input and prints no private byte. What it prints of an image is its summary in lines; what
+-- the summary holds is its kind, its names, its lengths and its form, or the refusal. Of RSA the modulus's size is a line `bits N` after
+-- `algorithm`; of a refusal the byte at which the failing field began is the third number.
 use Prim.Native.Nat.{ℕ, _≤_}
 use mathlib.Core.Bool.{Bool, true, false}
 use mathlib.Core.List.{List, [], _∷_, _++_}

@@ -1,10 +1,8 @@
--- Document 01, 'Writing', first paragraph: key material for a new image, and its checkint.
+-- docs/RULES.md, 10.1, 10.4 and 10.9: key material for a new image, and its checkint.
 --
 -- Key material for a new image is one value with room for 133 public and 66 private bytes and their lengths. The checkint is the
 -- given one, or, where none is given, the xor of the big-endian 4-byte groups of the private bytes (seed or SIZE bytes), a shorter
--- rest ignored.
---
--- Document 02, request Five: the scalar of a record has no leading zeros, and is filled with zeros in front for its material.
+-- rest ignored. The scalar of a record has no leading zeros, and is filled with zeros in front for its material.
 use Prim.Native.Nat.{ℕ, _-_}
 use mathlib.Core.List.{List, [], _∷_}
 use lib.Bits.{bitXor}

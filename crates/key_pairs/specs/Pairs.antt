@@ -1,4 +1,4 @@
--- Document 01, 'Keys', in a section, and document 02, requests Two and Five: what reading a scalar and a keypair finds, in its order.
+-- docs/RULES.md, 6, in a section: what reading a scalar and a keypair finds, in its order.
 use Prim.Native.Nat.{ℕ, _+_, _-_}
 use mathlib.Core.List.{List}
 use mathlib.Core.Bool.{Bool, cond, _&&_, _||_}

@@ -1,6 +1,6 @@
--- Document 02, request Two: blob mpint e, mpint n; section mpint n, e, d, iqmp, p, q. The modulus has 1,024 to 8,192 bits, every other number
--- at most as many as that modulus. A size outside the range is 1, once all numbers of that blob or keypair are read, and belongs to the
--- first such number.
+-- docs/RULES.md, 6.6, 6.7 and 7.2: blob mpint e, mpint n; section mpint n, e, d, iqmp, p, q. The modulus has 1,024 to 8,192 bits, every other
+-- number at most as many as that modulus. A size outside the range is 1, once all numbers of that blob or keypair are read, and belongs to
+-- the first such number.
 use Prim.Native.Nat.{ℕ, _-_}
 use mathlib.Core.List.{List, [], _∷_}
 use mathlib.Core.Bool.{cond}

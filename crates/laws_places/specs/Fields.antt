@@ -1,4 +1,4 @@
--- Document 02, request Three: every field read says at which byte of the image the failing field began. For uint32, bytes, string, fixed
+-- docs/RULES.md, 7.1 and 7.5: every field read says at which byte of the image the failing field began. For uint32, bytes, string, fixed
 -- field and end that place lies in what was to be read, or at its end; and what is read moves on within it.
 use Prim.Native.Nat.{ℕ, _+_, _-_, _≤_}
 use native.Mathlib.Omega.{arith}

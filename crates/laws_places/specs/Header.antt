@@ -1,4 +1,4 @@
--- Document 02, request Three: where a header refuses. The size and the magic are about the whole image and give its first byte; the place of
+-- docs/RULES.md, 7.3 and 7.5: where a header refuses. The size and the magic are about the whole image and give its first byte; the place of
 -- any other refusal lies after the magic, and no further than the image's end.
 use Prim.Native.Nat.{ℕ, _+_, _≤_, _<_}
 use native.Mathlib.Omega.{arith}

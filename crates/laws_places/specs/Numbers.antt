@@ -1,4 +1,4 @@
--- Document 02, requests Two and Three: where RSA's numbers refuse. An mpint's own refusal is at its field, a size's at the field of the
+-- docs/RULES.md, 7.2 and 7.5: where RSA's numbers refuse. An mpint's own refusal is at its field, a size's at the field of the
 -- number that it belongs to; both lie in the blob or the section that is read.
 use Prim.Native.Nat.{ℕ, _+_, _≤_}
 use native.Mathlib.Omega.{arith}

@@ -1,4 +1,4 @@
--- Document 02, request Three: where a read refuses. About the whole image: its first byte; else after the magic, and no further than the image's
+-- docs/RULES.md, 7.3 and 7.5: where a read refuses. About the whole image: its first byte; else after the magic, and no further than the image's
 -- end. The comment's field of an image that is read begins no further on either.
 use Prim.Native.Nat.{ℕ, _+_, _-_, _≤_}
 use native.Mathlib.Omega.{arith}

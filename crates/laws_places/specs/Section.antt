@@ -1,4 +1,4 @@
--- Document 02, request Three: where a section refuses, plain or encrypted. The place lies in what is read, or at its end. The comment's
+-- docs/RULES.md, 7.5: where a section refuses, plain or encrypted. The place lies in what is read, or at its end. The comment's
 -- field of a section that is read begins no later than that end.
 use Prim.Native.Nat.{ℕ, _-_, _%_, _≤_}
 use native.Mathlib.Omega.{arith}

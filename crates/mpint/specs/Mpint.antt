@@ -3,10 +3,9 @@
 -- be set for a positive number, the number MUST be preceded by a zero byte. Unnecessary leading bytes with the value 0 or 255 MUST NOT be
 -- included. The value zero MUST be stored as a string with zero bytes of data.'
 --
--- Document 02, request Two: an mpint here must be positive and minimal; an empty, negative or non-minimal one is 2 where it is read. The
+-- docs/RULES.md, 3.5: an mpint here must be positive and minimal; an empty, negative or non-minimal one is 2 where it is read. 6.7 and 6.8: the
 -- modulus has 1,024 to 8,192 bits, every other number at most as many as that modulus; bits of a number are those without leading zero bits.
---
--- Document 02, request Five, has a scalar's bytes without leading zeros.
+-- 9.1 has a scalar's bytes without leading zeros.
 use Prim.Native.Nat.{ℕ, zero, suc, _+_, _-_, _*_}
 use mathlib.Core.Bool.{Bool, false, cond, _&&_, not}
 use mathlib.Core.List.{List, [], _∷_}

@@ -1,4 +1,4 @@
--- Document 01, 'Keys', and document 02, request Two: the algorithms' and curves' names, and each curve's SIZE.
+-- docs/RULES.md, 6.1 and 6.3: the algorithms' and curves' names, and each curve's SIZE.
 use Prim.Native.Nat.{ℕ, zero, suc, _<_, _^_}
 use native.Mathlib.Omega.{arith}
 use mathlib.Core.Path.{_≡_, refl, sym, _∙_, ap}

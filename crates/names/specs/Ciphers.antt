@@ -1,5 +1,4 @@
--- Document 01, 'Bytes of the container', steps 2 and 3 and the last paragraph: the ciphers' names, block sizes and tag lengths,
--- and the KDFs' names.
+-- docs/RULES.md, 4.3, 4.4 and 4.9: the ciphers' names, block sizes and tag lengths, and the KDFs' names.
 use Prim.Native.Nat.{ℕ, _≤_, _<_, _^_}
 use native.Mathlib.Omega.{arith}
 use mathlib.Core.Path.{_≡_, refl}

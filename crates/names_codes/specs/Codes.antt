@@ -1,5 +1,5 @@
--- The C interface's codes: algorithm 0 Ed25519, 1 P-256, 2 P-384, 3 P-521, 4 RSA; KDF 0 none, 1 bcrypt; ciphers 0 to 9 in document 01's
--- order. Any other number names nothing.
+-- docs/RULES.md, 15.1: the C interface's codes: algorithm 0 Ed25519, 1 P-256, 2 P-384, 3 P-521, 4 RSA; KDF 0 none, 1 bcrypt; ciphers 0 to 9
+-- in the order of 4.9. Any other number names nothing.
 use Prim.Native.Nat.{ℕ}
 use mathlib.Core.Path.{_≡_, refl, sym, _∙_, ap}
 use mathlib.Core.Bool.{cond}

@@ -1,5 +1,5 @@
--- Document 01, 'Bytes of the container', the order of reading up to and with step 5: what reading the header finds. Document 02, request
--- One: a header read ends after the public blob, and of the section it says where it begins and no more.
+-- docs/RULES.md, 4.1 to 4.6 and 8.1: what reading the header finds. It ends after the public blob, and of the section it says where it
+-- begins and no more.
 use Prim.Native.Nat.{ℕ}
 use mathlib.Core.Path.{_≡_}
 use mathlib.Core.List.{List}
@@ -139,7 +139,7 @@ headerAt s =
       section = g .at;
     })))))
 
--- ---- the paper's reply to a header read
+-- ---- the rules' reply to a header read
 
 -- the half of a refused image: no place, no number; names are the first of theirs
 abbrev pub noHeader : Header
@@ -169,6 +169,6 @@ toldHeader r =
     (λ f. record { number = numberOf (f .why); count = countOf (f .why); at = f .at; header = noHeader })
     (λ h. record { number = 0; count = 0; at = 0; header = h })
 
--- the promise of a header read: it answers this, which is this in the paper's numbers
+-- the promise of a header read: it answers this, which is this in the rules' numbers
 abbrev pub answersHeader : List ℕ → HeaderRead → Type 0
 answersHeader s r = (r ≡ headerAt s) × (toldHeader r ≡ toldHeader (headerAt s))

@@ -1,5 +1,5 @@
--- Document 01, 'Bytes of the container', steps 6 and 7: the section that goes on from a header. Document 02, request One: the full read
--- is the header read followed by the section's, and a section read of its own is handed a half. Request Five: a scalar is filled with zeros.
+-- docs/RULES.md, 4.7, 4.8, 8.2 and 8.3: the section that goes on from a header. The full read is the header read followed by the section's,
+-- and a section read of its own is handed a half (9.3). 10.9: a scalar is filled with zeros.
 use Prim.Native.Nat.{ℕ, _+_}
 use mathlib.Core.Path.{_≡_}
 use mathlib.Core.List.{List}
@@ -66,7 +66,7 @@ privateIn s f = privateBytes s (f .section .private)
 abbrev pub materialIn : List ℕ → Fields → PrivateBytes
 materialIn s f = filled (f .header .algorithm) (privateIn s f)
 
--- ---- the paper's reply to a read
+-- ---- the rules' reply to a read
 
 -- the record of a refused image: no place, no number; kind and names are the first of theirs
 abbrev pub noFields : Fields
@@ -99,7 +99,7 @@ toldRead r =
     (λ f. record { number = numberOf (f .why); count = countOf (f .why); at = f .at; fields = noFields })
     (λ x. record { number = 0; count = 0; at = 0; fields = x })
 
--- the promise of a read: it answers this, which is this in the paper's numbers
+-- the promise of a read: it answers this, which is this in the rules' numbers
 abbrev answersThis : ImageRead → ImageRead → Type 0
 answersThis w r = (r ≡ w) × (toldRead r ≡ toldRead w)
 

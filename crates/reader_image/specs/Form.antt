@@ -1,5 +1,5 @@
--- Document 01, 'Writing': an image is in the writer's form if writing its record with its own checkint gives it back. Document 02, request
--- Five: the writer gives the minimal mpint, and the form follows from that.
+-- docs/RULES.md, 11.1: an image is in the writer's form if writing its record with its own checkint gives it back. The writer gives the
+-- minimal mpint (10.2), and the form follows from that.
 use Prim.Native.Nat.{ℕ}
 use mathlib.Core.Path.{_≡_}
 use mathlib.Core.Bool.{Bool, true, false}
@@ -49,7 +49,7 @@ formReadAt s = withForm s (readAt s)
 unfoldable pub sectionFormAt : List ℕ → Header → FormRead
 sectionFormAt s half = withForm s (sectionReadAt s half)
 
--- the paper's reply, and whether the image is in the form
+-- the rules' reply, and whether the image is in the form
 abbrev pub onForm : {R : Type 0} → FormRead → (Fault → R) → (Fields → Bool → R) → R
 onForm (form-read.Refused f) refused accepted = refused f
 onForm (form-read.Record x form) refused accepted = accepted x form

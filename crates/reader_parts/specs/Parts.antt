@@ -1,4 +1,4 @@
--- Document 01, 'Views and the inspection program': a record's fields are looked up in the lent image. Where each part of a record is: blob,
+-- docs/RULES.md, 9.1 and 9.2: a record's fields are looked up in the lent image. Where each part of a record is: blob,
 -- point, salt, scalar, comment, ciphertext and tag, and of an RSA key its six numbers. A part that the record lacks has no bytes.
 use Rattle.fields.specs.declared.Part.{Part}
 use Rattle.reader_image.specs.declared.Fields.{Fields}

@@ -1,5 +1,4 @@
--- Document 01, 'Bytes of the container', steps 6 and 7, and 'Plain section, in order': what reading the section finds. Document 02, request
--- Two: RSA keys are compared by n and e.
+-- docs/RULES.md, 4.7, 4.8 and 5: what reading the section finds. RSA keys are compared by n and e.
 use Prim.Native.Nat.{ℕ, _-_, _%_}
 use mathlib.Core.List.{List}
 use mathlib.Core.Bool.{Bool, cond, _&&_}

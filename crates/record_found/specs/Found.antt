@@ -1,4 +1,4 @@
--- Document 01, 'Reply numbers': each refusal returns its number, a count that is 0 except for number 6, and an empty record, over no
+-- docs/RULES.md, 2.2: each refusal returns its number, a count that is 0 except for number 6, and an empty record, over no
 -- bytes and with no field.
 use Prim.Native.Nat.{ℕ}
 use mathlib.Core.Path.{_≡_, refl}

@@ -1,4 +1,4 @@
-// What reading an image, its header or its section finds, in the paper's numbers, with no reference in it,
+// What reading an image, its header or its section finds, in the rules' numbers, with no reference in it,
 // and the bytes that a record or a half of it holds.
 ghost use mathlib.Core.Path.{_≡_};
 ghost use Rattle.fields.specs.Fields.{absent, isView};

@@ -1,6 +1,5 @@
--- Document 01, 'Reply numbers' and 'Views': what a read replies. A record holds the lent image itself: an accepted one's image is the
--- lent one, in its bytes and by its pointer; a refused one's has no bytes. So does a section read's record, and a header
--- (document 02, request One).
+-- docs/RULES.md, 2.2 and 9.1: what a read replies. A record holds the lent image itself: an accepted one's image is the
+-- lent one, in its bytes and by its pointer; a refused one's has no bytes. So does a section read's record, and a header (8).
 use Prim.Native.Nat.{ℕ}
 use mathlib.Core.Path.{_≡_, sym, _∙_}
 use mathlib.Core.List.{List}

@@ -1,6 +1,5 @@
--- The C interface: what its functions reply and leave, over document 01's definitions. A code that names nothing is 4, before all else;
--- in a header half (document 02, request One) it is a forged one's, 1. RSA (request Two) has a writer of its own, so to the other plain
--- writer its code names nothing.
+-- docs/RULES.md, 15: the C interface, what its functions reply and leave. A code that names nothing is 4, before all else; in a header half
+-- it is a forged one's, 1. RSA has a writer of its own, so to the other plain writer its code names nothing.
 use Prim.Native.Nat.{ℕ}
 use mathlib.Core.Path.{_≡_, _∙_, ap}
 use mathlib.Core.Bool.{cond}

@@ -1,5 +1,5 @@
--- Document 01, 'Writing': writing an image's record, with its own checkint where it is plain; and 'Views': a record handed in that isn't
--- what an accepted read of its image gives replies 1 before all else. Document 02, request Five: a record's scalar is filled to SIZE.
+-- docs/RULES.md, 10.9: writing an image's record, with its own checkint where it is plain, its scalar filled to SIZE; and 9.3: a record
+-- handed in that isn't what an accepted read of its image gives replies 1 before all else.
 use Prim.Native.Nat.{ℕ}
 use mathlib.Core.Bool.{cond}
 use mathlib.Core.List.{List}

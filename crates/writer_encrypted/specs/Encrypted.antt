@@ -1,5 +1,5 @@
--- Document 01, 'Writing'. Order, encrypted: cipher `none` 3; KDF `none` with salt bytes or rounds other than 0, 3; blob refused as in
--- step 5; ciphertext not a multiple of the block 3; tag length wrong 1; size 11; room 9.
+-- docs/RULES.md, 10.7. Order, encrypted: cipher `none` 3; KDF `none` with salt bytes or rounds other than 0, 3; blob refused as in
+-- 4.6; ciphertext not a multiple of the block 3; tag length wrong 1; size 11; room 9.
 use Prim.Native.Nat.{ℕ, _%_}
 use mathlib.Core.Bool.{Bool, true, not, _&&_}
 use mathlib.Core.List.{List}

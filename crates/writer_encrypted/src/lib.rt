@@ -1,5 +1,5 @@
 // The writer of encrypted images, from the public blob, the ciphertext and the tag as they are given. It
-// checks all, in the paper's order, before it changes a byte.
+// checks all, in the rules' order, before it changes a byte.
 ghost use mathlib.Core.Path.{_≡_};
 ghost use mathlib.Core.Bool.{true};
 ghost use Prim.Native.Nat.{ℕ, _+_, _<_};

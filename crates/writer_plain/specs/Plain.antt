@@ -1,6 +1,5 @@
--- Document 01, 'Writing'. Order, plain: a length wrong for the kind 1; point tag 2; comment 7; size 11; room 9.
--- Document 02, request Two: the writer takes the six mpints and refuses 2, then 1, before the comment's 7. Request Five: a scalar of zeros
--- is 2, beside the point tag.
+-- docs/RULES.md, 10.5. Order, plain: a length wrong for the kind 1; point tag 2; a scalar of zeros 2; comment 7; size 11; room 9.
+-- 10.6, RSA: the writer takes the six mpints and refuses 2, then 1, before the comment's 7.
 use Prim.Native.Nat.{ℕ}
 use mathlib.Core.Bool.{Bool, _&&_}
 use mathlib.Core.List.{List}

@@ -1,5 +1,5 @@
 // The plain writer of the four kinds over a curve: key material and a comment to an image. It checks all, in the
-// paper's order, before it changes a byte.
+// rules' order, before it changes a byte.
 ghost use mathlib.Core.Path.{_≡_};
 ghost use mathlib.Core.List.{[], _∷_, _++_};
 ghost use Prim.Native.Nat.{_+_, _<_};

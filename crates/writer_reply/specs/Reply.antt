@@ -1,4 +1,4 @@
--- Document 01, 'Reply numbers' and 'Writing': what a writer answers, and what it leaves in the lent buffer.
+-- docs/RULES.md, 2.2, 2.3 and 10.8: what a writer answers, and what it leaves in the lent buffer.
 use Prim.Native.Nat.{ℕ}
 use mathlib.Core.Path.{_≡_, ap}
 use mathlib.Core.Bool.{Bool, true, false}
@@ -19,7 +19,7 @@ abbrev pub onWritten : {R : Type 0} → Written → (Fault → R) → (ℕ → R
 onWritten (written.Refused f) refused accepted = refused f
 onWritten (written.Length n) refused accepted = accepted n
 
--- the paper's reply: number, count, the place at which the failing field began, and the written length
+-- the rules' reply: number, count, the place at which the failing field began, and the written length
 pub record Told : Type 0 where
   pub number : ℕ
   pub count : ℕ
@@ -54,7 +54,7 @@ sized image room =
     (unless (leb (length image) room) Room
     (written.Length (length image)))
 
--- the promise of every writer: it answers w, which is this in the paper's numbers, and leaves this in the buffer
+-- the promise of every writer: it answers w, which is this in the rules' numbers, and leaves this in the buffer
 abbrev pub answers : Written → List ℕ → Written → List ℕ → Type 0
 answers w after r out = (r ≡ w) × (out ≡ after) × (told r ≡ told w)
 

@@ -1,4 +1,4 @@
-// The plain writer of RSA keys: six lent mpints and a comment to an image. It checks all, in the paper's order,
+// The plain writer of RSA keys: six lent mpints and a comment to an image. It checks all, in the rules' order,
 // before it changes a byte.
 ghost use mathlib.Core.Path.{_≡_};
 ghost use Prim.Native.Nat.{_<_};

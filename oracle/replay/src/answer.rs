@@ -1,5 +1,5 @@
-//! What a reader answers, in one form for both: document 01's number with its count, or the crate's own name for an error that
-//! document 01's table doesn't have.
+//! What a reader answers, in one form for both: the rules' number with its count, or the crate's own name for an error that
+//! their table (docs/RULES.md, 2.1) doesn't have.
 
 use std::fmt;
 

@@ -54,7 +54,7 @@ const WORDS: [&str; CAUSES] = [
     "the comment of an image that isn't in the form",
 ];
 
-/// Those whose inputs lie outside document 01's domain of comparison: above 65,535 bytes, with a cipher or an algorithm that isn't
+/// Those whose inputs lie outside the domain of comparison (docs/RULES.md, 1.5): above 65,535 bytes, with a cipher or an algorithm that isn't
 /// named there, or with a point that isn't uncompressed.
 const OUTSIDE: [Cause; 9] = [
     UNKNOWN_NAME, NAME_NOT_UTF8, LONG_NAME, RSA_SIGNATURE_NAME, CHACHA20, COMPRESSED_POINT, OTHER_KIND,

@@ -1,4 +1,4 @@
-//! Names that document 01 doesn't have: why, and what the crate answers, or None where it goes on.
+//! Names that the rules don't have: why, and what the crate answers, or None where it goes on.
 
 use crate::answer::Answer;
 use crate::causes::*;

@@ -1,5 +1,5 @@
 //! The walk that finds a difference's cause. It goes over the bytes apart from both readers, field by field, as far as the rules of
-//! document 01 and those of the crate are the same, and stops at the first field on which they aren't. So it says what we
+//! docs/RULES.md and those of the crate are the same, and stops at the first field on which they aren't. So it says what we
 //! must answer, and what the crate must answer, or that the crate goes on where we refuse, and why.
 
 use crate::answer::Answer;
