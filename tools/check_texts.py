@@ -2,14 +2,17 @@
 """What the gate holds the texts to, beside the proofs: every public function of a library has a contract that asks nothing,
 a theorem NAME-determined and a place in docs/CONTRACTS.md, every proof and specification file says at its top what it is, nothing
 names a place outside the project, what docs/CONTRACTS.md names is there, its table of places is that of cases_places.py, the claims'
-list of entries is whole, what a document links to is there, and README's counts are the tree's. It reads text and proves nothing."""
+list of entries is whole, what a document links to is there, the rules' numbers that are cited are there, what docs/AUDIT.md and docs/PROVED.md
+count and link is so, and the counts of docs/ARCHITECTURE.md are the tree's. It reads text and proves nothing."""
 import glob
 import os
 import re
 import sys
 
+import check_audit
 import check_entries
 import check_places
+import check_rules
 
 OUTSIDE = re.compile(r"\.\./shared|/work/|/opt/rattle|https?://[^\s)]*(debian|pypi|crates\.io)")
 CODE = (".rt", ".antt", ".py", ".sh", ".md", ".edit", ".txt", ".rs", ".c", ".h", ".toml", ".awk")
@@ -134,16 +137,16 @@ def cited_files():
 
 
 def counts():
-    """README's figures say how many crates, public functions and must-fail edits there are."""
+    """docs/ARCHITECTURE.md says how many crates, public functions and must-fail edits there are."""
     sources = [without_comments(open(path, encoding="utf-8").read()) for path in glob.glob("crates/*/src/lib.rt")]
-    said = open("README.md", encoding="utf-8").read()
+    said = open("docs/ARCHITECTURE.md", encoding="utf-8").read()
     for row in (
         f"lines of Rattle in {len(os.listdir('crates'))} crates",
         f"| public functions | {sum(len(list(public_functions(text))) for text in sources)}, ",
         f"| must-fail edits | {len(glob.glob('crates/*/must-fail/*.edit'))}, ",
     ):
         if row not in said:
-            yield f"README.md doesn't say: {row}"
+            yield f"docs/ARCHITECTURE.md doesn't say: {row}"
 
 
 def licences():
@@ -159,7 +162,8 @@ def licences():
 def main():
     checks = (licences, counts, cited_files, contracts, texts, contracts_document, named_functions)
     wrong = [line for check in checks for line in check()]
-    wrong += check_places.faults() + check_entries.faults()
+    for part in (check_places, check_entries, check_rules, check_audit):
+        wrong += part.faults()
     for line in wrong:
         print(line)
     print("texts: %s" % ("%d faults" % len(wrong) if wrong else "ok"))

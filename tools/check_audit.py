@@ -1,0 +1,59 @@
+#!/usr/bin/env python3
+"""Holds docs/AUDIT.md and docs/PROVED.md to what they speak of: the lines of each file that is to be read, and that each theorem or definition
+that is linked stands in the file that the link names. check_texts.py runs it.
+
+    python3 tools/check_audit.py --archive    the sha256 of the built archive is the document's, where the kit is the one that it names
+"""
+import hashlib
+import os
+import re
+import subprocess
+import sys
+
+ARCHIVE = "target/staticlib/libsaltorchard.a"
+
+
+def text(path):
+    with open(path, encoding="utf-8") as file:
+        return file.read()
+
+
+def lines(path):
+    """How many lines there are to read: without empty ones, and those that bring names in."""
+    return sum(1 for line in text(path).splitlines() if line.strip() and not line.startswith(("use ", "ghost use ")))
+
+
+def counted():
+    for link, said in re.findall(r"^\| \[[^]]+\]\(([^)]+)\) \| (\d+) \|", text("docs/AUDIT.md"), re.M):
+        path = os.path.normpath(os.path.join("docs", link))
+        if os.path.exists(path) and lines(path) != int(said):
+            yield f"docs/AUDIT.md says that {path} has {said} lines to read, and it has {lines(path)}"
+
+
+def linked():
+    for name, link in re.findall(r"\[`([^`]+)`\]\(([^)#]+\.antt)\)", text("docs/PROVED.md")):
+        path = os.path.normpath(os.path.join("docs", link))
+        if os.path.exists(path) and not re.search(rf"^ *(?:\w+ )*pub {re.escape(name)}(?: :| *\{{|$)", text(path), re.M):
+            yield f"docs/PROVED.md links {name} to {path}, which doesn't state it"
+
+
+def faults():
+    return [*counted(), *linked()]
+
+
+def archive():
+    document = text("docs/AUDIT.md")
+    kit = re.search(r"`(rattle-kit-\S+ logic [0-9a-f]+)`", document).group(1)
+    said = re.search(r"^    ([0-9a-f]{64})$", document, re.M).group(1)
+    here = subprocess.run(["rt", "version"], capture_output=True, text=True, check=True).stdout.strip()
+    with open(ARCHIVE, "rb") as file:
+        found = hashlib.sha256(file.read()).hexdigest()
+    if here != kit:
+        print(f"the archive's sha256 isn't compared: docs/AUDIT.md has that of {kit}, and this is {here}")
+        return 0
+    print(f"the archive's sha256 is {'what docs/AUDIT.md says' if found == said else found + ', and docs/AUDIT.md says ' + said}")
+    return 0 if found == said else 1
+
+
+if __name__ == "__main__":
+    sys.exit(archive() if sys.argv[1:] == ["--archive"] else 2)
