@@ -1,8 +1,9 @@
 #!/usr/bin/env python3
 """Holds the C interface's number to what it numbers. bindings/c/interface.txt has a line for each interface: its number and the
-sha256 of the header's declarations, which are the header without comments and white space. The last line is the present one: the
-digest must be the header's, and the number that of the header, of the Rust crate and of the archive's function. Where git knows
-the file's earlier versions, their lines must stand. With --digest it prints the header's digest, for a new line."""
+sha256 of the header's declarations, which are the header without comments, white space and the functions that it defines itself,
+`static inline`: these aren't the archive's. The last line is the present one: the digest must be the header's, and the number that of
+the header, of the Rust crate and of the archive's function. Where git knows the file's earlier versions, their lines must stand. With
+--digest it prints the header's digest, for a new line."""
 import hashlib
 import re
 import subprocess
@@ -14,6 +15,9 @@ CRATE = "bindings/rust/src/c.rs"
 BUILD = "bindings/rust/build.rs"
 SOURCE = "crates/saltorchard/src/lib.rt"
 NAME = r"saltorchard_interface_(\d+)"
+# A function that the header defines: its head is a line, its braces stand at the margin, and all between them is indented and no
+# directive. What is laid out otherwise stays among the declarations.
+DEFINED = re.compile(r"^static inline [^\n;{}=()]+\([^\n;{}=()]*\)\n\{\n(?:[ \t]+[^\s#][^\n]*\n|[ \t]*\n)*\}\n", re.M)
 
 
 def text(path):
@@ -22,7 +26,7 @@ def text(path):
 
 
 def digest(header):
-    declared = re.sub(r"/\*.*?\*/", "", header, flags=re.S)
+    declared = DEFINED.sub("", re.sub(r"/\*.*?\*/", "", header, flags=re.S))
     return hashlib.sha256(re.sub(r"\s", "", declared).encode()).hexdigest()
 
 

@@ -1,5 +1,5 @@
-/* Makes an Ed25519 image, reads it, prints its comment, changes it in place, and puts the image through its text form. Then makes an
- * RSA image and has its header say the size. The keys' bytes are made up. */
+/* Makes an Ed25519 image, reads it, prints its comment, changes it in place, has a change refused, and puts the image through its text
+ * form. Then makes an RSA image and has its header say the size. The keys' bytes are made up. */
 #include "saltorchard.h"
 
 #include <stdio.h>
@@ -9,7 +9,7 @@ static uint8_t buffer[SALTORCHARD_LIMIT], text[88699]; /* room for the text of a
 
 static int refused(const char *what, uint64_t number, uint64_t count, uint64_t at)
 {
-    printf("%s: refused %d, count %d, at byte %d\n", what, (int)number, (int)count, (int)at);
+    printf("%s: refused %d, count %d, at byte %d: %s\n", what, (int)number, (int)count, (int)at, saltorchard_reason(number));
     return 1;
 }
 
@@ -22,6 +22,14 @@ static int show(size_t length)
     fwrite(buffer + image.comment.start, 1, image.comment.length, stdout);
     puts("");
     return 0;
+}
+
+/* A comment in Latin-1 isn't taken, and the image stays as it was. */
+static int latin1(size_t length)
+{
+    const uint8_t comment[] = {'f', 'o', 'u', 'r', ' ', 0xe0, ' ', 'p', 'a', 'i', 'n'};
+    saltorchard_reply reply = saltorchard_change_comment(buffer, sizeof buffer, length, comment, sizeof comment);
+    return reply.number == SALTORCHARD_ACCEPTED || !refused("change", reply.number, reply.count, reply.at);
 }
 
 /* Armour on, as it stands in a key file, and off again, as for a file that was read into `text`. */
@@ -55,7 +63,7 @@ static int ed25519(void)
     reply = saltorchard_change_comment(buffer, sizeof buffer, reply.length, (const uint8_t *)second, strlen(second));
     if (reply.number != SALTORCHARD_ACCEPTED)
         return refused("change", reply.number, reply.count, reply.at);
-    return show(reply.length) != 0 || armoured(reply.length) != 0;
+    return show(reply.length) != 0 || latin1(reply.length) != 0 || armoured(reply.length) != 0;
 }
 
 static int rsa(void)

@@ -58,6 +58,29 @@ enum {
     SALTORCHARD_TOO_LONG = 11        /* the image is, or would be, above SALTORCHARD_LIMIT bytes */
 };
 
+/* The same in words for a message, without a full stop; `at` says where, and `count` how much is left over. This function is defined here,
+ * and isn't the archive's. */
+static inline const char *saltorchard_reason(uint64_t number)
+{
+    static const char *const REASONS[] = {
+        "accepted",
+        "a field is cut short or has a wrong length, the number of keys isn't 1, an RSA number has too few or too many bits, or the "
+        "header that was handed in isn't this image's",
+        "the image doesn't begin with openssh-key-v1, the text isn't spelled as ssh-keygen spells it, or the padding, a point, a scalar "
+        "or an RSA number isn't written as it must be",
+        "fields don't fit each other: two check numbers (checkints) that differ, misused passphrase settings (KDF), a ciphertext that "
+        "isn't whole blocks, or halves of an Ed25519 key that differ",
+        "a cipher, KDF, algorithm or curve is unknown here, or the curve isn't its algorithm's",
+        "the private section has another public key than the header",
+        "bytes are left over; the count says how many",
+        "the comment isn't UTF-8",
+        "the section is encrypted, and a plain one is needed",
+        "the buffer that was lent is too short",
+        "the image isn't as the writer would write it; once rewritten, it is",
+        "the image, or what a text carries, is or would be above 65,535 bytes"};
+    return number < sizeof REASONS / sizeof *REASONS ? REASONS[number] : "this header doesn't know the number";
+}
+
 enum { SALTORCHARD_LIMIT = 65535 };
 
 enum { SALTORCHARD_REFUSED = 0, SALTORCHARD_PLAIN = 1, SALTORCHARD_ENCRYPTED = 2, SALTORCHARD_HEADER = 3 };

@@ -1,5 +1,5 @@
 /* Uses every function of saltorchard.h and holds numbers, places and bytes to documents 01 and 02: the marked examples, each refusal,
- * and what must stay of a lent buffer. A failed check is a line; the last line counts the checks. */
+ * and what must stay of a lent buffer; at last the words for each number. A failed check is a line; the last line counts the checks. */
 #include "saltorchard.h"
 
 #include "checks.h"
@@ -1498,6 +1498,26 @@ static void halves_above_the_limit(void)
     FORGED(&image, header);
 }
 
+/* ---- the words for a number */
+
+static void reasons(void)
+{
+    static const char *const WORDS[] = {
+        "accepted", "cut short", "openssh-key-v1", "checkints", "unknown", "public key", "left over", "UTF-8", "encrypted", "buffer",
+        "writer", "65,535"};
+    static const uint64_t OTHERS[] = {12, 13, 255, 256, ((uint64_t)1 << 32) + 7, (uint64_t)1 << 63, UINT64_MAX};
+    for (uint64_t number = 0; number <= SALTORCHARD_TOO_LONG; number++) {
+        now("reason of", (size_t)number);
+        CHECK(strstr(saltorchard_reason(number), WORDS[number]) != NULL);
+        for (uint64_t other = number + 1; other <= SALTORCHARD_TOO_LONG + 1; other++)
+            CHECK(strcmp(saltorchard_reason(number), saltorchard_reason(other)) != 0);
+    }
+    for (size_t i = 0; i < sizeof OTHERS / sizeof *OTHERS; i++) {
+        now("reason of another number", i);
+        CHECK(strcmp(saltorchard_reason(OTHERS[i]), "this header doesn't know the number") == 0);
+    }
+}
+
 int main(void)
 {
     memset(long_comment, 'c', sizeof long_comment - 1);
@@ -1531,5 +1551,6 @@ int main(void)
     halves_forged();
     header_of_a_like_image();
     halves_above_the_limit();
+    reasons();
     return checked();
 }
