@@ -2,8 +2,8 @@
 """Holds the C interface's number to what it numbers. bindings/c/interface.txt has a line for each interface: its number and the
 sha256 of the header's declarations, which are the header without comments, white space and the functions that it defines itself,
 `static inline`: these aren't the archive's. The last line is the present one: the digest must be the header's, and the number that of
-the header, of the Rust crate and of the archive's function. Where git knows the file's earlier versions, their lines must stand. With
---digest it prints the header's digest, for a new line."""
+the header, of the Rust crate, of the Python module and of the archive's function. Where git knows the file's earlier versions, their
+lines must stand. With --digest it prints the header's digest, for a new line."""
 import hashlib
 import re
 import subprocess
@@ -13,6 +13,7 @@ HEADER = "bindings/c/saltorchard.h"
 LINES = "bindings/c/interface.txt"
 CRATE = "bindings/rust/src/c.rs"
 BUILD = "bindings/rust/build.rs"
+PYTHON = "bindings/python/saltorchard.py"
 SOURCE = "crates/saltorchard/src/lib.rt"
 NAME = r"saltorchard_interface_(\d+)"
 # A function that the header defines: its head is a line, its braces stand at the margin, and all between them is indented and no
@@ -57,6 +58,7 @@ def numbers():
         (CRATE, r"fn " + NAME + r"\("),
         (CRATE, r"= " + NAME + ";"),
         (BUILD, r'const INTERFACE: &str = "(\d+)";'),
+        (PYTHON, r"\nINTERFACE = (\d+) "),
         (SOURCE, r'pub extern "C" fn ' + NAME + r"\("),
     ]:
         yield path, pattern, [int(number) for number in re.findall(pattern, text(path))]
