@@ -1,11 +1,12 @@
 /* Saltorchard: reads and writes SSH private-key images (the binary openssh-key-v1 container), changes their comments in place, and takes
  * them from and to the text form that key files have.
  *
- * For x86-64 Linux. Link with libsaltorchard.a, which needs memcpy and memset of the C library and nothing else. Header and
- * archive go together: take both from the same version. SALTORCHARD_INTERFACE is the number of what is declared here; it rises
- * with each change of a struct or a function's parameters (interface.txt has a line for each). The archive has a function with
- * the number in its name, and whoever includes this header refers to it. So with an archive of another number the linker stops,
- * with "undefined reference to `saltorchard_interface_N'": N is the header's number, and the archive's is another.
+ * For x86-64 Linux. Link with libsaltorchard.a, which needs memcpy and memset of the C library and nothing else, or with the shared
+ * library that bindings/install.sh makes of it, libsaltorchard.so.N. Header and archive go together: take both from the same
+ * version. SALTORCHARD_INTERFACE is the number of what is declared here; it rises with each change of a struct or a function's
+ * parameters (interface.txt has a line for each). The archive has a function with the number in its name, and whoever includes this
+ * header refers to it. So with an archive of another number the linker stops, with "undefined reference to
+ * `saltorchard_interface_N'": N is the header's number, and the archive's is another.
  *
  * Every function takes any bytes and any lengths; none keeps a pointer, allocates or prints. A part is lent as a pointer and
  * a length; an empty part may be NULL with length 0. What the caller has to keep: the pointer is good for that many bytes, the
