@@ -1,4 +1,4 @@
-/* Images for test.c, put together by hand from documents 01 and 02, and where their fields must be. Nothing here calls the library. */
+/* Images for test.c, put together by hand from docs/RULES.md, and where their fields must be. Nothing here calls the library. */
 #ifndef IMAGES_H
 #define IMAGES_H
 

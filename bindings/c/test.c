@@ -1,4 +1,4 @@
-/* Uses every function of saltorchard.h and holds numbers, places and bytes to documents 01 and 02: the marked examples, each refusal,
+/* Uses every function of saltorchard.h and holds numbers, places and bytes to docs/RULES.md: the marked examples, each refusal,
  * and what must stay of a lent buffer; at last the words for each number. A failed check is a line; the last line counts the checks. */
 #include "saltorchard.h"
 
