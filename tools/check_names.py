@@ -152,7 +152,7 @@ def named_faults(tree, path, text):
             for fault in (fault for check in checks for fault in check(tree, span)):
                 yield f"{path}:{line} names {fault}, which isn't there"
     for found in PLAIN_PATH.finditer(text):
-        if "target" not in found.group().split("/") and found.group() not in tree.paths:
+        if is_path(found.group()) and "target" not in found.group().split("/") and found.group() not in tree.paths:
             yield f"{path}:{text.count(chr(10), 0, found.start()) + 1} names {found.group()}, which isn't there"
 
 
