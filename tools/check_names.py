@@ -23,9 +23,17 @@ OTHERS = {
 }
 NOT_OURS = {name for names in OTHERS.values() for name in names.split()}
 
+# A name's letters say among which words of the tree it has to be.
+SHAPES = (
+    (r"[a-z0-9]+(-[a-z0-9]+)+", ("antt", "quoted", "code")),
+    (r"[a-z0-9]+([A-Z][a-z0-9]*)+", ("antt",)),
+    (r"\w+_\w+", ("code",)),
+    (r"[A-Z]\w*[a-z]\w*", ("antt", "code")),
+)
+
 SPAN = re.compile(r"`([^`\n]+(?:\n[^`\n]+)?)`")
 COMMAND = re.compile(r"^ {4}(?:\$ )?((?:bash|python3|rt|\./\w+) [^#\n]*)", re.M)
-PLAIN_PATH = re.compile(r"(?<![\w./-])(?:\.ci|bench|bindings|crates|docs|oracle|tools)/[\w./-]*\w")
+PLAIN_PATH = re.compile(r"(?<![\w./-])((?:\.ci|bench|bindings|crates|docs|oracle|tools)/[\w./-]*\w)")
 LINK = re.compile(r"\]\(([^)#\s]*)#([^)\s]+)\)")
 
 
@@ -99,9 +107,14 @@ def is_path(word):
     return "/" in word or word.endswith(SUFFIXES)
 
 
-def command_faults(tree, span):
+def commands_faults(tree, span):
+    """Each command of a line of the shell's, or a span that is a path."""
+    for command in re.split(r"&&|[|;]", span):
+        yield from command_faults(tree, [part.rstrip(",:)") for part in command.split()] or [""])
+
+
+def command_faults(tree, parts):
     """Paths, the switches of a script of the project, rt's commands and the crates that they are given."""
-    parts = [part.rstrip(",;:)") for part in span.split()]
     if parts[0].startswith("./"):
         parts[0] = parts[0][2:]
         yield from ([] if parts[0] in tree.paths else [parts[0]])
@@ -126,34 +139,31 @@ def member_faults(tree, span):
 
 
 def name_faults(tree, span):
-    """A span that is one name, or a call: by its letters of a source, of antt, or of either."""
-    name = re.match(r"[\w-]+(?=$|\(| \{)", span)
-    if not name or name.group() in NOT_OURS:
-        return
-    name = name.group()
-    if re.fullmatch(r"[a-z0-9]+(-[a-z0-9]+)+", name):
-        known = (tree.antt, tree.quoted, tree.code)
-    elif re.fullmatch(r"[a-z0-9]+([A-Z][a-z0-9]*)+", name):
-        known = (tree.antt,)
-    elif re.fullmatch(r"\w+_\w+", name):
-        known = (tree.code,)
-    elif re.fullmatch(r"[A-Z]\w*[a-z]\w*", name):
-        known = (tree.antt, tree.code)
-    else:
-        return
-    if not any(name in words for words in known):
+    """A span that is one name, or a call."""
+    name = re.match(r"[\w-]+(?=$|\(| \{)|", span).group()
+    among = next((among for shape, among in SHAPES if re.fullmatch(shape, name)), None)
+    if among and name not in NOT_OURS and not any(name in getattr(tree, words) for words in among):
         yield name
 
 
+def plain_path_faults(tree, path):
+    if is_path(path) and "target" not in path.split("/") and path not in tree.paths:
+        yield path
+
+
+LOOKS = (
+    (SPAN, (commands_faults, member_faults, name_faults)),
+    (COMMAND, (commands_faults,)),
+    (PLAIN_PATH, (plain_path_faults,)),
+)
+
+
 def named_faults(tree, path, text):
-    for checks, pattern in (((command_faults, member_faults, name_faults), SPAN), ((command_faults,), COMMAND)):
+    for pattern, checks in LOOKS:
         for found in pattern.finditer(text):
-            span, line = " ".join(found.group(1).split()), text.count("\n", 0, found.start()) + 1
-            for fault in (fault for check in checks for fault in check(tree, span)):
+            named, line = " ".join(found.group(1).split()), text.count("\n", 0, found.start()) + 1
+            for fault in (fault for check in checks for fault in check(tree, named)):
                 yield f"{path}:{line} names {fault}, which isn't there"
-    for found in PLAIN_PATH.finditer(text):
-        if is_path(found.group()) and "target" not in found.group().split("/") and found.group() not in tree.paths:
-            yield f"{path}:{text.count(chr(10), 0, found.start()) + 1} names {found.group()}, which isn't there"
 
 
 def anchors(text):
