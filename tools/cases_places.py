@@ -1,6 +1,9 @@
+#!/usr/bin/env python3
 """One image for each condition of the reader's rules, made from a good image but for the first, with the field to which the
-condition belongs and the place that this gives: the rows of docs/CONTRACTS.md's table 'Where each refusal is: the reader's
-conditions', in the order of reading. check_places.py holds the table to them.
+condition belongs and the place that this gives: the rows P1 and so on of docs/REFUSALS.md, in the order of reading.
+check_places.py holds the document to them.
+
+    python3 tools/cases_places.py P17 >example.bin    writes that row's image; the keys are made up
 
 A field is 'cut' where fewer bytes remain in the part that encloses it than its length says, or than its length bytes need; a
 number or a tag where they are fewer than it has. For the Rust tests each row is stored as
@@ -9,6 +12,7 @@ number or a tag where they are fewer than it has. For the Rust tests each row is
 """
 import functools
 import itertools
+import sys
 from typing import NamedTuple
 
 from cases_rsa import form_and_size
@@ -247,3 +251,16 @@ def stored(one):
     image = one.case.image
     text = image.hex() if any(image) else f"{len(image)} zeros"
     return "|".join([one.id, *map(str, one.case.reply), one.field, text]) + "\n"
+
+
+def main():
+    if len(sys.argv) != 2:
+        sys.exit("usage: python3 tools/cases_places.py ROW >example.bin")
+    images = {one.id: one.case.image for one in rows()}
+    if sys.argv[1] not in images:
+        sys.exit(f"cases_places.py: there is no row {sys.argv[1]!r} with an image: they are P1 to P{len(images)}")
+    sys.stdout.buffer.write(images[sys.argv[1]])
+
+
+if __name__ == "__main__":
+    main()
