@@ -1,9 +1,9 @@
 #!/usr/bin/env python3
 """What the gate holds the texts to, beside the proofs: every public function of a library has a contract that asks nothing,
 a theorem NAME-determined and a place in docs/CONTRACTS.md, every proof and specification file says at its top what it is, nothing
-names a place outside the project, what docs/CONTRACTS.md names is there, its table of places is that of cases_places.py, the claims'
-list of entries is whole, what a document links to is there, the rules' numbers that are cited are there, what docs/AUDIT.md and docs/PROVED.md
-count and link is so, and the counts of docs/ARCHITECTURE.md are the tree's. It reads text and proves nothing."""
+names a place outside the project, what a document names and links to is there, the rows of docs/REFUSALS.md are those of cases_places.py,
+the claims' list of entries is whole, the rules' numbers that are cited are there, what docs/AUDIT.md and docs/PROVED.md count and link is so,
+the counts of docs/ARCHITECTURE.md are the tree's, and no merge is left half done. It reads text and proves nothing."""
 import glob
 import os
 import re
@@ -11,6 +11,7 @@ import sys
 
 import check_audit
 import check_entries
+import check_names
 import check_places
 import check_rules
 
@@ -64,6 +65,8 @@ def texts():
             text = open(path, encoding="utf-8").read()
             if OUTSIDE.search(text) and not path.endswith("check_texts.py"):
                 yield f"{path} names a place outside the project"
+            if re.search(r"^(<{7}|>{7}) ", text, re.M):
+                yield f"{path} has the marks of a merge that isn't done"
             if name.endswith(".antt") and not name == "Lib.antt" and not text.startswith("-- "):
                 yield f"{path} does not say at its top what it is"
 
@@ -162,7 +165,7 @@ def licences():
 def main():
     checks = (licences, counts, cited_files, contracts, texts, contracts_document, named_functions)
     wrong = [line for check in checks for line in check()]
-    for part in (check_places, check_entries, check_rules, check_audit):
+    for part in (check_places, check_entries, check_names, check_rules, check_audit):
         wrong += part.faults()
     for line in wrong:
         print(line)

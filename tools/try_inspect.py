@@ -81,6 +81,8 @@ def several(folder):
         if len(sentences) != 1 or answer.at and f"byte {answer.at}" not in sentences[0]:
             sys.exit(f"{row.id}: not one sentence with number and place:\n{sentences}")
     print(f"ok: a sentence for each of {len(rows)} refused files")
+    where = "inspect: docs/REFUSALS.md has the likely causes, and what to do."
+    hold("where to read on, once and last", [err.splitlines()[-1], err.count(where)], [where, 1])
     hold("good and refused", ask(names[0], str(CORPUS / "keygen-ed25519-ascii.bin"))[0], 1)
     hold("refused and missing", ask(names[0], os.path.join(folder, "missing"))[0], 2)
     two = [str(CORPUS / "keygen-ed25519-ascii.bin")] * 2
