@@ -16,8 +16,8 @@ pub(crate) struct Accepted<'a> {
 impl<'a> Accepted<'a> {
     /// What a read of `bytes` answered, or its refusal.
     pub fn new(bytes: &'a [u8], fields: c::Image) -> Result<Self, Error> {
-        if let Some(refusal) = Error::refused(bytes, &fields) {
-            return Err(refusal);
+        if fields.number != 0 {
+            return Err(Error::read(bytes, &fields));
         }
         Ok(Self {
             bytes,
@@ -32,6 +32,35 @@ impl<'a> Accepted<'a> {
         let start = part.start as usize;
         &self.bytes[start..start + part.length as usize]
     }
+}
+
+/// What a header and an image are made of and compared by, for such a type: by the bytes that it answers under a name.
+macro_rules! read_and_compared {
+    ($name:ident, $bytes:ident) => {
+        impl<'a> TryFrom<&'a [u8]> for $name<'a> {
+            type Error = Error;
+
+            /// The same as `read`.
+            fn try_from(bytes: &'a [u8]) -> Result<Self, Error> {
+                Self::read(bytes)
+            }
+        }
+
+        /// The same bytes. The comparison isn't constant-time.
+        impl PartialEq for $name<'_> {
+            fn eq(&self, other: &Self) -> bool {
+                self.$bytes() == other.$bytes()
+            }
+        }
+
+        impl Eq for $name<'_> {}
+
+        impl core::hash::Hash for $name<'_> {
+            fn hash<H: core::hash::Hasher>(&self, state: &mut H) {
+                self.$bytes().hash(state);
+            }
+        }
+    };
 }
 
 /// The functions that answer from the header, for a type that has an [`Accepted`] named `read`.
@@ -91,6 +120,12 @@ macro_rules! what_a_header_says {
         /// The KDF's rounds; 0 for KDF `none`.
         pub fn rounds(&self) -> u32 {
             self.read.fields.rounds as u32
+        }
+
+        /// Do both have the same key, of one kind and with one public half? The public blobs are compared, and not in constant time.
+        /// What is encrypted, or private, isn't looked at.
+        pub fn same_key(&self, other: &Self) -> bool {
+            self.public_blob() == other.public_blob()
         }
 
         /// The place of the section's length field: the byte after the public key.

@@ -28,6 +28,8 @@
 
 use crate::c;
 use crate::{Error, MAX_IMAGE_LEN};
+#[cfg(feature = "alloc")]
+use alloc::{string::String, vec, vec::Vec};
 
 /// Each of the two lines with its line feed.
 const BEGIN_LEN: usize = 36;
@@ -69,7 +71,7 @@ pub const fn exported_len(len: usize) -> usize {
 /// # Ok::<(), saltorchard::Error>(())
 /// ```
 pub fn export(image: &[u8], out: &mut [u8]) -> Result<usize, Error> {
-    Error::armoured(c::export(image, out))
+    Error::written_of(image, c::export(image, out))
 }
 
 /// Writes the bytes that `text` carries to the start of `out` and answers how many; the bytes past them stay.
@@ -95,5 +97,34 @@ pub fn export(image: &[u8], out: &mut [u8]) -> Result<usize, Error> {
 /// # Ok::<(), saltorchard::Error>(())
 /// ```
 pub fn import(text: impl AsRef<[u8]>, out: &mut [u8]) -> Result<usize, Error> {
-    Error::armoured(c::import(text.as_ref(), out))
+    let text = text.as_ref();
+    Error::imported(text, c::import(text, out))
+}
+
+/// **Private.** The text that [`export`] writes of `image`, of any bytes. More than 65,535 of them are refused (11). Nobody wipes the text.
+///
+/// ```
+/// use saltorchard::armour::{exported, imported};
+///
+/// let text = exported(b"oven")?;
+/// assert_eq!(text.lines().nth(1), Some("b3Zlbg=="));
+/// assert_eq!(imported(text)?, b"oven");
+/// # Ok::<(), saltorchard::Error>(())
+/// ```
+#[cfg(feature = "alloc")]
+pub fn exported(image: &[u8]) -> Result<String, Error> {
+    let mut text = vec![0; exported_len(image.len())];
+    export(image, &mut text)?;
+    Ok(String::from_utf8(text).expect("base64 and its two lines are ASCII"))
+}
+
+/// **Private.** The bytes that `text` carries, as [`import`] writes them and with its refusals, but for the room: any other text than
+/// [`export`]'s (2), more than 65,535 carried bytes (11). Nobody wipes the bytes.
+#[cfg(feature = "alloc")]
+pub fn imported(text: impl AsRef<[u8]>) -> Result<Vec<u8>, Error> {
+    let text = text.as_ref();
+    let mut bytes = vec![0; text.len().min(MAX_IMAGE_LEN)];
+    let len = import(text, &mut bytes)?;
+    bytes.truncate(len);
+    Ok(bytes)
 }

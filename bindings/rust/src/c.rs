@@ -124,7 +124,7 @@ static INTERFACE: unsafe extern "C" fn() -> u64 = saltorchard_interface_7;
 #[inline(always)]
 fn links() {
     // SAFETY: the reference is to a static, of a type that may be copied.
-    unsafe { std::ptr::read_volatile(&INTERFACE) };
+    unsafe { core::ptr::read_volatile(&INTERFACE) };
 }
 
 /// `saltorchard_read`.

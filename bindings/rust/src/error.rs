@@ -1,44 +1,40 @@
 //! Why something was refused.
 
-use std::fmt;
+use core::fmt;
 
 use crate::c;
-use crate::{Field, MAX_IMAGE_LEN};
+use crate::cause::{Bytes, Cause, Named};
+use crate::handed::{of_name, Part, Refused};
+use crate::walk::{above_limit, misspelled, refused};
+use crate::{ErrorKind, Field, MAX_IMAGE_LEN};
 
-/// A refusal: its number, how many bytes are left over where that is the reason, the field that it is about, and the byte of the
-/// image at which that field began. Its `Display` is a sentence that says what of this applies. Count and place are what the image's
-/// length fields say: in a damaged image such a field may lie where a private byte was, so treat its error as you treat the key.
+/// A refusal: its [kind](ErrorKind), how many bytes are left over where that is the reason, the field that it is about, and the byte of
+/// the image at which that field began. Its `Display` is a sentence that says what of this applies, and which of several causes it was.
 ///
-/// | number | [`name`](Error::name) | meaning |
-/// |---|---|---|
-/// | 1 | `Length` | the field runs past its end, or has a wrong length or key count; empty (scalar); too few or too many bits (RSA) |
-/// | 2 | `FormatEncoding` | wrong magic, padding byte or point tag; a scalar's first byte, or zeros only; no positive minimal mpint (RSA); a text in another spelling than export's |
-/// | 3 | `Crypto` | checkints, KDF use, ciphertext length, Ed25519 halves |
-/// | 4 | `AlgorithmUnknown` | unknown name, or a curve unlike its algorithm |
-/// | 5 | `PublicKey` | the section's public key isn't the header's |
-/// | 6 | `TrailingData` | the field has bytes too many; [`count`](Error::count) says how many |
-/// | 7 | `CharacterEncoding` | the comment isn't UTF-8 |
-/// | 8 | `Encrypted` | a plain section is needed |
-/// | 9 | `BufferTooShort` | the lent buffer is too short |
-/// | 10 | `NotInForm` | the image isn't the one that the writer makes of its record |
-/// | 11 | `TooLarge` | the image would be, or is, above 65,535 bytes |
+/// Count and place are what the image's length fields say: in a damaged image such a field may lie where a private byte was, so treat
+/// its error as you treat the key. The sentence and `Debug` show no byte of the section. Of the header they show a name that isn't
+/// known, escaped and at most 32 bytes of it.
 ///
-/// Which field it is, [`field`](Error::field) says. Where several reasons hold, the first in the order of reading or writing is
-/// given. A refusal changes no byte of a lent buffer.
+/// Where several reasons hold, the first in the order of reading or writing is given. A refusal changes no byte of a lent buffer.
 #[derive(Clone, Copy, Debug, PartialEq, Eq, Hash)]
 pub struct Error {
-    number: u64,
+    kind: ErrorKind,
     count: u64,
     at: u64,
     field: Field,
-    /// The 7 of a comment that was to replace the one in the image; both are at that one's field.
-    new_comment: bool,
+    part: Option<Part>,
+    cause: Cause,
 }
 
 impl Error {
+    /// The reason.
+    pub fn kind(self) -> ErrorKind {
+        self.kind
+    }
+
     /// The number of the reason, 1 to 11.
     pub fn number(self) -> u64 {
-        self.number
+        self.kind as u64
     }
 
     /// How many bytes are left over for number 6; 0 for every other number.
@@ -58,182 +54,119 @@ impl Error {
         self.field
     }
 
-    /// The reason's name: ssh-key's, or one of our own for numbers 9 to 11, which that crate doesn't have.
+    /// The reason's name, such as `Length`: that of its [`kind`](Self::kind).
     pub fn name(self) -> &'static str {
-        match self.number {
-            1 => "Length",
-            2 => "FormatEncoding",
-            3 => "Crypto",
-            4 => "AlgorithmUnknown",
-            5 => "PublicKey",
-            6 => "TrailingData",
-            7 => "CharacterEncoding",
-            8 => "Encrypted",
-            9 => "BufferTooShort",
-            10 => "NotInForm",
-            11 => "TooLarge",
-            _ => "Unknown",
-        }
+        self.kind.name()
     }
 
-    /// What a read of `image` refused, if it did.
-    pub(crate) fn refused(image: &[u8], read: &c::Image) -> Option<Self> {
-        let c::Image { number, count, at, .. } = *read;
-        match number {
-            0 => None,
-            _ => Some(Self::new(number, count, at, Field::refused(image, number, at as usize))),
-        }
+    /// A refused read of `image`.
+    #[cold]
+    pub(crate) fn read(image: &[u8], read: &c::Image) -> Self {
+        Self::of(image, read.number, read.count, read.at)
     }
 
     /// A code that names nothing.
+    #[cold]
     pub(crate) fn unknown_code() -> Self {
-        Self::new(4, 0, 0, Field::Image)
+        Self::new(4, Field::Image, Cause::Untold)
+    }
+
+    /// A text that names nothing.
+    pub(crate) fn unknown_name(named: Named, name: &str) -> Self {
+        Self::handed_in(4, of_name(named, name))
     }
 
     /// An image's length that is above its buffer's, and above the limit or not.
-    pub(crate) fn above_buffer(len: usize) -> Self {
-        let number = if len > MAX_IMAGE_LEN { 11 } else { 1 };
-        Self::new(number, 0, 0, Field::Image)
-    }
-
-    /// The length that was written of what was handed in, or the refusal. Size and room are the image's that it would be.
-    pub(crate) fn written(reply: c::Reply) -> Result<usize, Self> {
-        let of_the_image = matches!(reply.number, 9 | 11);
-        Self::answered(reply, if of_the_image { Field::Image } else { Field::HandedIn })
-    }
-
-    /// The length that export or import wrote, or the refusal. Size and room are those of what is carried, or of its text.
-    pub(crate) fn armoured(reply: c::Reply) -> Result<usize, Self> {
-        Self::answered(reply, if reply.number == 2 { Field::Text } else { Field::Image })
-    }
-
-    /// The length that was written of `image`, or the refusal.
-    pub(crate) fn written_of(image: &[u8], reply: c::Reply) -> Result<usize, Self> {
-        Self::answered(reply, Field::refused(image, reply.number, reply.at as usize))
-    }
-
-    /// The new length of `image`, whose comment was changed, or the refusal. The reader's refusals come first, so a 7 on an image
-    /// that it accepts is the new comment's.
-    pub(crate) fn changed(image: &[u8], reply: c::Reply) -> Result<usize, Self> {
-        let new_comment = reply.number == 7 && c::read(image).number == 0;
-        Self::written_of(image, reply).map_err(|refusal| Self { new_comment, ..refusal })
-    }
-
-    fn new(number: u64, count: u64, at: u64, field: Field) -> Self {
-        Self { number, count, at, field, new_comment: false }
-    }
-
-    fn answered(reply: c::Reply, field: Field) -> Result<usize, Self> {
-        let c::Reply { number, count, at, length } = reply;
-        match number {
-            0 => Ok(length as usize),
-            _ => Err(Self::new(number, count, at, field)),
+    pub(crate) fn above_buffer(says: usize, room: usize) -> Self {
+        match says {
+            0..=MAX_IMAGE_LEN => Self::new(1, Field::Image, Cause::AboveBuffer { says, room }),
+            _ => Self::new(11, Field::Image, above_limit(says)),
         }
     }
 
-    /// What is wrong with the field: what follows it in the sentence.
-    fn fault(self) -> &'static str {
-        match self.number {
-            1 => length_fault(self.field),
-            2 => encoding_fault(self.field),
-            3 => crypto_fault(self.field),
-            4 => name_fault(self.field),
-            5 => "begins another public key than the header's",
-            7 if self.new_comment => "was to get a comment that isn't UTF-8",
-            7 => comment_fault(self.field),
-            8 => "is encrypted, and a plain one is needed",
-            10 => "isn't the one that the writer makes of its record",
-            _ => "is refused with a number that this version of the crate doesn't know",
+    /// The length that was written of what was handed in, or the refusal. Size and room are the image's that it would be.
+    pub(crate) fn written(reply: c::Reply, handed: impl FnOnce(u64) -> Refused) -> Result<usize, Self> {
+        match reply.number {
+            0 => Ok(reply.length as usize),
+            9 | 11 => Err(Self::of(&[], reply.number, 0, 0)),
+            number => Err(Self { count: reply.count, ..Self::handed_in(number, handed(number)) }),
+        }
+    }
+
+    /// The length that import wrote of what `text` carries, or the refusal.
+    pub(crate) fn imported(text: &[u8], reply: c::Reply) -> Result<usize, Self> {
+        match reply.number {
+            2 => Err(Self::new(2, Field::Text, misspelled(text))),
+            11 => Err(Self::new(11, Field::Image, Cause::CarriesAbove)),
+            _ => Self::written_of(&[], reply),
+        }
+    }
+
+    /// The length that was written of `image`, or that of its text, or the refusal.
+    pub(crate) fn written_of(image: &[u8], reply: c::Reply) -> Result<usize, Self> {
+        match reply.number {
+            0 => Ok(reply.length as usize),
+            number => Err(Self::of(image, number, reply.count, reply.at)),
+        }
+    }
+
+    /// The new length of the image that the first `len` bytes of `buffer` are, whose comment was changed, or the refusal, which left the
+    /// bytes as they were. The reader's refusals come first, so a 7 on an image that it accepts is the new comment's.
+    pub(crate) fn changed(buffer: &[u8], len: usize, reply: c::Reply) -> Result<usize, Self> {
+        match buffer.get(..len) {
+            None => Err(Self::above_buffer(len, buffer.len())),
+            Some(image) if reply.number == 7 && c::read(image).number == 0 => {
+                Err(Self { at: reply.at, ..Self::new(7, Field::Comment, Cause::NewNotUtf8) })
+            }
+            Some(image) => Self::written_of(image, reply),
+        }
+    }
+
+    fn of(image: &[u8], number: u64, count: u64, at: u64) -> Self {
+        let (field, cause) = refused(image, number, at as usize);
+        Self { count, at, ..Self::new(number, field, cause) }
+    }
+
+    fn handed_in(number: u64, (part, cause): Refused) -> Self {
+        Self { part: Some(part), ..Self::new(number, Field::HandedIn, cause) }
+    }
+
+    fn new(number: u64, field: Field, cause: Cause) -> Self {
+        Self { kind: ErrorKind::of(number), count: 0, at: 0, field, part: None, cause }
+    }
+
+    /// What the sentence is about.
+    fn put_subject(self, f: &mut fmt::Formatter<'_>) -> fmt::Result {
+        match (self.cause, self.part, self.at) {
+            (Cause::NoRoom, ..) => f.write_str("the lent buffer"),
+            (Cause::CarriesAbove, ..) => write!(f, "{}", Field::Text),
+            (_, Some(part), _) => write!(f, "of {}, {}", self.field, part),
+            (Cause::LeftOver, ..) | (.., 0) => write!(f, "{}", self.field),
+            (.., at) => write!(f, "{} at byte {}", self.field, at),
         }
     }
 
     fn put_left_over(self, f: &mut fmt::Formatter<'_>) -> fmt::Result {
-        let bytes = if self.count == 1 { "byte" } else { "bytes" };
-        write!(f, "{} has {} {} too many, ", self.field, self.count, bytes)?;
-        match self.field {
-            Field::HandedIn => write!(f, "in its blob."),
-            _ => write!(f, "from byte {} on.", self.at),
+        write!(f, "has {} too many", Bytes(self.count()))?;
+        match self.part {
+            Some(_) => Ok(()),
+            None => write!(f, ", from byte {} on", self.at),
         }
     }
 }
 
 impl fmt::Display for Error {
     fn fmt(&self, f: &mut fmt::Formatter<'_>) -> fmt::Result {
-        write!(f, "Refusal {} ({}): ", self.number, self.name())?;
-        match (self.number, self.at) {
-            (6, _) => self.put_left_over(f),
-            (9, _) => write!(f, "the lent buffer is too short."),
-            (11, _) => write!(f, "the image is, or would be, above 65,535 bytes."),
-            (_, 0) => write!(f, "{} {}.", self.field, self.fault()),
-            (_, at) => write!(f, "{} at byte {} {}.", self.field, at, self.fault()),
+        write!(f, "Refusal {} ({}): ", self.number(), self.name())?;
+        self.put_subject(f)?;
+        f.write_str(" ")?;
+        match self.cause {
+            Cause::LeftOver => self.put_left_over(f)?,
+            cause => write!(f, "{}", cause)?,
         }
+        f.write_str(".")
     }
 }
 
+#[cfg(feature = "std")]
 impl std::error::Error for Error {}
-
-fn length_fault(field: Field) -> &'static str {
-    match field {
-        Field::Image => "has fewer than 15 bytes, or a length above its buffer's",
-        Field::Rounds => "are cut short",
-        Field::FirstCheckint | Field::Tag => "is cut short",
-        Field::KeyCount => "is cut short, or isn't 1",
-        Field::Scalar => "is cut short, or empty",
-        Field::BlobN | Field::SectionN => "is cut short, or doesn't have 1,024 to 8,192 bits",
-        Field::BlobE | Field::SectionE | Field::D | Field::Iqmp | Field::P | Field::Q => {
-            "is cut short, or has more bits than n"
-        }
-        Field::Section => "has a length that isn't a multiple of 8",
-        Field::Padding => "has 8 bytes or more",
-        Field::HandedIn => {
-            "has a part that is cut short or has a wrong length, or an RSA number with too few or too many bits"
-        }
-        _ => "is cut short, or has a wrong length",
-    }
-}
-
-fn encoding_fault(field: Field) -> &'static str {
-    match field {
-        Field::Image => "doesn't begin with the magic",
-        Field::BlobPoint | Field::SectionPoint => "doesn't begin with 4",
-        Field::Scalar => "has zeros only, or is a byte longer than its curve's size and doesn't begin with 0",
-        Field::Padding => "isn't 1, 2, 3 and so on",
-        Field::Text => "isn't what export writes, with LF or CR LF at each line's end",
-        Field::HandedIn => {
-            "has a point that doesn't begin with 4, a scalar of zeros only, or an RSA number that isn't positive and in \
-             the fewest bytes"
-        }
-        _ => "isn't a positive number in the fewest bytes",
-    }
-}
-
-fn crypto_fault(field: Field) -> &'static str {
-    match field {
-        Field::KdfName => "names a KDF, and the cipher is none",
-        Field::KdfOptions => "isn't empty, and the KDF is none",
-        Field::Seed => "has a second half that isn't the public key",
-        Field::Ciphertext => "isn't a whole number of blocks",
-        Field::HandedIn => {
-            "has cipher none, KDF none with salt or rounds, or a ciphertext that isn't a whole number of blocks"
-        }
-        _ => "isn't equal to the first",
-    }
-}
-
-fn name_fault(field: Field) -> &'static str {
-    match field {
-        Field::Image => "has a name that this version of the crate doesn't know",
-        Field::BlobCurve | Field::SectionCurve => "names none that is known, or another than the key name does",
-        Field::HandedIn => {
-            "is RSA's, which has its own writer, or has a blob with an unknown name or a curve that isn't its key name's"
-        }
-        _ => "names none that is known",
-    }
-}
-
-fn comment_fault(field: Field) -> &'static str {
-    match field {
-        Field::HandedIn => "has a comment that isn't UTF-8",
-        _ => "isn't UTF-8",
-    }
-}

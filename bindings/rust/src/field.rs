@@ -1,6 +1,6 @@
-//! The fields of an image, in words, and which of them a refusal is about.
+//! The fields of an image, in words.
 
-use std::fmt;
+use core::fmt;
 
 /// A field of an image, or what else a refusal can be about. Its `Display` is the words for it, such as
 /// `the comment's string`; a field that is called a string has its four length bytes before it.
@@ -123,152 +123,10 @@ impl Field {
             Self::Text => "the text",
         }
     }
-
-    /// The field that a refusal of `image` with this number and place is about. All before it was read without a refusal, so
-    /// lengths and names are enough to find it.
-    pub(crate) fn refused(image: &[u8], number: u64, place: usize) -> Self {
-        if place == 0 {
-            return Self::Image;
-        }
-        let left = image.get(MAGIC_LEN..).unwrap_or_default();
-        let walk = Walk { left, at: MAGIC_LEN, number, place };
-        walk.image().err().unwrap_or(Self::Image)
-    }
 }
 
 impl fmt::Display for Field {
     fn fmt(&self, f: &mut fmt::Formatter<'_>) -> fmt::Result {
         f.pad(self.as_str())
-    }
-}
-
-const MAGIC_LEN: usize = 15;
-
-/// The number for bytes left over: its place is where these begin, and not where a field does.
-const LEFT_OVER: u64 = 6;
-
-/// The failing field as the `Err`, so that `?` ends the walk there.
-type Step<T> = Result<T, Field>;
-
-/// A walk through the fields of an image, or of one of its strings, in the order of reading.
-struct Walk<'a> {
-    left: &'a [u8],
-    at: usize,
-    number: u64,
-    place: usize,
-}
-
-impl<'a> Walk<'a> {
-    fn image(mut self) -> Step<()> {
-        let cipher = self.leaf(Field::CipherName)?;
-        let kdf = self.leaf(Field::KdfName)?;
-        self.options(kdf)?;
-        self.uint32(Field::KeyCount)?;
-        self.blob()?;
-        if cipher == b"none" {
-            return self.section();
-        }
-        self.leaf(Field::Ciphertext)?;
-        self.begins(Field::Tag)
-    }
-
-    fn options(&mut self, kdf: &[u8]) -> Step<()> {
-        let mut options = self.string(Field::KdfOptions)?;
-        if kdf == b"bcrypt" {
-            options.leaf(Field::Salt)?;
-            options.uint32(Field::Rounds)?;
-        }
-        options.rest(Field::KdfOptions)
-    }
-
-    fn blob(&mut self) -> Step<()> {
-        let mut blob = self.string(Field::Blob)?;
-        let name = blob.leaf(Field::BlobKeyName)?;
-        for field in blob_fields(name) {
-            blob.leaf(*field)?;
-        }
-        blob.rest(Field::Blob)
-    }
-
-    fn section(&mut self) -> Step<()> {
-        let mut section = self.string(Field::SectionString)?;
-        if section.left.len() % 8 != 0 {
-            section.begins(Field::Section)?;
-        }
-        section.uint32(Field::FirstCheckint)?;
-        section.uint32(Field::SecondCheckint)?;
-        let name = section.leaf(Field::SectionKeyName)?;
-        for field in pair_fields(name) {
-            section.leaf(*field)?;
-        }
-        section.leaf(Field::Comment)?;
-        section.begins(Field::Padding)
-    }
-
-    /// A string that has no fields inside; answers what it holds.
-    fn leaf(&mut self, field: Field) -> Step<&'a [u8]> {
-        let inside = self.string(field)?;
-        inside.rest(field)?;
-        Ok(inside.left)
-    }
-
-    /// A string; answers a walk through what it holds.
-    fn string(&mut self, field: Field) -> Step<Walk<'a>> {
-        let length = self.uint32(field)?;
-        let at = self.at;
-        let left = self.take(length, field)?;
-        Ok(Walk { left, at, ..*self })
-    }
-
-    fn uint32(&mut self, field: Field) -> Step<usize> {
-        self.begins(field)?;
-        let bytes = self.take(4, field)?;
-        Ok(bytes.iter().fold(0, |number, byte| number << 8 | usize::from(*byte)))
-    }
-
-    /// The next bytes of a field; one that hasn't so many can't have been passed in reading.
-    fn take(&mut self, length: usize, field: Field) -> Step<&'a [u8]> {
-        if self.left.len() < length {
-            return Err(field);
-        }
-        let (taken, left) = self.left.split_at(length);
-        self.left = left;
-        self.at += length;
-        Ok(taken)
-    }
-
-    /// A field begins here: is it the one?
-    fn begins(&self, field: Field) -> Step<()> {
-        if self.number != LEFT_OVER && self.at == self.place {
-            return Err(field);
-        }
-        Ok(())
-    }
-
-    /// What is left of a field: are the bytes left over among it?
-    fn rest(&self, field: Field) -> Step<()> {
-        let rest = self.at..self.at + self.left.len();
-        if self.number == LEFT_OVER && rest.contains(&self.place) {
-            return Err(field);
-        }
-        Ok(())
-    }
-}
-
-/// The strings after a key name in the blob. A name that isn't known ended the reading, so what remains is ECDSA.
-fn blob_fields(name: &[u8]) -> &'static [Field] {
-    match name {
-        b"ssh-ed25519" => &[Field::BlobPublicKey],
-        b"ssh-rsa" => &[Field::BlobE, Field::BlobN],
-        _ => &[Field::BlobCurve, Field::BlobPoint],
-    }
-}
-
-/// The strings after a key name in the section, up to the comment.
-fn pair_fields(name: &[u8]) -> &'static [Field] {
-    match name {
-        b"ssh-ed25519" => &[Field::SectionPublicKey, Field::Seed],
-        b"ssh-rsa" => &[Field::SectionN, Field::SectionE, Field::D, Field::Iqmp, Field::P, Field::Q],
-        _ => &[Field::SectionCurve, Field::SectionPoint, Field::Scalar],
     }
 }

@@ -1,6 +1,6 @@
 //! A header that was read, to ask before the passphrase and before the section.
 
-use std::fmt;
+use core::fmt;
 
 use crate::accepted::Accepted;
 use crate::c;
@@ -8,6 +8,9 @@ use crate::{Algorithm, Cipher, Error, Image, KdfAlg};
 
 /// The header of a key file's image: all that stands before the private section. It borrows the caller's bytes, and so do the
 /// parts that it answers: nothing is copied.
+///
+/// Two headers are equal where their bytes are, up to the section's beginning; what follows isn't compared. The comparison isn't
+/// constant-time.
 #[derive(Clone, Copy)]
 pub struct Header<'a> {
     read: Accepted<'a>,
@@ -27,8 +30,14 @@ impl<'a> Header<'a> {
         Image::answered(bytes, c::read_section(bytes, fields))
     }
 
+    fn header_bytes(&self) -> &'a [u8] {
+        &self.read.bytes[..self.section_start()]
+    }
+
     what_a_header_says!();
 }
+
+read_and_compared!(Header, header_bytes);
 
 /// Names and the section's place.
 impl fmt::Debug for Header<'_> {

@@ -1,13 +1,20 @@
 //! An image that was read, and its parts.
 
-use std::fmt;
+use core::fmt;
 
 use crate::accepted::Accepted;
 use crate::c;
+#[cfg(feature = "alloc")]
+use crate::{set_comment, MAX_IMAGE_LEN};
 use crate::{Algorithm, Cipher, EcdsaCurve, Error, KdfAlg};
+#[cfg(feature = "alloc")]
+use alloc::{vec, vec::Vec};
 
 /// A key file's image that the reader accepted. It borrows the caller's bytes, and so do the parts that it answers: nothing
 /// is copied.
+///
+/// Two images are equal where all their bytes are, private ones included. The comparison isn't constant-time: who can time it may learn
+/// of private bytes.
 #[derive(Clone, Copy)]
 pub struct Image<'a> {
     read: Accepted<'a>,
@@ -34,7 +41,7 @@ impl<'a> Image<'a> {
 
     /// The comment. An encrypted image shows none: it is in the ciphertext.
     pub fn comment(&self) -> &'a str {
-        std::str::from_utf8(self.read.part(self.read.fields.comment)).expect("an accepted image's comment is UTF-8")
+        core::str::from_utf8(self.read.part(self.read.fields.comment)).expect("an accepted image's comment is UTF-8")
     }
 
     /// **Private.** The secret scalar without leading zeros, so it may be shorter than its curve's size; for Ed25519 the seed,
@@ -112,6 +119,39 @@ impl<'a> Image<'a> {
     /// form these are its own bytes.
     pub fn rewrite(&self, out: &mut [u8]) -> Result<usize, Error> {
         Error::written_of(self.read.bytes, c::rewrite(self.read.bytes, out))
+    }
+
+    /// **Private.** What [`rewrite`](Self::rewrite) writes. It is refused (11) only where the image isn't in the form, and would be above
+    /// 65,535 bytes when it is written again. Nobody wipes the bytes.
+    #[cfg(feature = "alloc")]
+    pub fn rewritten(&self) -> Result<Vec<u8>, Error> {
+        // A zero that a scalar lacks makes the section one padded block longer.
+        let mut out = vec![0; self.as_bytes().len() + 8];
+        let len = self.rewrite(&mut out)?;
+        out.truncate(len);
+        Ok(out)
+    }
+
+    /// **Private.** The image with another comment, as [`set_comment`] changes it and with its refusals: an encrypted image (8), one that
+    /// isn't in the form (10), a comment that isn't UTF-8 (7), a new image above 65,535 bytes (11). Nobody wipes the bytes.
+    #[cfg(feature = "alloc")]
+    pub fn with_comment(&self, comment: impl AsRef<[u8]>) -> Result<Vec<u8>, Error> {
+        let (image, comment) = (self.as_bytes(), comment.as_ref());
+        let room = (image.len() + 8).saturating_add(comment.len()).min(MAX_IMAGE_LEN);
+        let mut out = vec![0; room];
+        out[..image.len()].copy_from_slice(image);
+        let len = set_comment(&mut out, image.len(), comment)?;
+        out.truncate(len);
+        Ok(out)
+    }
+}
+
+read_and_compared!(Image, as_bytes);
+
+/// The whole image, private bytes included.
+impl AsRef<[u8]> for Image<'_> {
+    fn as_ref(&self) -> &[u8] {
+        self.as_bytes()
     }
 }
 

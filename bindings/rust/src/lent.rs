@@ -1,6 +1,6 @@
 //! An image in a lent buffer, and its comment changed there.
 
-use std::fmt;
+use core::fmt;
 
 use crate::c;
 use crate::{Error, Image};
@@ -13,8 +13,7 @@ use crate::{Error, Image};
 /// comment that isn't UTF-8 (7, at the old comment's field), and a new image above 65,535 bytes (11) or longer than the buffer (9).
 pub fn set_comment(buffer: &mut [u8], len: usize, comment: impl AsRef<[u8]>) -> Result<usize, Error> {
     let reply = c::change_comment(buffer, len, comment.as_ref());
-    // A refused change left the bytes as they were; where there are fewer than `len` the refusal is at 0.
-    Error::changed(buffer.get(..len).unwrap_or_default(), reply)
+    Error::changed(buffer, len, reply)
 }
 
 /// A lent buffer whose first bytes are an image, and that image's length.
@@ -27,7 +26,7 @@ pub struct LentImage<'a> {
 impl<'a> LentImage<'a> {
     /// Reads the image that the first `len` bytes of `buffer` are; a `len` above the buffer's length is refused.
     pub fn new(buffer: &'a mut [u8], len: usize) -> Result<Self, Error> {
-        let image = buffer.get(..len).ok_or_else(|| Error::above_buffer(len))?;
+        let image = buffer.get(..len).ok_or_else(|| Error::above_buffer(len, buffer.len()))?;
         Image::read(image)?;
         Ok(Self { buffer, len })
     }
@@ -51,6 +50,13 @@ impl<'a> LentImage<'a> {
     pub fn set_comment(&mut self, comment: impl AsRef<[u8]>) -> Result<usize, Error> {
         self.len = set_comment(self.buffer, self.len, comment)?;
         Ok(self.len)
+    }
+}
+
+/// The image's bytes, private ones included.
+impl AsRef<[u8]> for LentImage<'_> {
+    fn as_ref(&self) -> &[u8] {
+        self.as_bytes()
     }
 }
 

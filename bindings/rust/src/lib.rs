@@ -1,24 +1,35 @@
 #![doc = include_str!("../README.md")]
+#![no_std]
 #![deny(unsafe_code)]
 #![warn(missing_docs)]
+
+#[cfg(feature = "alloc")]
+extern crate alloc;
+#[cfg(feature = "std")]
+extern crate std;
 
 #[macro_use]
 mod accepted;
 pub mod armour;
 #[allow(unsafe_code, missing_docs)]
 mod c;
+mod cause;
 mod error;
 mod field;
+mod handed;
 mod header;
 mod image;
+mod kind;
 mod lent;
 mod names;
+mod walk;
 mod write;
 
 pub use error::Error;
 pub use field::Field;
 pub use header::Header;
 pub use image::Image;
+pub use kind::ErrorKind;
 pub use lent::{set_comment, LentImage};
 pub use names::{Algorithm, Cipher, EcdsaCurve, KdfAlg};
 pub use write::{write_encrypted, write_plain, write_rsa, Checkint, EncryptedKey, PlainKey, RsaKey};

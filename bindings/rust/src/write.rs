@@ -1,8 +1,9 @@
 //! Writing an image into a lent buffer.
 
-use std::fmt;
+use core::fmt;
 
 use crate::c;
+use crate::handed::{of_encrypted, of_plain, of_rsa};
 use crate::{Algorithm, Cipher, Error, KdfAlg};
 
 /// The number that stands twice before the key in a plain section.
@@ -72,9 +73,9 @@ pub struct EncryptedKey<'a> {
     pub rounds: u32,
     /// The encoded public key, without a length before it.
     pub blob: &'a [u8],
-    /// The encrypted section: a multiple of the cipher's block, 16 bytes or for `3des-cbc` 8.
+    /// The encrypted section: a multiple of the cipher's [block](Cipher::block_size).
     pub ciphertext: &'a [u8],
-    /// The tag: 16 bytes for a GCM cipher, empty for another.
+    /// The tag, of the cipher's [tag length](Cipher::tag_length): empty but for a GCM cipher.
     pub tag: &'a [u8],
 }
 
@@ -87,7 +88,8 @@ pub struct EncryptedKey<'a> {
 pub fn write_plain(key: &PlainKey<'_>, comment: impl AsRef<[u8]>, out: &mut [u8]) -> Result<usize, Error> {
     let (derive, checkint) = key.checkint.codes();
     let algorithm = key.algorithm.code();
-    Error::written(c::write_plain(algorithm, key.public, key.private, derive, checkint, comment.as_ref(), out))
+    let reply = c::write_plain(algorithm, key.public, key.private, derive, checkint, comment.as_ref(), out);
+    Error::written(reply, |number| of_plain(key, number))
 }
 
 /// Writes a plain image of an RSA key to the start of `out` and answers its length; the bytes past it stay.
@@ -98,7 +100,7 @@ pub fn write_plain(key: &PlainKey<'_>, comment: impl AsRef<[u8]>, out: &mut [u8]
 pub fn write_rsa(key: &RsaKey<'_>, comment: impl AsRef<[u8]>, out: &mut [u8]) -> Result<usize, Error> {
     let (derive, checkint) = key.checkint.codes();
     let numbers = [key.n, key.e, key.d, key.iqmp, key.p, key.q];
-    Error::written(c::write_rsa(numbers, derive, checkint, comment.as_ref(), out))
+    Error::written(c::write_rsa(numbers, derive, checkint, comment.as_ref(), out), |number| of_rsa(key, number))
 }
 
 /// Writes an encrypted image to the start of `out` and answers its length; the bytes past it stay.
@@ -108,7 +110,8 @@ pub fn write_rsa(key: &RsaKey<'_>, comment: impl AsRef<[u8]>, out: &mut [u8]) ->
 /// bytes (11) or longer than `out` (9). Then no byte of `out` changes.
 pub fn write_encrypted(key: &EncryptedKey<'_>, out: &mut [u8]) -> Result<usize, Error> {
     let (cipher, kdf) = (key.cipher.code(), key.kdf.code());
-    Error::written(c::write_encrypted(cipher, kdf, key.salt, key.rounds, key.blob, key.ciphertext, key.tag, out))
+    let reply = c::write_encrypted(cipher, kdf, key.salt, key.rounds, key.blob, key.ciphertext, key.tag, out);
+    Error::written(reply, |number| of_encrypted(key, number))
 }
 
 /// Which of the two; a given checkint may come from private bytes, and isn't said.

@@ -6,7 +6,7 @@ use std::collections::BTreeSet;
 
 use saltorchard::{set_comment, write_encrypted, write_plain, write_rsa, MAX_IMAGE_LEN};
 use saltorchard::{Algorithm, Checkint, Cipher, EcdsaCurve, KdfAlg};
-use saltorchard::{EncryptedKey, Error, Field, Header, Image, LentImage, PlainKey, RsaKey};
+use saltorchard::{EncryptedKey, Error, ErrorKind, Field, Header, Image, LentImage, PlainKey, RsaKey};
 use support::hex;
 use support::images::{self, blob_bytes, sealed, strings_bytes, Draft, Key, CIPHERS};
 use support::Rng;
@@ -55,17 +55,17 @@ fn refusals() -> Vec<Error> {
 #[test]
 fn refusals_in_words() {
     let sentences = [
-        "Refusal 1 (Length): the key count at byte 35 is cut short, or isn't 1.",
-        "Refusal 2 (FormatEncoding): the image doesn't begin with the magic.",
-        "Refusal 3 (Crypto): the second checkint at byte 155 isn't equal to the first.",
-        "Refusal 4 (AlgorithmUnknown): the cipher name's string at byte 15 names none that is known.",
+        "Refusal 1 (Length): the key count at byte 35 is 2, and only 1 key in a file is taken.",
+        "Refusal 2 (FormatEncoding): the image doesn't begin with `openssh-key-v1` and a zero byte.",
+        "Refusal 3 (Crypto): the second checkint at byte 155 isn't equal to the first: the two check numbers before the key differ, so the section is damaged.",
+        "Refusal 4 (AlgorithmUnknown): the cipher name's string at byte 15 is \"aes512-ctr\", and no such cipher is known.",
         "Refusal 5 (PublicKey): the key name's string in the section at byte 159 begins another public key than the header's.",
         "Refusal 6 (TrailingData): the image has 2 bytes too many, from byte 311 on.",
         "Refusal 7 (CharacterEncoding): the comment's string at byte 300 isn't UTF-8.",
         "Refusal 8 (Encrypted): the image is encrypted, and a plain one is needed.",
         "Refusal 9 (BufferTooShort): the lent buffer is too short.",
-        "Refusal 10 (NotInForm): the image isn't the one that the writer makes of its record.",
-        "Refusal 11 (TooLarge): the image is, or would be, above 65,535 bytes.",
+        "Refusal 10 (NotInForm): the image isn't in the writer's form, so rewrite it first: it lacks the zero byte that its scalar needs before it.",
+        "Refusal 11 (TooLarge): the image has 65,536 bytes, and at most 65,535 are taken.",
     ];
     for (refusal, sentence) in refusals().iter().zip(sentences) {
         assert_eq!(refusal.to_string(), sentence);
@@ -86,8 +86,35 @@ fn refusals_in_numbers() {
     }
     let names: BTreeSet<&str> = refusals.iter().map(|refusal| refusal.name()).collect();
     assert_eq!(names.len(), 11);
-    let boxed: Box<dyn std::error::Error> = Box::new(refusals[0]);
-    assert_eq!(boxed.to_string(), refusals[0].to_string());
+}
+
+#[cfg(feature = "std")]
+#[test]
+fn a_refusal_is_an_error() {
+    let refusal = refusals()[0];
+    let boxed: Box<dyn std::error::Error> = Box::new(refusal);
+    assert_eq!(boxed.to_string(), refusal.to_string());
+}
+
+#[test]
+fn refusals_by_kind() {
+    let kinds = [
+        (ErrorKind::Length, "Length"),
+        (ErrorKind::FormatEncoding, "FormatEncoding"),
+        (ErrorKind::Crypto, "Crypto"),
+        (ErrorKind::AlgorithmUnknown, "AlgorithmUnknown"),
+        (ErrorKind::PublicKey, "PublicKey"),
+        (ErrorKind::TrailingData, "TrailingData"),
+        (ErrorKind::CharacterEncoding, "CharacterEncoding"),
+        (ErrorKind::Encrypted, "Encrypted"),
+        (ErrorKind::BufferTooShort, "BufferTooShort"),
+        (ErrorKind::NotInForm, "NotInForm"),
+        (ErrorKind::TooLarge, "TooLarge"),
+    ];
+    for (refusal, (kind, name)) in refusals().into_iter().zip(kinds) {
+        assert_eq!((refusal.kind(), refusal.name(), kind.name()), (kind, name, name));
+        assert_eq!((refusal.number(), format!("{:?}", kind)), (kind as u64, name.to_string()));
+    }
 }
 
 #[test]
@@ -98,7 +125,12 @@ fn refusals_by_field() {
     assert_eq!(fields, [count, image, checkint, cipher, name, image, comment, image, image, image, image]);
     assert_eq!(format!("{:>26}|{:?}", comment, comment), "      the comment's string|Comment");
     let debug = format!("{:?}", refusals()[6]);
-    assert_eq!(debug, "Error { number: 7, count: 0, at: 300, field: Comment, new_comment: false }");
+    assert_eq!(
+        debug,
+        "Error { kind: CharacterEncoding, count: 0, at: 300, field: Comment, part: None, cause: NotUtf8 }"
+    );
+    let debug = format!("{:?}", refusal(|draft| draft.cipher = b"aes\xff".to_vec()));
+    assert!(debug.ends_with("cause: Unknown(Cipher, \"aes\\xff\") }"), "{}", debug);
 }
 
 #[test]

@@ -3,7 +3,7 @@
 use std::collections::BTreeSet;
 use std::fmt::Debug;
 
-use saltorchard::{armour, EncryptedKey, Field, Header, Image, LentImage, PlainKey, RsaKey};
+use saltorchard::{armour, EncryptedKey, ErrorKind, Field, Header, Image, LentImage, PlainKey, RsaKey};
 use saltorchard::{raw, write_encrypted, write_plain, write_rsa, Algorithm, Checkint, Cipher, EcdsaCurve, KdfAlg};
 
 /// Every private byte that isn't zero, and the four of the checkint, given or derived.
@@ -101,6 +101,7 @@ fn names() -> Vec<Line> {
         "Algorithm": Algorithm::Ed25519, Algorithm::Ecdsa { curve }, Algorithm::Rsa;
         "Cipher": Cipher::None, Cipher::Aes256Gcm;
         "EcdsaCurve": curve;
+        "ErrorKind": ErrorKind::Length, ErrorKind::TooLarge;
         "Field": Field::Image, Field::Comment;
         "KdfAlg": KdfAlg::None, KdfAlg::Bcrypt;
     }

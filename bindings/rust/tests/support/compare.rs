@@ -3,9 +3,9 @@
 
 use std::collections::BTreeSet;
 
+use super::faults::{fault_of, faults, Fault};
 use super::images::SIZES;
 use super::model::{self, Numbers, Part, Record, Refusal};
-use super::pairs::pairs;
 use super::{hex, seed};
 use saltorchard::raw;
 use saltorchard::{Algorithm, Checkint, Cipher, EcdsaCurve, EncryptedKey, Error, Header, Image, KdfAlg};
@@ -269,23 +269,23 @@ pub struct Tally {
     numbers: [u64; 12],
     headers: [u64; 12],
     sections: [u64; 12],
-    /// The refusals of the crate, by field and number.
-    pairs: BTreeSet<(&'static str, u64)>,
+    /// The refusals of the crate, by field, number and cause.
+    faults: BTreeSet<Fault>,
 }
 
 impl Tally {
     pub fn new(entry: &'static str) -> Self {
-        Self { entry, made: 0, numbers: [0; 12], headers: [0; 12], sections: [0; 12], pairs: BTreeSet::new() }
+        Self { entry, made: 0, numbers: [0; 12], headers: [0; 12], sections: [0; 12], faults: BTreeSet::new() }
     }
 
-    /// Says how many comparisons there were; fails where there were fewer than `least`, and where a refusal has a field and a
-    /// number that no sentence is tested for.
+    /// Says how many comparisons there were; fails where there were fewer than `least`, and where a refusal has a field, a number and
+    /// a cause that no sentence is tested for.
     pub fn end(self, least: u64) {
         println!("{}: {} comparisons, seed {}{}", self.entry, self.made, seed(), self.replies());
         assert!(self.made >= least, "{}: only {} comparisons of {}", self.entry, self.made, least);
-        let listed = pairs();
-        for pair in &self.pairs {
-            assert!(listed.contains(pair), "{}: {:?} isn't in the list", self.entry, pair);
+        let listed = faults();
+        for fault in &self.faults {
+            assert!(listed.contains(fault), "{}: {:?} isn't in the list", self.entry, fault);
         }
     }
 
@@ -399,7 +399,7 @@ impl Tally {
     }
 
     fn refusal_unlike(&mut self, error: Error, right: &Refusal) -> Option<&'static str> {
-        self.pairs.insert((right.field, right.number));
+        self.faults.insert(fault_of(error));
         first_unlike(&[("refusal", is_refusal(error, right))])
     }
 

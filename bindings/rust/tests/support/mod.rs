@@ -3,10 +3,10 @@
 
 pub mod compare;
 pub mod damage;
+pub mod faults;
 pub mod images;
 #[path = "../model/mod.rs"]
 pub mod model;
-pub mod pairs;
 
 const DEFAULT_SEED: u64 = 0x5a17_0c4a_7d00_0001;
 
