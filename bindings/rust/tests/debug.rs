@@ -193,3 +193,35 @@ fn two_types_have_no_debug() {
         all_lines().into_iter().filter(|(_, texts)| texts.is_empty()).map(|line| line.0).collect();
     assert_eq!(silent, BTreeSet::from(["raw::Image", "raw::Part"]));
 }
+
+/// Bytes that damage a length, a name or a number.
+const DAMAGE: [u8; 14] = [0, 1, 2, 4, 7, 8, 16, 31, 33, 64, 0x7f, 0x80, MARK, 0xff];
+
+/// Each byte of a marked section changed: no refusal shows a name from there, nor a length that marked bytes are.
+#[test]
+fn no_mark_of_a_damaged_section() {
+    let mut refused = 0;
+    for image in images() {
+        let start = Header::read(&image).expect("a good image").section_start() + 4;
+        for (place, value) in (start..image.len()).flat_map(|place| DAMAGE.map(|value| (place, value))) {
+            let mut damaged = image.clone();
+            damaged[place] = value;
+            if let Err(refusal) = Image::read(&damaged) {
+                let said = format!("{} {:?}", refusal, refusal);
+                let shown = ["\"", "\\", "3553874899", "3,553,874,899"].iter().any(|mark| said.contains(mark));
+                assert!(!shown, "byte {} changed to {} shows something of the section", place, value);
+                refused += 1;
+            }
+        }
+    }
+    assert!(refused > 3_000, "only {} refusals", refused);
+}
+
+/// So that this test would see what it looks for.
+#[test]
+fn a_name_of_the_header_is_shown() {
+    let mut image = images().remove(0);
+    image[19] = MARK;
+    let refusal = Image::read(&image).expect_err("an unknown cipher");
+    assert!(refusal.to_string().contains("\"\\xd3one\"") && format!("{:?}", refusal).contains("\"\\xd3one\""));
+}

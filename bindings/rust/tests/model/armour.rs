@@ -11,7 +11,7 @@ const COLUMNS: usize = 70;
 const TEXT: &str = "the text";
 
 fn refuse<T>(number: u64, field: &'static str) -> Result<T, Refusal> {
-    Err(Refusal { number, count: 0, at: 0, field })
+    super::refuse(number, 0, field)
 }
 
 pub fn export(image: &[u8], out: &mut [u8]) -> Result<usize, Refusal> {

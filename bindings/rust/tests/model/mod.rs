@@ -37,6 +37,8 @@ pub struct Refusal {
     pub at: u64,
     /// The words for the field that it is about.
     pub field: &'static str,
+    /// The words for the part that it is about, of what was handed in; of a blob for the field there.
+    pub part: &'static str,
 }
 
 const IMAGE: &str = "the image";
@@ -148,11 +150,15 @@ fn put_places(numbers: &mut [u64], parts: &[&Part]) {
 }
 
 fn refuse<T>(number: u64, at: usize, field: &'static str) -> Result<T, Refusal> {
-    Err(Refusal { number, count: 0, at: at as u64, field })
+    Err(Refusal { number, count: 0, at: at as u64, field, part: "" })
+}
+
+fn refuse_part<T>(number: u64, part: &'static str) -> Result<T, Refusal> {
+    Err(Refusal { number, count: 0, at: 0, field: HANDED_IN, part })
 }
 
 fn left_over<T>(count: usize, at: usize, field: &'static str) -> Result<T, Refusal> {
-    Err(Refusal { number: 6, count: count as u64, at: at as u64, field })
+    Err(Refusal { number: 6, count: count as u64, at: at as u64, field, part: "" })
 }
 
 /// What is still to be read of the image, or of one of its strings. Each step is given the words for its field.
@@ -682,6 +688,24 @@ fn derived_checkint(private: &[u8]) -> u32 {
     groups.fold(0, |sum, group| sum ^ u32::from_be_bytes([group[0], group[1], group[2], group[3]]))
 }
 
+/// Both lengths come before both halves' bytes.
+fn check_halves(algorithm: u8, public: &[u8], private: &[u8]) -> Result<(), Refusal> {
+    let (public_length, private_length) = lengths(algorithm);
+    if public.len() != public_length {
+        return refuse_part(1, "the public key");
+    }
+    if private.len() != private_length {
+        return refuse_part(1, "the private key");
+    }
+    if algorithm != ED25519 && public[0] != 4 {
+        return refuse_part(2, "the public key");
+    }
+    if algorithm != ED25519 && leading_zeros(private) == private.len() {
+        return refuse_part(2, "the private key");
+    }
+    Ok(())
+}
+
 /// Writes a plain image of an Ed25519 or ECDSA key; `derive` other than 0 derives the checkint.
 pub fn write_plain(
     algorithm: u8,
@@ -693,16 +717,11 @@ pub fn write_plain(
     out: &mut [u8],
 ) -> Result<usize, Refusal> {
     if algorithm > 3 {
-        return refuse(4, 0, HANDED_IN);
+        return refuse_part(4, "the algorithm");
     }
-    if (public.len(), private.len()) != lengths(algorithm) {
-        return refuse(1, 0, HANDED_IN);
-    }
-    if algorithm != ED25519 && (public[0] != 4 || leading_zeros(private) == private.len()) {
-        return refuse(2, 0, HANDED_IN);
-    }
+    check_halves(algorithm, public, private)?;
     if std::str::from_utf8(comment).is_err() {
-        return refuse(7, 0, HANDED_IN);
+        return refuse_part(7, "the comment");
     }
     let checkint = if derive == 0 { checkint } else { derived_checkint(private) };
     store(&plain_image(algorithm, public, private, checkint, comment), out)
@@ -716,14 +735,15 @@ pub fn write_rsa(
     comment: &[u8],
     out: &mut [u8],
 ) -> Result<usize, Refusal> {
-    if !numbers.iter().all(|number| is_mpint(number)) {
-        return refuse(2, 0, HANDED_IN);
+    let names = ["n", "e", "d", "iqmp", "p", "q"];
+    if let Some(place) = numbers.iter().position(|number| !is_mpint(number)) {
+        return refuse_part(2, names[place]);
     }
-    if wrong_size(&numbers, 0).is_some() {
-        return refuse(1, 0, HANDED_IN);
+    if let Some(place) = wrong_size(&numbers, 0) {
+        return refuse_part(1, names[place]);
     }
     if std::str::from_utf8(comment).is_err() {
-        return refuse(7, 0, HANDED_IN);
+        return refuse_part(7, "the comment");
     }
     let [_, _, d, ..] = numbers;
     let checkint = if derive == 0 { checkint } else { derived_checkint(d) };
@@ -743,21 +763,24 @@ pub fn write_encrypted(
     out: &mut [u8],
 ) -> Result<usize, Refusal> {
     if cipher > 9 || kdf > 1 {
-        return refuse(4, 0, HANDED_IN);
+        return refuse_part(4, "a code");
     }
-    if cipher == 0 || kdf == 0 && (!salt.is_empty() || rounds != 0) {
-        return refuse(3, 0, HANDED_IN);
+    if cipher == 0 {
+        return refuse_part(3, "the cipher");
+    }
+    if kdf == 0 && (!salt.is_empty() || rounds != 0) {
+        return refuse_part(3, if salt.is_empty() { "the rounds" } else { "the salt" });
     }
     let mut reader = Reader { image: blob, at: 0, end: blob.len() };
     if let Err(refusal) = read_blob(&mut reader) {
-        return Err(Refusal { at: 0, field: HANDED_IN, ..refusal });
+        return Err(Refusal { at: 0, field: HANDED_IN, part: refusal.field, ..refusal });
     }
     let (_, block, tag_length) = CIPHERS[usize::from(cipher)];
     if ciphertext.len() % block != 0 {
-        return refuse(3, 0, HANDED_IN);
+        return refuse_part(3, "the ciphertext");
     }
     if tag.len() != tag_length {
-        return refuse(1, 0, HANDED_IN);
+        return refuse_part(1, "the tag");
     }
     store(&encrypted_image((cipher, kdf), (salt, rounds), blob, ciphertext, tag), out)
 }

@@ -133,6 +133,11 @@ fn is_refusal(error: Error, right: &Refusal) -> bool {
     numbers == (right.number, right.count, right.at) && error.field().to_string() == right.field
 }
 
+/// Does a fault begin with the words for this part, where there is one?
+fn is_about(fault: &str, part: &str) -> bool {
+    fault.strip_prefix(part).map_or(false, |rest| part.is_empty() || rest.starts_with(' '))
+}
+
 pub fn numbers_of(image: &raw::Image) -> Numbers {
     [
         image.number, image.count, image.at, image.kind, image.algorithm, image.cipher, image.kdf, image.rounds,
@@ -399,8 +404,10 @@ impl Tally {
     }
 
     fn refusal_unlike(&mut self, error: Error, right: &Refusal) -> Option<&'static str> {
-        self.faults.insert(fault_of(error));
-        first_unlike(&[("refusal", is_refusal(error, right))])
+        let fault = fault_of(error);
+        let same = [("refusal", is_refusal(error, right)), ("part", is_about(&fault.2, right.part))];
+        self.faults.insert(fault);
+        first_unlike(&same)
     }
 
     fn hold_alike(&self, what: &str, unlike: Option<&str>, right: &Result<Record, Refusal>, bytes: &[u8]) {
