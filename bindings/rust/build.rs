@@ -76,11 +76,17 @@ fn interfaces(bytes: &[u8]) -> Vec<String> {
     numbers
 }
 
+/// The folder that is named, or that of a package, or that of the checkout.
 fn folder() -> PathBuf {
-    match env::var_os("SALTORCHARD_LIB_DIR") {
-        Some(folder) => PathBuf::from(folder),
-        None => PathBuf::from(variable("CARGO_MANIFEST_DIR")).join("../../target/staticlib"),
+    if let Some(folder) = env::var_os("SALTORCHARD_LIB_DIR") {
+        return PathBuf::from(folder);
     }
+    let crate_itself = PathBuf::from(variable("CARGO_MANIFEST_DIR"));
+    let packaged = crate_itself.join("lib");
+    if packaged.join(ARCHIVE).is_file() {
+        return packaged;
+    }
+    crate_itself.join("../../target/staticlib")
 }
 
 fn variable(name: &str) -> String {

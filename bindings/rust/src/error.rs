@@ -170,3 +170,18 @@ impl fmt::Display for Error {
 
 #[cfg(feature = "std")]
 impl std::error::Error for Error {}
+
+#[cfg(all(test, feature = "std"))]
+mod tests {
+    use super::Error;
+    use std::string::ToString;
+
+    /// The one sentence that no call can have, as long as crate and archive are of one interface.
+    #[test]
+    fn an_untold_reason() {
+        assert_eq!(
+            Error::unknown_code().to_string(),
+            "Refusal 4 (AlgorithmUnknown): the image is refused for a reason that this version of the crate doesn't know."
+        );
+    }
+}

@@ -21,9 +21,11 @@ fn other() -> String {
 }
 
 fn archive() -> Vec<u8> {
-    let folder = env::var_os("SALTORCHARD_LIB_DIR").map(PathBuf::from);
-    let folder = folder.unwrap_or_else(|| PathBuf::from(env!("CARGO_MANIFEST_DIR")).join("../../target/staticlib"));
-    fs::read(folder.join("libsaltorchard.a")).expect("the tests were built with it")
+    let named = env::var_os("SALTORCHARD_LIB_DIR").map(PathBuf::from);
+    let within = ["lib", "../../target/staticlib"].map(|folder| PathBuf::from(env!("CARGO_MANIFEST_DIR")).join(folder));
+    let folders = named.map_or(within.to_vec(), |folder| vec![folder]);
+    let archive = folders.iter().find_map(|folder| fs::read(folder.join("libsaltorchard.a")).ok());
+    archive.expect("the tests were built with it")
 }
 
 /// The archive with one name for another of the same length, wherever it stands.
