@@ -14,23 +14,27 @@ pub(crate) struct Accepted<'a> {
 }
 
 impl<'a> Accepted<'a> {
-    /// What a read of `bytes` answered, or its refusal.
+    /// What a read of `bytes` answered, or its refusal. The names are looked up first, so that the many fields are copied once.
     pub fn new(bytes: &'a [u8], fields: c::Image) -> Result<Self, Error> {
-        if fields.number != 0 {
-            return Err(Error::read(bytes, &fields));
-        }
-        Ok(Self {
-            bytes,
-            fields,
-            algorithm: Algorithm::from_code(fields.algorithm).ok_or_else(Error::unknown_code)?,
-            cipher: Cipher::from_code(fields.cipher).ok_or_else(Error::unknown_code)?,
-            kdf: KdfAlg::from_code(fields.kdf).ok_or_else(Error::unknown_code)?,
-        })
+        let (algorithm, cipher, kdf) = names(bytes, &fields)?;
+        Ok(Self { bytes, fields, algorithm, cipher, kdf })
     }
 
     pub fn part(&self, part: c::Part) -> &'a [u8] {
         let start = part.start as usize;
         &self.bytes[start..start + part.length as usize]
+    }
+}
+
+fn names(bytes: &[u8], fields: &c::Image) -> Result<(Algorithm, Cipher, KdfAlg), Error> {
+    if fields.number != 0 {
+        return Err(Error::read(bytes, fields));
+    }
+    let algorithm = Algorithm::from_code(fields.algorithm);
+    let (cipher, kdf) = (Cipher::from_code(fields.cipher), KdfAlg::from_code(fields.kdf));
+    match (algorithm, cipher, kdf) {
+        (Some(algorithm), Some(cipher), Some(kdf)) => Ok((algorithm, cipher, kdf)),
+        _ => Err(Error::unknown_code()),
     }
 }
 

@@ -61,6 +61,7 @@ impl Error {
 
     /// A refused read of `image`.
     #[cold]
+    #[inline(never)]
     pub(crate) fn read(image: &[u8], read: &c::Image) -> Self {
         Self::of(image, read.number, read.count, read.at)
     }

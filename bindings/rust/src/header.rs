@@ -20,7 +20,7 @@ impl<'a> Header<'a> {
     /// Reads the header of the image that `bytes` are, and checks its rules. The section isn't looked at: it may be damaged,
     /// cut short or missing.
     pub fn read(bytes: &'a [u8]) -> Result<Self, Error> {
-        Ok(Self { read: Accepted::new(bytes, c::read_header(bytes))? })
+        Accepted::new(bytes, c::read_header(bytes)).map(|read| Self { read })
     }
 
     /// Goes on to the section and its rules, and answers as [`Image::read`] of the same bytes does. A KDF without a cipher is

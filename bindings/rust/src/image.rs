@@ -29,7 +29,7 @@ impl<'a> Image<'a> {
 
     /// What a read of all of `bytes` answered.
     pub(crate) fn answered(bytes: &'a [u8], fields: c::Image) -> Result<Self, Error> {
-        Ok(Self { read: Accepted::new(bytes, fields)? })
+        Accepted::new(bytes, fields).map(|read| Self { read })
     }
 
     /// The whole image, private bytes included.
