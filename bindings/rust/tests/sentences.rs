@@ -622,3 +622,14 @@ fn no_refusal_is_left_out() {
     let unlisted: Vec<_> = tested.difference(&listed).collect();
     assert!(untested.is_empty() && unlisted.is_empty(), "untested {:#?}, unlisted {:#?}", untested, unlisted);
 }
+
+/// The sentences that the README shows are some of these.
+#[test]
+fn the_readme_shows_sentences() {
+    let sentences: BTreeSet<String> = cases().into_iter().map(|(refusal, ..)| refusal.to_string()).collect();
+    let shown: Vec<&str> = include_str!("../README.md").lines().filter(|line| line.starts_with("Refusal ")).collect();
+    assert_eq!(shown.len(), 6);
+    for sentence in shown {
+        assert!(sentences.contains(sentence), "{}", sentence);
+    }
+}
