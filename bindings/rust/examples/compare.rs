@@ -1,5 +1,5 @@
-//! `compare A B`: says in one line how two private-key files are alike. Each is an openssh-key-v1 image, binary or in its text armour;
-//! the images are compared, without armour:
+//! `compare A B`: says in one line how two private-key files are alike. Each is an openssh-key-v1 image, binary or in its text
+//! armour; the images are compared, without armour:
 //!
 //! - `same bytes`
 //! - `same fields in another form`: a scalar has another number of zeros before it

@@ -1,6 +1,6 @@
-//! `inspect FILE`: says what a private-key file is, by kind, names, lengths and form, in the lines of the project's own `./inspect`, or
-//! how it is refused: `refused NUMBER COUNT PLACE` on standard output, and the sentence on standard error. FILE is an openssh-key-v1
-//! image, binary or in its text armour, in the one spelling that ssh-keygen writes.
+//! `inspect FILE`: says what a private-key file is, by kind, names, lengths and form, in the lines of the project's own
+//! `./inspect`, or how it is refused: `refused NUMBER COUNT PLACE` on standard output, and the sentence on standard error. FILE is
+//! an openssh-key-v1 image, binary or in its text armour, in the one spelling that ssh-keygen writes.
 //!
 //! Status: 0 accepted, 1 refused, 2 not looked at.
 use std::ffi::{OsStr, OsString};

@@ -126,8 +126,8 @@ macro_rules! what_a_header_says {
             self.read.fields.rounds as u32
         }
 
-        /// Do both have the same key, of one kind and with one public half? The public blobs are compared, and not in constant time.
-        /// What is encrypted, or private, isn't looked at.
+        /// Do both have the same key, of one kind and with one public half? The public blobs are compared, and not in constant
+        /// time. What is encrypted, or private, isn't looked at.
         pub fn same_key(&self, other: &Self) -> bool {
             self.public_blob() == other.public_blob()
         }

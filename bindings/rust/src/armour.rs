@@ -101,7 +101,8 @@ pub fn import(text: impl AsRef<[u8]>, out: &mut [u8]) -> Result<usize, Error> {
     Error::imported(text, c::import(text, out))
 }
 
-/// **Private.** The text that [`export`] writes of `image`, of any bytes. More than 65,535 of them are refused (11). Nobody wipes the text.
+/// **Private.** The text that [`export`] writes of `image`, of any bytes. More than 65,535 of them are refused (11). Nobody wipes
+/// the text.
 ///
 /// ```
 /// use saltorchard::armour::{exported, imported};
@@ -118,8 +119,8 @@ pub fn exported(image: &[u8]) -> Result<String, Error> {
     Ok(String::from_utf8(text).expect("base64 and its two lines are ASCII"))
 }
 
-/// **Private.** The bytes that `text` carries, as [`import`] writes them and with its refusals, but for the room: any other text than
-/// [`export`]'s (2), more than 65,535 carried bytes (11). Nobody wipes the bytes.
+/// **Private.** The bytes that `text` carries, as [`import`] writes them and with its refusals, but for the room: any other text
+/// than [`export`]'s (2), more than 65,535 carried bytes (11). Nobody wipes the bytes.
 #[cfg(feature = "alloc")]
 pub fn imported(text: impl AsRef<[u8]>) -> Result<Vec<u8>, Error> {
     let text = text.as_ref();

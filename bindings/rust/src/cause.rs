@@ -60,8 +60,8 @@ impl fmt::Debug for Name {
     }
 }
 
-/// What is wrong with a field. Its `Display` follows the field's words in a sentence. It has no byte of the section, and of the lengths
-/// there none that may lie where a private byte was.
+/// What is wrong with a field. Its `Display` follows the field's words in a sentence. It has no byte of the section, and of the
+/// lengths there none that may lie where a private byte was.
 #[derive(Clone, Copy, Debug, PartialEq, Eq, Hash)]
 pub(crate) enum Cause {
     /// The archive answered what it can't by its interface, or the crate's walk and the archive differ.

@@ -5,15 +5,17 @@ use core::fmt;
 use crate::c;
 use crate::cause::{Bytes, Cause, Named};
 use crate::handed::{of_name, Part, Refused};
-use crate::walk::{above_limit, misspelled, refused};
+use crate::judge::{above_limit, misspelled};
+use crate::walk::refused;
 use crate::{ErrorKind, Field, MAX_IMAGE_LEN};
 
-/// A refusal: its [kind](ErrorKind), how many bytes are left over where that is the reason, the field that it is about, and the byte of
-/// the image at which that field began. Its `Display` is a sentence that says what of this applies, and which of several causes it was.
+/// A refusal: its [kind](ErrorKind), how many bytes are left over where that is the reason, the field that it is about, and the
+/// byte of the image at which that field began. Its `Display` is a sentence that says what of this applies, and which of several
+/// causes it was.
 ///
-/// Count and place are what the image's length fields say: in a damaged image such a field may lie where a private byte was, so treat
-/// its error as you treat the key. The sentence and `Debug` show no byte of the section. Of the header they show a name that isn't
-/// known, escaped and at most 32 bytes of it.
+/// Count and place are what the image's length fields say: in a damaged image such a field may lie where a private byte was, so
+/// treat its error as you treat the key. The sentence and `Debug` show no byte of the section. Of the header they show a name that
+/// isn't known, escaped and at most 32 bytes of it.
 ///
 /// Where several reasons hold, the first in the order of reading or writing is given. A refusal changes no byte of a lent buffer.
 #[derive(Clone, Copy, Debug, PartialEq, Eq, Hash)]
@@ -111,8 +113,8 @@ impl Error {
         }
     }
 
-    /// The new length of the image that the first `len` bytes of `buffer` are, whose comment was changed, or the refusal, which left the
-    /// bytes as they were. The reader's refusals come first, so a 7 on an image that it accepts is the new comment's.
+    /// The new length of the image that the first `len` bytes of `buffer` are, whose comment was changed, or the refusal, which
+    /// left the bytes as they were. The reader's refusals come first, so a 7 on an image that it accepts is the new comment's.
     pub(crate) fn changed(buffer: &[u8], len: usize, reply: c::Reply) -> Result<usize, Self> {
         match buffer.get(..len) {
             None => Err(Self::above_buffer(len, buffer.len())),

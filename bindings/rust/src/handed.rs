@@ -4,7 +4,8 @@ use core::fmt;
 
 use crate::c;
 use crate::cause::{Cause, Name, Named};
-use crate::walk::{bits, refused_blob, wrong_modulus, wrong_mpint, zeros_only};
+use crate::judge::{bits, wrong_modulus, wrong_mpint, zeros_only};
+use crate::walk::refused_blob;
 use crate::{Algorithm, EncryptedKey, Field, KdfAlg, PlainKey, RsaKey};
 
 /// A part of what was handed in.

@@ -13,8 +13,8 @@ use alloc::{vec, vec::Vec};
 /// A key file's image that the reader accepted. It borrows the caller's bytes, and so do the parts that it answers: nothing
 /// is copied.
 ///
-/// Two images are equal where all their bytes are, private ones included. The comparison isn't constant-time: who can time it may learn
-/// of private bytes.
+/// Two images are equal where all their bytes are, private ones included. The comparison isn't constant-time: who can time it may
+/// learn of private bytes.
 #[derive(Clone, Copy)]
 pub struct Image<'a> {
     read: Accepted<'a>,
@@ -121,8 +121,8 @@ impl<'a> Image<'a> {
         Error::written_of(self.read.bytes, c::rewrite(self.read.bytes, out))
     }
 
-    /// **Private.** What [`rewrite`](Self::rewrite) writes. It is refused (11) only where the image isn't in the form, and would be above
-    /// 65,535 bytes when it is written again. Nobody wipes the bytes.
+    /// **Private.** What [`rewrite`](Self::rewrite) writes. It is refused (11) only where the image isn't in the form, and would be
+    /// above 65,535 bytes when it is written again. Nobody wipes the bytes.
     #[cfg(feature = "alloc")]
     pub fn rewritten(&self) -> Result<Vec<u8>, Error> {
         // A zero that a scalar lacks makes the section one padded block longer.
@@ -132,8 +132,8 @@ impl<'a> Image<'a> {
         Ok(out)
     }
 
-    /// **Private.** The image with another comment, as [`set_comment`] changes it and with its refusals: an encrypted image (8), one that
-    /// isn't in the form (10), a comment that isn't UTF-8 (7), a new image above 65,535 bytes (11). Nobody wipes the bytes.
+    /// **Private.** The image with another comment, as [`set_comment`] changes it and with its refusals: an encrypted image (8), one
+    /// that isn't in the form (10), a comment that isn't UTF-8 (7), a new image above 65,535 bytes (11). Nobody wipes the bytes.
     #[cfg(feature = "alloc")]
     pub fn with_comment(&self, comment: impl AsRef<[u8]>) -> Result<Vec<u8>, Error> {
         let (image, comment) = (self.as_bytes(), comment.as_ref());

@@ -3,8 +3,8 @@
 /// The reasons, each once: its number, its name, and what it means.
 macro_rules! kinds {
     ($($number:literal $name:ident $meaning:literal)*) => {
-        /// The reason of a refusal. The first eight have ssh-key's names; that crate doesn't have the others. A variant is its number:
-        /// `ErrorKind::Crypto as u64` is 3.
+        /// The reason of a refusal. The first eight have ssh-key's names; that crate doesn't have the others. A variant is its
+        /// number: `ErrorKind::Crypto as u64` is 3.
         #[derive(Clone, Copy, Debug, PartialEq, Eq, Hash)]
         #[non_exhaustive]
         pub enum ErrorKind {
@@ -31,10 +31,10 @@ macro_rules! kinds {
 }
 
 kinds! {
-    1 Length "1: a field runs past its end, or has a wrong length or key count; an ECDSA scalar is empty; an RSA number has too few \
-        or too many bits."
-    2 FormatEncoding "2: a wrong beginning of the image, padding byte or first byte of a point or scalar; an ECDSA scalar of zeros only; \
-        an RSA number that isn't positive and in the fewest bytes; a text in another spelling than export's."
+    1 Length "1: a field runs past its end, or has a wrong length or key count; an ECDSA scalar is empty; an RSA number has too \
+        few or too many bits."
+    2 FormatEncoding "2: a wrong beginning of the image, padding byte or first byte of a point or scalar; an ECDSA scalar of \
+        zeros only; an RSA number that isn't positive and in the fewest bytes; a text in another spelling than export's."
     3 Crypto "3: unequal checkints, a misused KDF, a ciphertext that isn't whole blocks, Ed25519 halves that differ."
     4 AlgorithmUnknown "4: an unknown name, or a curve unlike its algorithm."
     5 PublicKey "5: the section's public key isn't the header's."

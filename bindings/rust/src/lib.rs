@@ -19,6 +19,7 @@ mod field;
 mod handed;
 mod header;
 mod image;
+mod judge;
 mod kind;
 mod lent;
 mod names;

@@ -1,4 +1,4 @@
-//! The examples that read files, over the stored key files of others, binary and armoured: their lines are what the model says of them.
+//! The examples that read files, over the stored key files, binary and armoured: their lines are what the model says of them.
 #![cfg(feature = "alloc")]
 
 mod support;
@@ -9,7 +9,7 @@ use std::io::{self, Write};
 use std::path::{Path, PathBuf};
 use std::process::Command;
 
-use saltorchard::Image;
+use saltorchard::{armour, Image};
 use support::images::{Draft, Key, ALGORITHMS, CIPHERS, KDFS};
 use support::model::armour::text_of;
 use support::model::{self, Record};
@@ -181,6 +181,23 @@ fn compare_looks_at_the_fields() {
     assert_eq!(compared(&stored(fewest.clone()), &stored(with_zero)), "same fields in another form\n");
     let other = [&[0x12], &fewest[1..]].concat();
     assert_eq!(compared(&stored(fewest), &stored(other)), "same public key, other private bytes\n");
+}
+
+/// The README's rows for ssh-key's `write_openssh_file` and `read_openssh_file`.
+#[cfg(unix)]
+#[test]
+fn a_file_is_written_and_read() {
+    use std::os::unix::fs::{OpenOptionsExt, PermissionsExt};
+    let bytes = fs::read(stored("keygen-p256-ascii.bin")).expect("a stored file");
+    let image = Image::read(&bytes).expect("a good image");
+    let path = written("new", b"");
+    fs::remove_file(&path).expect("the test's own file");
+    let opened = fs::OpenOptions::new().write(true).create(true).truncate(true).mode(0o600).open(&path);
+    let text = armour::exported(image.as_bytes()).expect("a text");
+    opened.expect("a new file").write_all(text.as_bytes()).expect("room for it");
+    assert_eq!(fs::metadata(&path).expect("the file").permissions().mode() & 0o777, 0o600);
+    let read = armour::imported(fs::read(&path).expect("the file")).expect("a text");
+    assert_eq!(Image::read(&read), Ok(image));
 }
 
 /// The programs themselves, with the status that the shell sees.

@@ -283,8 +283,8 @@ impl Tally {
         Self { entry, made: 0, numbers: [0; 12], headers: [0; 12], sections: [0; 12], faults: BTreeSet::new() }
     }
 
-    /// Says how many comparisons there were; fails where there were fewer than `least`, and where a refusal has a field, a number and
-    /// a cause that no sentence is tested for.
+    /// Says how many comparisons there were; fails where there were fewer than `least`, and where a refusal has a field, a number
+    /// and a cause that no sentence is tested for.
     pub fn end(self, least: u64) {
         println!("{}: {} comparisons, seed {}{}", self.entry, self.made, seed(), self.replies());
         assert!(self.made >= least, "{}: only {} comparisons of {}", self.entry, self.made, least);
