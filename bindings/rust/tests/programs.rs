@@ -1,5 +1,6 @@
 //! The examples that read files, over the stored key files, binary and armoured: their lines are what the model says of them.
 #![cfg(feature = "alloc")]
+#![allow(clippy::duplicate_mod)] // the two programs share a file, and stand here side by side
 
 mod support;
 
@@ -203,7 +204,7 @@ fn a_file_is_written_and_read() {
 /// The programs themselves, with the status that the shell sees.
 #[test]
 fn as_programs() {
-    let run = |example: &str, files: &[PathBuf]| {
+    let run = |example: &str, files: &[&Path]| {
         let mut command = Command::new(env!("CARGO"));
         command.args(["run", "--offline", "--quiet", "--profile", "test", "--example", example, "--"]);
         let output = command.args(files).current_dir(env!("CARGO_MANIFEST_DIR")).output().expect("cargo runs");
@@ -211,9 +212,9 @@ fn as_programs() {
     };
     let [key, other] = [stored("keygen-ed25519-ascii.bin"), stored("openssh-sshkey-dsa_n.bin")];
     let right = report(&fs::read(&key).expect("a stored file")).1;
-    assert_eq!(run("inspect", &[key.clone()]), (Some(0), right));
-    assert_eq!(run("inspect", &[other.clone()]), (Some(1), "refused 4 0 43\n".to_string()));
+    assert_eq!(run("inspect", &[&key]), (Some(0), right));
+    assert_eq!(run("inspect", &[&other]), (Some(1), "refused 4 0 43\n".to_string()));
     assert_eq!(run("inspect", &[]), (Some(2), String::new()));
-    assert_eq!(run("compare", &[key.clone(), key.clone()]), (Some(0), "same bytes\n".to_string()));
-    assert_eq!(run("compare", &[key, other]), (Some(2), String::new()));
+    assert_eq!(run("compare", &[&key, &key]), (Some(0), "same bytes\n".to_string()));
+    assert_eq!(run("compare", &[&key, &other]), (Some(2), String::new()));
 }

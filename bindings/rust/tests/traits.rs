@@ -7,10 +7,10 @@ use std::fmt::{Debug, Display};
 use std::hash::{Hash, Hasher};
 use std::str::FromStr;
 
-use saltorchard::{set_comment, write_encrypted, Algorithm, Cipher, EcdsaCurve, EncryptedKey, Error, KdfAlg};
+use saltorchard::{write_encrypted, Algorithm, Cipher, EcdsaCurve, EncryptedKey, Error, KdfAlg};
 use saltorchard::{Field, Header, Image, LentImage};
 use support::compare::{ALGORITHMS, CIPHERS, KDFS};
-use support::images::{blob_bytes, drafts, sealed, Draft, Key};
+use support::images::{blob_bytes, sealed, Draft, Key};
 use support::Rng;
 
 const CURVES: [EcdsaCurve; 3] = [EcdsaCurve::NistP256, EcdsaCurve::NistP384, EcdsaCurve::NistP521];
@@ -143,7 +143,8 @@ fn the_block_of_no_cipher() {
 mod owned {
     use super::*;
     use saltorchard::armour::{export, exported, exported_len, import, imported};
-    use saltorchard::MAX_IMAGE_LEN;
+    use saltorchard::{set_comment, MAX_IMAGE_LEN};
+    use support::images::drafts;
 
     /// What a writer puts into a buffer that is long enough.
     fn written(write: impl Fn(&mut [u8]) -> Result<usize, Error>) -> Result<Vec<u8>, Error> {
