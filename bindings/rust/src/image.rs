@@ -132,8 +132,9 @@ impl<'a> Image<'a> {
         Ok(out)
     }
 
-    /// **Private.** The image with another comment, as [`set_comment`] changes it and with its refusals: an encrypted image (8), one
-    /// that isn't in the form (10), a comment that isn't UTF-8 (7), a new image above 65,535 bytes (11). Nobody wipes the bytes.
+    /// **Private.** The image with another comment, as [`set_comment`] changes it and with its refusals: an encrypted image (8),
+    /// one that isn't in the form (10), a comment that isn't UTF-8 (7), a new image above 65,535 bytes (11). Nobody wipes the
+    /// bytes, nor the copy of the image that a refused change was tried on.
     #[cfg(feature = "alloc")]
     pub fn with_comment(&self, comment: impl AsRef<[u8]>) -> Result<Vec<u8>, Error> {
         let (image, comment) = (self.as_bytes(), comment.as_ref());
