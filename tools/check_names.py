@@ -16,7 +16,7 @@ RT = "check ci dev doc fmt goals help mir must-fail prove selftest staticlib try
 OTHERS = {
     "the crate ssh-key's and those that it uses": "ConstantTimeEq EcdsaPrivateKey EcdsaPrivateKey:: Ed25519Keypair:: Error::Crypto "
     "Kdf::decode KeypairData:: LineEnding:: PrivateKey:: RsaPrivateKey Zeroizing ct_eq decode_as private_key_bytes public_key_bytes",
-    "Rust's, the kit's and bash's": "BASH_ENV io:: str:: u8::",
+    "Rust's, the kit's and bash's": "BASH_ENV OpenOptions:: io:: std:: str:: u8::",
     "other programs' and their files'": "decode_privatekey_comment_pair encrypted_issue_369_rsa_opensshv1 ssh-keygen",
     "crates' names before, in docs/ARCHITECTURE.md": "key_laws plain_rsa",
     "a word of oracle/answers.txt": "refused-10",

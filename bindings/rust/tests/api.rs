@@ -1,6 +1,6 @@
 //! What the crate adds to the C functions: names, sentences, and what is printed.
 
-mod support;
+use crate::support;
 
 use std::collections::BTreeSet;
 

@@ -1,6 +1,6 @@
 //! Export and import of every length, with every line end and at the limit, held against the model.
 
-mod support;
+use crate::support;
 
 use saltorchard::armour::exported_len;
 use saltorchard::MAX_IMAGE_LEN;

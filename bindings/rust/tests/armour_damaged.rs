@@ -1,6 +1,6 @@
 //! Texts that export doesn't write, short ones exhaustively, held against the model.
 
-mod support;
+use crate::support;
 
 use support::compare::Tally;
 use support::model::armour::{text_of, BEGIN, END};

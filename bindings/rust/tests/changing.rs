@@ -1,6 +1,6 @@
 //! The comment change in place, held against the model and against the image written afresh.
 
-mod support;
+use crate::support;
 
 use saltorchard::{write_plain, Checkint, LentImage, PlainKey};
 use support::compare::{Tally, ALGORITHMS};

@@ -1,6 +1,6 @@
 //! The section's read from halves that are the image's header and from halves that aren't, held against the model.
 
-mod support;
+use crate::support;
 
 use saltorchard::raw;
 use support::compare::{numbers_of, raw_of, Tally};

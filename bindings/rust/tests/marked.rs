@@ -1,6 +1,6 @@
 //! The marked examples of the rules, M1 to M16, through the crate.
 
-mod support;
+use crate::support;
 
 use saltorchard::{write_plain, Algorithm, Checkint, EcdsaCurve, Error, Image, PlainKey};
 use support::images::{Draft, Key};

@@ -2,7 +2,7 @@
 #![cfg(feature = "alloc")]
 #![allow(clippy::duplicate_mod)] // the two programs share a file, and stand here side by side
 
-mod support;
+use crate::support;
 
 use std::ffi::OsString;
 use std::fs;
@@ -98,17 +98,16 @@ fn inspect_reports_on_each_stored_file() {
     assert!(files > 70 && refused > 10 && refused < 20);
 }
 
-/// The project's README shows what its own program prints of two of the files.
+/// The project's README shows what its own program prints of a file.
 #[test]
 fn inspect_prints_what_the_readme_shows() {
     let readme = fs::read_to_string(root().join("README.md")).expect("the project's README");
-    for name in ["keygen-ed25519-ascii.bin", "keygen-rsa8192-ascii.bin"] {
-        let (_, report, _) = said(inspect::run, &[&stored(name)]);
-        let shown: String = report.lines().map(|line| format!("    {}\n", line)).collect();
-        let (_, after) = readme.split_once(&format!("./inspect tools/corpus/{}", name)).expect("the call");
-        let (_, after) = after.split_once('\n').expect("the call's line ends");
-        assert!(after.starts_with(&shown), "{}", name);
-    }
+    let name = "keygen-rsa8192-ascii.bin";
+    let (_, report, _) = said(inspect::run, &[&stored(name)]);
+    let shown: String = report.lines().map(|line| format!("    {}\n", line)).collect();
+    let (_, after) = readme.split_once(&format!("./inspect tools/corpus/{}", name)).expect("the call");
+    let (_, after) = after.split_once('\n').expect("the call's line ends");
+    assert!(after.starts_with(&shown), "{}", name);
 }
 
 #[test]

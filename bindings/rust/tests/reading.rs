@@ -1,6 +1,6 @@
 //! Reading, whole and in halves, held against the model.
 
-mod support;
+use crate::support;
 
 use support::compare::Tally;
 use support::damage::{comment, number_changes, set_uint32, spliced, structured, with_two_faults};

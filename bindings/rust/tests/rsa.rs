@@ -1,6 +1,6 @@
 //! RSA keys: read, written, rewritten and commented anew, held against the model.
 
-mod support;
+use crate::support;
 
 use saltorchard::{write_rsa, Checkint, LentImage};
 use support::compare::{Encrypted, Rsa, Tally};

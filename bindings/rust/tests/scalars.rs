@@ -1,6 +1,6 @@
 //! ECDSA scalars of every length and with every number of leading zeros, held against the model and against the rules' words.
 
-mod support;
+use crate::support;
 
 use saltorchard::{set_comment, Image};
 use support::compare::{Plain, Tally};

@@ -1,6 +1,6 @@
 //! The sentence of each refusal that there is: its field, its place and what is wrong, each cause by an image made for it.
 
-mod support;
+use crate::support;
 
 use std::collections::BTreeSet;
 

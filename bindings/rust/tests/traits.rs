@@ -1,6 +1,6 @@
 //! What the types are made of and compared by, and what is answered as a `Vec` or a `String`.
 
-mod support;
+use crate::support;
 
 use std::collections::hash_map::DefaultHasher;
 use std::fmt::{Debug, Display};

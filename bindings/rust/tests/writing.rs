@@ -1,6 +1,6 @@
 //! The two writers and the rewriting of an image, held against the model.
 
-mod support;
+use crate::support;
 
 use support::compare::{Encrypted, Plain, Tally};
 use support::damage::{comment, structured, COMMENTS};
