@@ -24,10 +24,14 @@ def lines(path):
 
 
 def counted():
-    for link, said in re.findall(r"^\| \[[^]]+\]\(([^)]+)\) \| (\d+) \|", text("docs/AUDIT.md"), re.M):
+    document = text("docs/AUDIT.md")
+    rows = re.findall(r"^\| \[[^]]+\]\(([^)]+)\) \| (\d+) \|", document, re.M)
+    for link, said in rows:
         path = os.path.normpath(os.path.join("docs", link))
         if os.path.exists(path) and lines(path) != int(said):
             yield f"docs/AUDIT.md says that {path} has {said} lines to read, and it has {lines(path)}"
+    if f"they are {sum(int(said) for _, said in rows):,} together" not in document:
+        yield "docs/AUDIT.md doesn't say how many lines these are together"
 
 
 def linked():
