@@ -31,6 +31,7 @@ class Trial(NamedTuple):
     passphrase: str = ""
     reply: tuple = None  # number, count and place, where they aren't those of the row's example
     then: str = None  # the cause whose command comes next
+    binary: bool = False  # an image, of which a text is made first, and an image of the text last
 
 
 def blob_in(image):
@@ -77,15 +78,18 @@ def lines():
 
 def pasted():
     """Where something stands before the BEGIN line the file isn't taken for a text: P3."""
-    for name, row, turn in (("A9", "W38", 0), ("A10", "W38", 0), ("A11", "W38", 0), ("A12", "P3", 0), ("A13", "P3", 0), ("A8", "W38", 1)):
-        yield Trial("pasted", row, name, SPELLED[name], turn=turn)
-    yield Trial("pasted", "W38", "A16", SPELLED["A16"], turn=2)
     returns = SPELLED["A2"]
-    yield Trial("pasted", "P3", "text before it, CR LF", b"oven-7\r\n" + returns)
-    yield Trial("pasted", "P3", "a byte order mark", b"\xef\xbb\xbf" + returns, turn=3)
-    yield Trial("pasted", "P3", "UTF-16", returns.decode().encode("utf-16"), turn=4)
+    yield Trial("pasted", "P3", "a byte order mark", b"\xef\xbb\xbf" + returns, turn=0)
+    yield Trial("pasted", "P3", "UTF-16", returns.decode().encode("utf-16"), turn=1)
+    for title, before in (("quoted", b"> "), ("indented", b"\t  ")):
+        yield Trial("pasted", "P3", title, b"".join(before + line for line in SPELLED["A1"].splitlines(True)), turn=2)
+    for name, row in (("A9", "W38"), ("A10", "W38"), ("A11", "W38"), ("A12", "P3"), ("A13", "P3")):
+        yield Trial("pasted", row, name, SPELLED[name], turn=3)
+    yield Trial("pasted", "P3", "text before it, CR LF", b"oven-7\r\n" + returns, turn=3)
+    yield Trial("pasted", "W38", "A8", SPELLED["A8"], turn=4)
+    yield Trial("pasted", "W38", "A16", SPELLED["A16"], turn=5)
     padded = armour(BY_ID["D24"].image).replace(b"\n", b"\r\n")
-    yield Trial("pasted", "P87", "CR LF, and padding of 8", padded, turn=5, reply=(1, 0, 234), then="padding")
+    yield Trial("pasted", "P87", "CR LF, and padding of 8", padded, turn=6, reply=(1, 0, 234), then="padding")
 
 
 def strangers(folder):
@@ -99,11 +103,15 @@ def strangers(folder):
 
 
 def images():
-    yield Trial("tail", "P89", "two bytes after a plain image", IMAGE + b"\0\0")
     locked = stored("keygen-ed25519-aes256-gcm")
-    yield Trial("tail", "P93", "two bytes after an encrypted image", locked + b"\0\0", blob_in(locked), reply=(6, 2, len(locked)))
+    yield Trial("tail", "P89", "two bytes after a plain image", IMAGE + b"\0\0", binary=True)
+    yield Trial("tail", "P89", "the same as a text", armour(IMAGE + b"\0\0"))
+    yield Trial("tail", "P93", "two bytes after an encrypted image", locked + b"\0\0", blob_in(locked), reply=(6, 2, len(locked)), binary=True)
+    yield Trial("comment", "P86", "a comment in Latin-1, a binary image", BY_ID["D25"].image, binary=True)
     for name in ("D13", "D59"):
-        yield Trial("form", "W31", BY_ID[name].title, BY_ID[name].image, blob_in(BY_ID[name].image), turn=1)
+        image = BY_ID[name].image
+        yield Trial("form", "W31", BY_ID[name].title, armour(image), blob_in(image), turn=1)
+    yield Trial("form", "W31", "a missing zero, a binary image", BY_ID["D13"].image, blob_in(BY_ID["D13"].image), turn=1, binary=True)
     for turn in (0, 1):
         for name in ("keygen-ed25519-aes128-ctr", "keygen-p521-aes128-gcm"):
             image = stored(name)
@@ -116,6 +124,9 @@ def trials(folder):
 
 
 # ---- files that aren't
+
+# What no cure is for: each is tried on these, and must not empty them.
+WRONG = {"nothing": b"", "junk": bytes(range(256)), "a public key": b"ssh-ed25519 AAAA oven-7\n", "half a text": SPELLED["A1"][:200]}
 
 
 def pkcs8_ed25519():

@@ -187,7 +187,7 @@ def tag_cases(cipher, fields):
 
 
 def bcrypt_without_cipher_cases():
-    """Step 7's 3, at the KDF name: after the blob, before the section."""
+    """Rule 4.8's 3, at the KDF name: after the blob, before the section."""
     for algorithm in range(4):
         fields = put_all(plain(algorithm), {"kdf": b"bcrypt", "options": bcrypt_options()})
         yield refused("bcrypt without a cipher", fields, 3, "kdf")

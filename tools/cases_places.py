@@ -69,7 +69,7 @@ def fixed_rows(what, field, fields, path, length):
     yield row(f"{what} has more than {length} bytes", field, long, 6, path, 4 + len(content), 2)
 
 
-# ---- the header, steps 1 to 5
+# ---- the header, rules 4.1 to 4.6
 
 
 def first_rows():
@@ -149,7 +149,7 @@ def sizes_outside(name):
     return [("more bits than n", 1025)]
 
 
-# ---- the plain section, step 7
+# ---- the plain section, rule 4.8
 
 
 def section_rows():
@@ -214,7 +214,7 @@ def last_rows():
     yield row("bytes are left after a plain section", IMAGE, left, 6, "left", 0, 2)
 
 
-# ---- the encrypted section, step 6
+# ---- the encrypted section, rule 4.7
 
 
 def encrypted_rows():

@@ -11,6 +11,7 @@ import subprocess
 import sys
 
 ARCHIVE = "target/staticlib/libsaltorchard.a"
+LAWS = {"fields/Place", "reader_image/FormLaws"}  # laws that a file of definitions uses for its own
 
 
 def text(path):
@@ -41,8 +42,25 @@ def linked():
             yield f"docs/PROVED.md links {name} to {path}, which doesn't state it"
 
 
+def listed():
+    """The specification files that are to be read, as crate/File."""
+    return set(re.findall(r"^\| \[(\w+/\w+)\]", text("docs/AUDIT.md"), re.M))
+
+
+def whole():
+    """A definition that is to be read rests on none that isn't, and cites the rules that it states. Claims rest on laws, which needn't be read."""
+    for name in sorted(listed()):
+        crate, file = name.split("/")
+        source = text(f"crates/{crate}/specs/{file}.antt")
+        if "docs/RULES.md, " not in source.partition("\nuse ")[0]:
+            yield f"{name} is to be read, and doesn't begin with the rules that it states"
+        used = {f"{crate}/{file}" for crate, file in re.findall(r"^use Rattle·(\w+)(?:·specs)?\.specs\.([A-Z]\w+)\.", source, re.M)}
+        for other in sorted(used - listed() - LAWS) if crate != "claims" else ():
+            yield f"docs/AUDIT.md has {name} read, which rests on {other}, and not that"
+
+
 def faults():
-    return [*counted(), *linked()]
+    return [*counted(), *linked(), *whole()]
 
 
 def archive():

@@ -21,7 +21,7 @@ FIELDS = {
 }
 PLAIN = {
     "Ed25519": plain(0), "P-256": plain(1), "P-384": plain(2), "P-521": plain(3),
-    **{f"RSA {bits:,}": rsa_plain(numbers(bits)) for bits in (2048, 3072, 4096)},
+    **{f"RSA {bits:,}": rsa_plain(numbers(bits)) for bits in (1024, 2048, 3072, 4096)},
 }
 CIPHERS = {"3des-cbc": "3des-cbc", "aes..-cbc": "aes128-cbc", "aes..-gcm@openssh.com": "aes256-gcm@openssh.com"}
 ENCRYPTED = ["cipher", "kdf", "options", "options.salt", "options.rounds", "count", "blob"]

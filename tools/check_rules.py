@@ -8,8 +8,8 @@ RULES = "docs/RULES.md"
 NUMBER = r"\d+(?:\.\d+)?"
 LIST = rf"{NUMBER}(?:(?:, | and | to |, and ){NUMBER})*"
 CITED = re.compile(rf"(?:docs/RULES\.md,|\b[Rr]ules?) ({LIST})(?![\w.]*\d)")
-PLACES = ("crates/**/*.antt", "crates/**/*.rt", "docs/*.md", "*.md", "tools/*.py", "tools/*.md", "oracle/**/*.rs", "oracle/*.md", "bindings/**/*.[ch]")
-ELSEWHERE = re.compile(r"\b[Dd]ocuments? 0[12]\b|\bthe paper\b|\bthe paper's\b")
+PLACES = ("crates/**/*.antt", "crates/**/*.rt", "crates/**/*.edit", "docs/**/*.md", "*.md", "tools/*.py", "tools/*.md", "oracle/**/*.rs", "oracle/*.md", "bindings/**/*.[ch]")
+ELSEWHERE = re.compile(r"\b[Dd]ocuments?\s+0[12]\b|\bthe\s+paper\b|\bsteps?\s+[1-7]\b")
 
 
 def text(path):

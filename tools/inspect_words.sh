@@ -24,8 +24,8 @@ refusal_in_words() {
         "with --any-armour above 262,212 bytes." ;;
     *) echo "refused with $1." ;;
     esac
-    [ "$1" != 1 ] || [ "$3" = 0 ] || echo "If ssh-keygen reads the file, \`ssh-keygen -p -f COPY\` writes a copy of it anew," \
-        "and mends a padding of 8 bytes or more, which some programs write."
+    [ "$1" != 1 ] || [ "$3" = 0 ] || echo "Mostly it is cut or damaged: fetch it again. If ssh-keygen reads the file, \`ssh-keygen -p -f COPY\`" \
+        "writes a copy of it anew, and mends a padding of 8 bytes or more, which some programs write."
 }
 
 # What is said where something stands before a text, and where nothing but the length of its lines is at fault.

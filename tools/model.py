@@ -93,19 +93,19 @@ def read_image(image):
     return record_from(image, half_of_image(image))
 
 
-# ---- the header, steps 1 to 5
+# ---- the header, rules 4.2 to 4.6
 
 
 def half_of_image(image):
     if len(image) > LIMIT:
         raise Refused(11, 0)
     reader = Reader(image, 0, len(image))
-    read_magic(reader)  # step 1
-    cipher = read_name(reader, CIPHER_NAMES)  # step 2
-    kdf = read_name(reader, KDFS)  # step 3
+    read_magic(reader)  # 4.2
+    cipher = read_name(reader, CIPHER_NAMES)  # 4.3
+    kdf = read_name(reader, KDFS)  # 4.4
     salt, rounds = read_options(reader, kdf)
-    read_key_count(reader)  # step 4
-    blob = reader.string()  # step 5
+    read_key_count(reader)  # 4.5
+    blob = reader.string()  # 4.6
     algorithm, public = read_blob(reader.inside(blob))
     names = dict(algorithm=algorithm, cipher=cipher, kdf=kdf, rounds=rounds)
     return Half(**names, section=reader.place, blob=blob, salt=salt, **public)
@@ -140,7 +140,7 @@ def read_key_count(reader):
         raise Refused(1, field)
 
 
-# ---- the section, steps 6 and 7
+# ---- the section, rules 4.7 and 4.8
 
 
 def record_from(image, half):
@@ -149,9 +149,9 @@ def record_from(image, half):
     if own.number != 0 or half != own:
         raise Refused(1, 0)
     reader = Reader(image, half.section, len(image))
-    if half.cipher != NONE:  # step 6
+    if half.cipher != NONE:  # 4.7
         return Answer(**vars(half), kind=ENCRYPTED, **read_ciphertext(reader, half.cipher))
-    if half.kdf != NONE:  # step 7
+    if half.kdf != NONE:  # 4.8
         raise Refused(3, len(MAGIC + string(b"none")))  # where the KDF's name begins
     rest = read_plain_section(reader.inside(reader.string()), half.algorithm, compared(image, half))
     reader.finish()
@@ -159,7 +159,7 @@ def record_from(image, half):
 
 
 def read_ciphertext(reader, cipher):
-    """Step 6: the ciphertext, then the tag outside the string if the cipher has one, then the end."""
+    """Rule 4.7: the ciphertext, then the tag outside the string if the cipher has one, then the end."""
     _, block, tag_length = CIPHERS[cipher]
     field = reader.place
     ciphertext = reader.string()

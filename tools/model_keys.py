@@ -1,5 +1,5 @@
 """The rules on keys, docs/RULES.md, 6: how a blob's key and a section's keypair
-are read, and how they are written. Like model.py, whose part this is, it was written from the documents alone."""
+are read, and how they are written. Like model.py, whose part this is, it was written from the rules alone."""
 from fields import ALGORITHMS, CURVES, ED25519, RSA, SIZES, Refused, content, string
 from rsa import BLOB_NUMBERS, NUMBERS, bits_of, read_numbers
 
@@ -20,7 +20,7 @@ def read_name(reader, names):
 
 
 def read_blob(reader):
-    """Step 5, within the blob: name, key fields, end. Answers the algorithm and the public fields of a record."""
+    """Rule 4.6, within the blob: name, key fields, end. Answers the algorithm and the public fields of a record."""
     algorithm = read_name(reader, ALGORITHMS)
     if algorithm == ED25519:
         public = dict(point=reader.fixed(32))

@@ -1,7 +1,7 @@
 """The writing rules of docs/RULES.md, 9.3, 10 and 12, once more, in plain Python: a second opinion on
 the writers, on records that are handed in, and on the comment change.
 
-Like model.py, this was written from the documents and the readings recorded in docs/DECISIONS.md, and from no other code of
+Like model.py, this was written from the rules and the readings recorded in docs/DECISIONS.md, and from no other code of
 this project. Each entry is handed the lent buffer's bytes and answers its reply and the buffer as it must be afterwards.
 
     plain(algorithm, public, private, checkint, comment, buffer=..)    checkint None: the derived one

@@ -1,6 +1,6 @@
 """RSA keys by docs/RULES.md, 3.5 and 6.6 to 6.8: the mpint of RFC 4251, section 5, the sizes, and how a key is read.
 
-Like model.py, this was written from the documents and from no other code of this project. The six numbers of a key are
+Like model.py, this was written from the rules and from no other code of this project. The six numbers of a key are
 called as there: modulus n, exponent e, and d, iqmp, p and q.
 """
 from fields import Refused, content

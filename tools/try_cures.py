@@ -20,11 +20,11 @@ import cases_places
 import model
 import model_armour
 import model_writing
-from cases_cures import IMAGE, blob_in, trials, unmended
+from cases_cures import IMAGE, WRONG, blob_in, trials, unmended
 from check_places import REFUSALS, rows_of
 from differences import has_openssh
 from fields import LIMIT
-from trying import ROOT
+from trying import ROOT, checked_already
 
 DOCUMENT = (ROOT / REFUSALS).read_text(encoding="utf-8")
 COMMENT = "-C 'oven 7'"
@@ -81,7 +81,7 @@ def commands():
     return blocks(first), {part.split("\n")[0]: blocks(part) for part in parts}
 
 
-(PREPARE, FINGERPRINT, REMOVE), CURES = commands()
+(PREPARE, TO_TEXT, FINGERPRINT, TO_IMAGE, REMOVE), CURES = commands()
 
 
 def tries_all(tried):
@@ -94,18 +94,21 @@ def tries_all(tried):
         hold(f"no cure of {row[0]} is tried", not causes or any(trial.row == row[0] and trial.cause in causes for trial in tried))
 
 
-def run(folder, given, cure, passphrase="", place=0):
-    """Status, the folder of the copy, and the two fingerprints, before the cure and after it."""
+def run(folder, given, cure, passphrase="", place=0, binary=False):
+    """Status, the folder of the copy, and the two fingerprints, before the cure and after it. The scripts at the root don't ask rt again."""
     file, ask = pathlib.Path(folder) / "sent in", pathlib.Path(folder) / "ask"
     file.write_bytes(given)
     ask.write_text('#!/bin/sh\necho "$PASSPHRASE"\n')
     ask.chmod(0o700)
     asking = dict(SSH_ASKPASS=str(ask), SSH_ASKPASS_REQUIRE="force", DISPLAY="none", PASSPHRASE=passphrase)
-    env = {**os.environ, **asking, "TMPDIR": folder, "file": str(file), "P": str(place)}
+    commands_folder = pathlib.Path(folder) / "commands"
+    commands_folder.mkdir()
+    env = {**os.environ, **asking, "PATH": checked_already(commands_folder), "TMPDIR": folder, "file": str(file), "P": str(place)}
     looks = [f"{FINGERPRINT} >../{name} || true" for name in ("before", "after")]
-    script = "\n".join(["set -e", PREPARE, looks[0], cure, looks[1]])
+    first, last = ([TO_TEXT], [TO_IMAGE]) if binary else ([], [])
+    script = "\n".join(["set -e", PREPARE, *first, looks[0], cure, looks[1], *last])
     done = subprocess.run(["sh", "-c", script], cwd=ROOT, env=env, capture_output=True, stdin=subprocess.DEVNULL, start_new_session=True)
-    desk = next(path for path in pathlib.Path(folder).iterdir() if path.is_dir())
+    desk = next(path for path in pathlib.Path(folder).glob("tmp.*") if path.is_dir())
     return done.returncode, desk, [path.read_bytes().split() for path in (desk.parent / "before", desk.parent / "after") if path.exists()]
 
 
@@ -128,13 +131,24 @@ def mends(trial):
     hold(f"{what}: the row has another number", reply[0] == replies()[trial.row][0])
     cure = "\n".join([CURES[trial.cause][trial.turn], *(CURES[trial.then][:1] if trial.then else [])])
     with tempfile.TemporaryDirectory() as folder:
-        status, desk, seen = run(folder, trial.given, cure, trial.passphrase, reply[2])
+        status, desk, seen = run(folder, trial.given, cure, trial.passphrase, reply[2], trial.binary)
         hold(f"{what}: the cure failed", status == 0)
         key = desk / "key"
         hold(f"{what}: the cure doesn't mend it", accepted(key.read_bytes(), trial.blob) and mended(trial, key, cure))
         hold(f"{what}: the mended file has mode {key.stat().st_mode:o}", key.stat().st_mode & 0o77 == 0)
         hold(f"{what}: another fingerprint", not seen[0] or seen[0][1] == seen[1][1])
+        hold(f"{what}: no image is handed back", not trial.binary or (desk / "image").read_bytes() == image_of(key.read_bytes()))
     print(f"ok: {what}")
+
+
+def spares(cause, cure):
+    """No file that the cure isn't for is emptied, or changed where the cure fails."""
+    for title, given in WRONG.items():
+        with tempfile.TemporaryDirectory() as folder:
+            status, desk, _ = run(folder, given, cure, place=100)
+            left = (desk / "key").read_bytes()
+            hold(f"{cause}: its cure changes {title}, and fails", status == 0 or left == given)
+            hold(f"{cause}: its cure empties {title}", left or not given)
 
 
 def leaves(title, given, reads, word):
@@ -162,12 +176,13 @@ def begins_and_ends():
 
 
 def built(trial):
-    """Whether the program that a command runs is built."""
-    program = re.search(r"run_program\.sh\" (\w+)", CURES[trial.cause][trial.turn])
-    if program and not (ROOT / "target" / "bin" / program[1]).exists():
-        print(f"not tried, since {program[1]} isn't built: {trial.cause}, {trial.row}, {trial.title}")
-        return False
-    return True
+    """Whether the programs that a command runs are built."""
+    command = CURES[trial.cause][trial.turn] + (TO_TEXT + TO_IMAGE if trial.binary else "")
+    programs = set(re.findall(r"saltorchard/(?:tools/run_program\.sh\" )?(\w+)", command)) - {"tools"}
+    missing = sorted(name for name in programs if not (ROOT / "target" / "bin" / name).exists())
+    if missing:
+        print(f"not tried, since {', '.join(missing)} isn't built: {trial.cause}, {trial.row}, {trial.title}")
+    return not missing
 
 
 def main():
@@ -177,8 +192,12 @@ def main():
     with tempfile.TemporaryDirectory() as folder:
         tried = trials(folder)
     tries_all(tried)
-    for trial in filter(built, tried):
+    ours = list(filter(built, tried))
+    for trial in ours:
         mends(trial)
+    for cause, turn in sorted({(trial.cause, trial.turn) for trial in ours}):
+        spares(cause, CURES[cause][turn])
+    print("ok: no cure empties a file that it isn't for")
     begins_and_ends()
     if not has_openssh():
         print("another OpenSSH than the document's: what it doesn't mend was not tried")

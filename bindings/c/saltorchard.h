@@ -67,8 +67,8 @@ static inline const char *saltorchard_reason(uint64_t number)
         "accepted",
         "a field is cut short or has a wrong length, the number of keys isn't 1, an RSA number has too few or too many bits, or the "
         "header that was handed in isn't this image's",
-        "the image doesn't begin with openssh-key-v1, the text isn't spelled as ssh-keygen spells it, or the padding, a point, a scalar "
-        "or an RSA number isn't written as it must be",
+        "the image doesn't begin with openssh-key-v1 (of a text the armour comes off first), the text isn't spelled as ssh-keygen spells "
+        "it, or the padding, a point, a scalar or an RSA number isn't written as it must be",
         "fields don't fit each other: two check numbers (checkints) that differ, misused passphrase settings (KDF), a ciphertext that "
         "isn't whole blocks, or halves of an Ed25519 key that differ",
         "a cipher, KDF, algorithm or curve is unknown here, or the curve isn't its algorithm's",

@@ -712,7 +712,7 @@ static void plain_order(void)
     KEPT();
 }
 
-/* A blob that the reader would refuse at step 5, with a ciphertext and a tag that are wrong too. */
+/* A blob that the reader would refuse by rule 4.6, with a ciphertext and a tag that are wrong too. */
 static void blob_refused(int algorithm, size_t place, int byte, size_t longer, uint64_t number, uint64_t count)
 {
     key k = make_key(algorithm, 1);

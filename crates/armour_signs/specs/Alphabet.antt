@@ -1,4 +1,4 @@
--- RFC 4648, table 1: which sign stands for a value below 64, and which value a sign has.
+-- docs/RULES.md, 14.1. RFC 4648, table 1: which sign stands for a value below 64, and which value a sign has.
 use Prim.Native.Nat.{ℕ, zero, suc, _+_}
 use mathlib.Core.Bool.{Bool, true, cond, _&&_}
 use mathlib.Core.List.{List, [], _∷_}

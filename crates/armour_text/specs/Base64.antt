@@ -1,4 +1,4 @@
--- RFC 4648, section 4: the encoding represents 24-bit groups of input bits as output strings of 4 encoded characters. A 24-bit input
+-- docs/RULES.md, 14.1. RFC 4648, section 4: the encoding represents 24-bit groups of input bits as output strings of 4 encoded characters. A 24-bit input
 -- group is formed by concatenating three 8-bit input groups; these 24 bits are then treated as four concatenated 6-bit groups, each of
 -- which is translated into a single character of the base64 alphabet. When fewer than 24 input bits are available, bits with value zero
 -- are added on the right, and padding is performed using `=`: with 8 bits left there are two characters and two `=`, with 16 bits three

@@ -1,4 +1,4 @@
--- A number in decimal digits, in ASCII, with no leading zero.
+-- docs/RULES.md, 13, rests on this: a number in decimal digits, in ASCII, with no leading zero.
 use Prim.Native.Nat.{ℕ, zero, suc, _+_, _/_, _%_, _≤_, _<_, _^_}
 use native.Mathlib.Nat.{pow-suc}
 use native.Mathlib.Omega.{arith}

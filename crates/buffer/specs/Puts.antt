@@ -1,4 +1,4 @@
--- What a put of bytes at a place of a buffer answers and leaves there, and laws of one put and of two.
+-- docs/RULES.md, 2.3 and 10.8, rest on this: what a put of bytes at a place of a buffer answers and leaves there, and laws of one put and of two.
 use Prim.Native.Nat.{ℕ, zero, suc, _+_, _≤_, _<_}
 use native.Mathlib.Nat.{add-assoc, add-zero}
 use native.Mathlib.Omega.{arith}

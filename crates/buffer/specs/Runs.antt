@@ -1,4 +1,5 @@
--- A run of puts, one after the other, is one put of their bytes joined. What of them stands in the buffer already is passed over.
+-- docs/RULES.md, 12.2 and 13, rest on this: a run of puts, one after the other, is one put of their bytes joined. What of them stands in the
+-- buffer already is passed over.
 use Prim.Native.Nat.{ℕ, _+_, _≤_}
 use native.Mathlib.Omega.{arith}
 use mathlib.Core.Path.{_≡_, refl, sym, ap, _∙_}

@@ -1,4 +1,4 @@
--- What a read found and what a writer answered, in plain numbers. An accepted image is 0 0 0, its kind (1 plain, 2 encrypted), the codes,
+-- docs/RULES.md, 15.1: what a read found and what a writer answered, in plain numbers. An accepted image is 0 0 0, its kind (1 plain, 2 encrypted), the codes,
 -- the numbers and the places of its fields; of a refused one all after the place is 0. An accepted header is of kind 3, and all that a
 -- header doesn't have is 0, the form too. A writer replies the refusal, or 0 0 0 and the length.
 use Prim.Native.Nat.{ℕ}

@@ -1,4 +1,4 @@
--- Demand 3, one change of the comment. It leaves what the plain writer, given the record's own material and checkint and the new
+-- docs/RULES.md, 16.3, the third demand, of one change of the comment. It leaves what the plain writer, given the record's own material and checkint and the new
 -- comment, leaves; old bytes past the new end become zero; what lies past both ends stays; a refused change leaves every byte.
 use Prim.Native.Nat.{ℕ, _+_, _-_, _≤_}
 use native.Mathlib.Omega.{arith}

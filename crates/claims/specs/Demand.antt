@@ -1,4 +1,4 @@
--- Demand 3, one change of the comment, whole and with the demand's own premises. A buffer begins with an accepted plain image in the form;
+-- docs/RULES.md, 16.3, the third demand: one change of the comment, whole and with the demand's own premises. A buffer begins with an accepted plain image in the form;
 -- the new comment is valid UTF-8; with it the image written afresh has at most 65,535 bytes and fits the buffer. Whatever meets the contract
 -- of a change then accepts it, answers that length and leaves that image; all before the comment's length field stays, but the four bytes
 -- of the section's length; zeros stand from the new end to the old one; bytes past both ends stay. That the premises can be met: `asked`

@@ -1,4 +1,4 @@
--- Demand 1: the entries' list is of the functions themselves. For each, its own contract, as the checker generated it from the source
+-- docs/RULES.md, 16.1, the first demand: the entries' list is of the functions themselves. For each, its own contract, as the checker generated it from the source
 -- (`Reads.Post`), gives its line's promise, of what it was handed, the buffer before and after and the answer. So `refused-keeps` and
 -- `place-said` hold of whatever meets that contract. Of `record_writing::rewrite` the checker makes no plain form; its contract cites its line's
 -- definition, `isHanded`, over the record's image and fields. Last, demand 3 of the function itself.

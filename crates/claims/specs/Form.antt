@@ -1,4 +1,4 @@
--- Demand 2, the form: write after read gives the image exactly where it is in the form. Of accepted plain images every one of a key that isn't
+-- docs/RULES.md, 11, and 16.2, the second demand, of the form: write after read gives the image exactly where it is in the form. Of accepted plain images every one of a key that isn't
 -- ECDSA's is in the form, and of ECDSA's those whose scalar stands as RFC 4251's mpint; two things break it, a needless zero before the
 -- scalar, and a missing one. Every accepted encrypted image is in the form.
 use Prim.Native.Nat.{ℕ, zero, suc, _+_, _≤_, _<_}

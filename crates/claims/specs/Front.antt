@@ -1,4 +1,4 @@
--- Demand 3, one change of the comment: all before the comment's length field stays, but the four bytes of the section's length.
+-- docs/RULES.md, 16.3, the third demand, of one change of the comment: all before the comment's length field stays, but the four bytes of the section's length.
 use Prim.Native.Nat.{ℕ, _+_, _-_, _≤_}
 use native.Mathlib.Omega.{arith}
 use mathlib.Core.Path.{_≡_, sym, _∙_, ap}

@@ -87,7 +87,7 @@ misused kdf.Bcrypt salt rounds = false
 abbrev pub blobCondition : Fault → Condition
 blobCondition f = record { holds = true; number = numberOf (f .why); count = countOf (f .why); at = 0 }
 
--- cipher `none` 3; KDF `none` with salt bytes or rounds other than 0, 3; blob refused as in step 5; ciphertext not a multiple of the
+-- cipher `none` 3; KDF `none` with salt bytes or rounds other than 0, 3; blob refused as in 4.6; ciphertext not a multiple of the
 -- block 3; tag length wrong 1; size 11; room 9
 abbrev pub encryptedConditions : Cipher → Kdf → List ℕ → ℕ → List ℕ → List ℕ → List ℕ → ℕ → List Condition
 encryptedConditions cipher k salt rounds key ciphertext tag room =

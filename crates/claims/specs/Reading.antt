@@ -1,4 +1,4 @@
--- Demand 2, plain images of all five kinds: read after write gives the record; what the definition of the format admits within the limits
+-- docs/RULES.md, 16.2, the second demand, of plain images of all five kinds: read after write gives the record; what the definition of the format admits within the limits
 -- is not refused.
 use Prim.Native.Nat.{ℕ, _+_, _≤_, _<_, _^_}
 use native.Mathlib.Omega.{arith}

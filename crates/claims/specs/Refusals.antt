@@ -1,4 +1,4 @@
--- Demand 1: any input to any public entry that takes a lent buffer; a refused call changes no byte of it. The entries stand in one list,
+-- docs/RULES.md, 16.1, the first demand: any input to any public entry that takes a lent buffer; a refused call changes no byte of it. The entries stand in one list,
 -- each with all that it is given beside the buffer, and with the promise that its contract cites.
 use Prim.Native.Nat.{ℕ}
 use mathlib.Core.Path.{_≡_, refl, sym, _∙_, ap}

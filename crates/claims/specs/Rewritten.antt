@@ -1,4 +1,4 @@
--- Demand 2: what the plain writer writes is in the form. So is what a rewrite writes of an accepted image, and it is read as the same
+-- docs/RULES.md, 11, and 16.2, the second demand: what the plain writer writes is in the form. So is what a rewrite writes of an accepted image, and it is read as the same
 -- record, a scalar in its form. It does write: `rewrite-sized` (Form) says that a rewrite of an accepted image is refused for size and room
 -- only.
 use Prim.Native.Nat.{ℕ, _-_, _%_, _≤_, _<_, _^_}

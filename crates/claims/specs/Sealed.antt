@@ -1,4 +1,4 @@
--- Demand 2, encrypted images: read after write gives the record; what the format admits within the limits is not refused.
+-- docs/RULES.md, 16.2, the second demand, of encrypted images: read after write gives the record; what the format admits within the limits is not refused.
 use Prim.Native.Nat.{ℕ, _+_, _%_, _≤_, _<_, _^_}
 use native.Mathlib.Omega.{arith}
 use mathlib.Core.Path.{_≡_, refl, sym, _∙_, ap}

@@ -1,4 +1,4 @@
--- Demand 3, any sequence of changes, refused ones among them. The first bytes, as many as the last answered length, are what the last
+-- docs/RULES.md, 16.3, the third demand: any sequence of changes, refused ones among them. The first bytes, as many as the last answered length, are what the last
 -- accepted comment alone would give, or the first image; bytes past every end reached stay; those between the last end and the
 -- furthest are zero.
 use Prim.Native.Nat.{ℕ, _+_, _-_}

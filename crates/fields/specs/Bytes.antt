@@ -1,4 +1,4 @@
--- Bytes as lists of numbers: text in ASCII, RFC 4251's uint32 and string as they are written, fields joined, and whether two
+-- docs/RULES.md, 3.1 and 3.2: bytes as lists of numbers, text in ASCII, RFC 4251's uint32 and string as they are written, fields joined, and whether two
 -- lists are the same.
 use Prim.Native.Nat.{ℕ, zero, suc, _/_, _%_, _≤_, _<_}
 use Prim.Native.Char.{code}

@@ -1,5 +1,5 @@
 -- docs/RULES.md, 4 to 6, and OpenSSH's PROTOCOL.key: the container as a list of fields joined. How many zeros stand before a scalar is a
--- parameter, so that each of its readable forms is written here; what the writer puts there is 10.2.
+-- parameter, so that each of its readable forms is written here; what the writer puts there is 10.2, and how it fills the section 10.3.
 use Prim.Native.Nat.{ℕ, _+_, _-_, _*_, _%_, _≤_, _<_, _^_}
 use mathlib.Core.Path.{_≡_}
 use mathlib.Core.Bool.{Bool, true, false}

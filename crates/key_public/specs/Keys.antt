@@ -1,4 +1,4 @@
--- docs/RULES.md, 6.1 to 6.4, 6.6 and 4.6: what reading a public key and a public blob finds, in its order.
+-- docs/RULES.md, 4.6, 6.1 to 6.4, 6.6 and 7.2: what reading a public key and a public blob finds, in its order.
 use Prim.Native.Nat.{ℕ, _+_, _*_}
 use mathlib.Core.List.{List}
 use mathlib.Core.Bool.{cond}

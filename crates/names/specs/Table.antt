@@ -1,4 +1,4 @@
--- Looking bytes up in a table of names: one definition and one law for every table.
+-- docs/RULES.md, 4.3, 4.4, 6.1 and 6.3, rest on this: looking bytes up in a table of names, one definition and one law for every table.
 use Prim.Native.Nat.{ℕ}
 use mathlib.Core.Path.{_≡_, refl, sym, _∙_, ap}
 use mathlib.Core.Logic.{_⊎_, inl, inr, ⊎-elim}

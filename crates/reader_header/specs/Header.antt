@@ -1,4 +1,4 @@
--- docs/RULES.md, 4.1 to 4.6 and 8.1: what reading the header finds. It ends after the public blob, and of the section it says where it
+-- docs/RULES.md, 4.1 to 4.6, 7.3 and 8.1: what reading the header finds. It ends after the public blob, and of the section it says where it
 -- begins and no more.
 use Prim.Native.Nat.{ℕ}
 use mathlib.Core.Path.{_≡_}
@@ -71,13 +71,13 @@ abbrev pub onHeaderRead : {R : Type 0} → HeaderRead → (Fault → R) → (Hea
 onHeaderRead (header-read.Refused f) refused read = refused f
 onHeaderRead (header-read.Header h) refused read = read h
 
--- 1. magic, 15 bytes. Fewer than 15 bytes: 1. Other bytes: 2. Both belong to the whole image.
+-- 4.2: magic, 15 bytes. Fewer than 15 bytes: 1. Other bytes: 2. Both belong to the whole image.
 unfoldable pub magicAt : List ℕ → Field
 magicAt s =
     onField (bytesAt s (whole s) 15) field.Refused (λ p c.
     cond (sameBytes (viewOf s p) magic) (field.Part p c) (field.Refused (fault FormatEncoding 0)))
 
--- First, above 65,535 bytes: 11. 1. Magic. 2. Cipher name; unknown: 4.
+-- 4.1: first, above 65,535 bytes: 11. Then the magic. 4.3: cipher name; unknown: 4.
 unfoldable pub cipherAt : List ℕ → CipherField
 cipherAt s =
     cond (ltb 65535 (length s)) (cipher-field.Refused (fault Size 0))
@@ -101,20 +101,20 @@ bcryptAt s c =
     onEnding (endAt j) kdf-field.Refused
     (kdf-field.Options kdf.Bcrypt salt rounds d))))
 
--- 3. KDF name; unknown: 4. Then its options string.
+-- 4.4: KDF name; unknown: 4. Then its options string.
 unfoldable pub kdfAt : List ℕ → Cursor → KdfField
 kdfAt s c =
     onField (stringAt s c) kdf-field.Refused (λ name d.
     onKdfName (kdfNamed (viewOf s name)) (kdf-field.Refused (fault AlgorithmUnknown (c .at))) (λ k.
     onKdf k (noneAt s d) (bcryptAt s d)))
 
--- 4. Key count, uint32; not 1: 1.
+-- 4.5: key count, uint32; not 1: 1.
 unfoldable pub countAt : List ℕ → Cursor → Uint32
 countAt s c =
     onUint32 (uint32At s c) uint32.Refused (λ n d.
     cond (eqb n 1) (uint32.Value n d) (uint32.Refused (fault Length (c .at))))
 
--- 5. Public blob, a string; within it name, key fields, end, else 6.
+-- 4.6: public blob, a string; within it name, key fields, end, else 6.
 unfoldable pub blobFieldAt : List ℕ → Cursor → BlobField
 blobFieldAt s c =
     onField (stringAt s c) blob-field.Refused (λ p d.

@@ -1,5 +1,5 @@
--- docs/RULES.md, 4.7, 4.8, 8.2 and 8.3: the section that goes on from a header. The full read is the header read followed by the section's,
--- and a section read of its own is handed a half (9.3). 10.9: a scalar is filled with zeros.
+-- docs/RULES.md, 4.7, 4.8, 7.2, 8.2 and 8.3: the section that goes on from a header. The full read is the header read followed by the
+-- section's, and a section read of its own is handed a half (9.3). 10.9: a scalar is filled with zeros.
 use Prim.Native.Nat.{ℕ, _+_}
 use mathlib.Core.Path.{_≡_}
 use mathlib.Core.List.{List}

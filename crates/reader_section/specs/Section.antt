@@ -1,4 +1,4 @@
--- docs/RULES.md, 4.7, 4.8 and 5: what reading the section finds. RSA keys are compared by n and e.
+-- docs/RULES.md, 4.7, 4.8 and 5, and of the places 7.2 and 7.3: what reading the section finds. RSA keys are compared by n and e.
 use Prim.Native.Nat.{ℕ, _-_, _%_}
 use mathlib.Core.List.{List}
 use mathlib.Core.Bool.{Bool, cond, _&&_}
@@ -90,7 +90,7 @@ contentAt s c algorithm public =
     })))))
     (section-read.Refused (fault Length (c .at)))
 
--- 7. (cipher `none`) the section string, then end of image, else 6. Errors inside the section come before this 6.
+-- 4.8: (cipher `none`) the section string, then end of image, else 6. Errors inside the section come before this 6.
 unfoldable pub plainAt : List ℕ → Cursor → Algorithm → Public → SectionRead
 plainAt s c algorithm public =
     onField (stringAt s c) section-read.Refused (λ p d.
@@ -114,7 +114,7 @@ encryptedOf ciphertext tag =
 unfoldable pub presentOf : Part → Part
 presentOf tag = cond (eqb (tag .length) 0) absent tag
 
--- 6. (another cipher) ciphertext string; length not a multiple of the block: 3; then the tag if that cipher has one, outside the
+-- 4.7: (another cipher) ciphertext string; length not a multiple of the block: 3; then the tag if that cipher has one, outside the
 -- string, too short: 1; bytes left: 6. Nothing else is checked.
 unfoldable pub encryptedAt : List ℕ → Cursor → Cipher → SectionRead
 encryptedAt s c cipher =

@@ -1,4 +1,4 @@
--- UTF-8: the grammar of RFC 3629, section 4, "Syntax of UTF-8 Byte Sequences", under its own names.
+-- docs/RULES.md, 5.5: UTF-8, the grammar of RFC 3629, section 4, "Syntax of UTF-8 Byte Sequences", under its own names.
 --
 --     UTF8-octets = *( UTF8-char )
 --     UTF8-char   = UTF8-1 / UTF8-2 / UTF8-3 / UTF8-4
