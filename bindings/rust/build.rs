@@ -78,8 +78,9 @@ fn interfaces(bytes: &[u8]) -> Vec<String> {
 
 /// The folder that is named, or that of a package, or that of the checkout.
 fn folder() -> PathBuf {
-    if let Some(folder) = env::var_os("SALTORCHARD_LIB_DIR") {
-        return PathBuf::from(folder);
+    if let Some(folder) = env::var_os("SALTORCHARD_LIB_DIR").filter(|folder| !folder.is_empty()) {
+        // Cargo runs this in the crate's folder: a relative path is told from its root on.
+        return env::current_dir().unwrap_or_default().join(folder);
     }
     let crate_itself = PathBuf::from(variable("CARGO_MANIFEST_DIR"));
     let packaged = crate_itself.join("lib");

@@ -116,7 +116,9 @@ pub fn import(text: impl AsRef<[u8]>, out: &mut [u8]) -> Result<usize, Error> {
 pub fn exported(image: &[u8]) -> Result<String, Error> {
     let mut text = vec![0; exported_len(image.len())];
     export(image, &mut text)?;
-    Ok(String::from_utf8(text).expect("base64 and its two lines are ASCII"))
+    // The error itself would show the text.
+    let text = String::from_utf8(text).map_err(|_| ());
+    Ok(text.expect("base64 and its two lines are ASCII"))
 }
 
 /// **Private.** The bytes that `text` carries, as [`import`] writes them and with its refusals, but for the room: any other text

@@ -60,8 +60,8 @@ impl fmt::Debug for Name {
     }
 }
 
-/// What is wrong with a field. Its `Display` follows the field's words in a sentence. It has no byte of the section, and of the
-/// lengths there none that may lie where a private byte was.
+/// What is wrong with a field. Its `Display` follows the field's words in a sentence. A name or a figure in it is a byte of the image,
+/// and where that may be a private one, [`without_figures`](Self::without_figures) leaves it out.
 #[derive(Clone, Copy, Debug, PartialEq, Eq, Hash)]
 pub(crate) enum Cause {
     /// The archive answered what it can't by its interface, or the crate's walk and the archive differ.
@@ -84,8 +84,6 @@ pub(crate) enum Cause {
         says: usize,
         left: usize,
     },
-    /// The same of the section, where the length may lie where a private byte was.
-    PastSection,
     /// A field of fixed size; they are several of rounds.
     Cut {
         needs: usize,
@@ -95,23 +93,41 @@ pub(crate) enum Cause {
         needs: usize,
         left: usize,
     },
+    /// These two without figures.
+    CutShort,
+    AreCutShort,
     NoCheckints,
     Length {
         has: usize,
+        needs: usize,
+    },
+    Fewer {
         needs: usize,
     },
     AtMost {
         has: usize,
         most: usize,
     },
+    More {
+        most: usize,
+    },
+    /// An image's length that is handed in and above the limit.
+    SaidAbove {
+        says: usize,
+    },
     Empty,
     KeyCount(u32),
+    OtherCount,
     Modulus {
         bits: usize,
     },
+    OtherBits,
     MoreBits,
     NotWhole {
         has: usize,
+        block: usize,
+    },
+    NotMultiple {
         block: usize,
     },
     /// How an image begins that isn't one.
@@ -143,8 +159,7 @@ pub(crate) enum Cause {
     OtherHalf,
     Checkints,
     Unknown(Named, Name),
-    /// An unknown name of the section: what stands there may be private.
-    UnknownPrivate(Named),
+    Unnamed(Named),
     OtherCurve,
     OwnWriter,
     OtherKey,
@@ -175,18 +190,24 @@ impl fmt::Display for Cause {
                 write!(f, "are cut short: they need {}, and {} left", Bytes(needs), Are(left))
             }
             Self::Length { has, needs } => write!(f, "has {}, and {} needed", Bytes(has), Are(needs)),
+            Self::Fewer { needs } => write!(f, "has fewer bytes than the {} that are needed", Grouped(needs)),
             Self::AtMost { has, most } => write!(f, "has {}, and at most {} are taken", Bytes(has), Grouped(most)),
+            Self::More { most } => write!(f, "has more bytes than the {} that are taken", Grouped(most)),
+            Self::SaidAbove { says } => {
+                write!(f, "was said to have {}, and at most {} are taken", Bytes(says), Grouped(MAX_IMAGE_LEN))
+            }
             Self::KeyCount(count) => write!(f, "is {}, and only 1 key in a file is taken", Grouped(count as usize)),
             Self::Modulus { bits } => write!(f, "has {} bits, and 1,024 to 8,192 are taken", Grouped(bits)),
             Self::NotWhole { has, block } => write!(f, "has {}, which isn't a multiple of {}", Bytes(has), block),
+            Self::NotMultiple { block } => write!(f, "has a length that isn't a multiple of {}", block),
             Self::NoZeroFirst { has } => {
                 write!(f, "has {}, one more than its curve's size, and doesn't begin with 0", Bytes(has))
             }
             Self::OptionsWithoutKdf { has } => {
                 write!(f, "has {}, and the KDF is none, which has no options", Bytes(has))
             }
-            Self::Unknown(named, name) => write!(f, "is {}, and no such {} is known", name, named.as_str()),
-            Self::UnknownPrivate(named) => write!(f, "names no {} that is known", named.as_str()),
+            Self::Unknown(named, name) => write!(f, "is {}, and no such {} is known here", name, named.as_str()),
+            Self::Unnamed(named) => write!(f, "names no {} that is known here", named.as_str()),
             Self::WouldBeAbove => write!(f, "would have more than {}", Bytes(MAX_IMAGE_LEN)),
             Self::CarriesAbove => write!(f, "carries more than {}", Bytes(MAX_IMAGE_LEN)),
             _ => f.write_str(self.words()),
@@ -195,10 +216,29 @@ impl fmt::Display for Cause {
 }
 
 impl Cause {
+    /// The same without the bytes of the image that it shows: a name, and what a length or a number says.
+    pub fn without_figures(self) -> Self {
+        match self {
+            Self::NoLength { .. } | Self::PastEnd { .. } | Self::Cut { .. } => Self::CutShort,
+            Self::AreCut { .. } => Self::AreCutShort,
+            Self::Length { needs, .. } => Self::Fewer { needs },
+            Self::AtMost { most, .. } => Self::More { most },
+            Self::KeyCount(_) => Self::OtherCount,
+            Self::Modulus { .. } => Self::OtherBits,
+            Self::NotWhole { block, .. } => Self::NotMultiple { block },
+            Self::OptionsWithoutKdf { .. } => Self::SaltWithoutKdf,
+            Self::Unknown(named, _) => Self::Unnamed(named),
+            _ => self,
+        }
+    }
+
     /// The words of a cause that has no number in them.
     fn words(self) -> &'static str {
         match self {
-            Self::PastSection => "is cut short: it runs past the section's end",
+            Self::CutShort => "is cut short",
+            Self::AreCutShort => "are cut short",
+            Self::OtherCount => "isn't 1, and only 1 key in a file is taken",
+            Self::OtherBits => "hasn't 1,024 to 8,192 bits",
             Self::NoCheckints => "is missing: the section is empty, and two equal check numbers begin it",
             Self::Empty => "is empty",
             Self::MoreBits => "has more bits than n",
@@ -206,7 +246,7 @@ impl Cause {
             Self::SaltWithoutKdf => "isn't empty, and the KDF is none",
             Self::RoundsWithoutKdf => "aren't 0, and the KDF is none",
             Self::NoCipher => "is none, and an encrypted image has one",
-            Self::OtherHalf => "has a second half that isn't the public key",
+            Self::OtherHalf => "has a second half that isn't the public key before it",
             Self::Checkints => {
                 "isn't equal to the first: the two check numbers before the key differ, so the section is damaged"
             }

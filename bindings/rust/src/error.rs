@@ -5,7 +5,7 @@ use core::fmt;
 use crate::c;
 use crate::cause::{Bytes, Cause, Named};
 use crate::handed::{of_name, Part, Refused};
-use crate::judge::{above_limit, misspelled};
+use crate::judge::misspelled;
 use crate::walk::refused;
 use crate::{ErrorKind, Field, MAX_IMAGE_LEN};
 
@@ -14,8 +14,9 @@ use crate::{ErrorKind, Field, MAX_IMAGE_LEN};
 /// causes it was.
 ///
 /// Count and place are what the image's length fields say: in a damaged image such a field may lie where a private byte was, so
-/// treat its error as you treat the key. The sentence and `Debug` show no byte of the section. Of the header they show a name that
-/// isn't known, escaped and at most 32 bytes of it.
+/// treat its error as you treat the key. The sentence and `Debug` show no other byte of the section. Of a header that is whole, in an
+/// image whose fields reach to its last byte, they show lengths and a name that isn't known, escaped and at most 32 bytes of it; where
+/// bytes were lost or put in, what stands at the header's places may be private, and nothing of it is shown.
 ///
 /// Where several reasons hold, the first in the order of reading or writing is given. A refusal changes no byte of a lent buffer.
 #[derive(Clone, Copy, Debug, PartialEq, Eq, Hash)]
@@ -83,7 +84,7 @@ impl Error {
     pub(crate) fn above_buffer(says: usize, room: usize) -> Self {
         match says {
             0..=MAX_IMAGE_LEN => Self::new(1, Field::Image, Cause::AboveBuffer { says, room }),
-            _ => Self::new(11, Field::Image, above_limit(says)),
+            _ => Self::new(11, Field::Image, Cause::SaidAbove { says }),
         }
     }
 

@@ -125,6 +125,33 @@ impl Field {
     }
 }
 
+impl Field {
+    /// Does it stand in the section, where private bytes are?
+    pub(crate) fn is_of_the_section(self) -> bool {
+        use Field::*;
+        matches!(
+            self,
+            Section
+                | FirstCheckint
+                | SecondCheckint
+                | SectionKeyName
+                | SectionPublicKey
+                | Seed
+                | SectionCurve
+                | SectionPoint
+                | Scalar
+                | SectionN
+                | SectionE
+                | D
+                | Iqmp
+                | P
+                | Q
+                | Comment
+                | Padding
+        )
+    }
+}
+
 impl fmt::Display for Field {
     fn fmt(&self, f: &mut fmt::Formatter<'_>) -> fmt::Result {
         f.pad(self.as_str())

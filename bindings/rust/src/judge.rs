@@ -35,13 +35,14 @@ pub(crate) fn of_the_image(image: &[u8], number: u64) -> Cause {
         8 => Cause::Encrypted,
         9 => Cause::NoRoom,
         10 => out_of_form(image),
+        11 if image.starts_with(BEGIN) => Cause::Armoured,
         11 => above_limit(image.len()),
         _ => Cause::Untold,
     }
 }
 
 /// A length that is above the limit, or else that of an image that would be.
-pub(crate) fn above_limit(len: usize) -> Cause {
+fn above_limit(len: usize) -> Cause {
     match len {
         0..=MAX_IMAGE_LEN => Cause::WouldBeAbove,
         has => Cause::AtMost { has, most: MAX_IMAGE_LEN },
@@ -63,12 +64,20 @@ fn beginning(image: &[u8]) -> Cause {
     match image {
         _ if begins(&[BEGIN]) => Cause::Armoured,
         _ if begins(&[b"-----BEGIN"]) => Cause::OtherText,
-        _ if begins(&[b"ssh-", b"ecdsa-", b"sk-ssh-", b"sk-ecdsa-"]) => Cause::PublicKeyFile,
+        _ if begins(&[b"ssh-", b"ecdsa-", b"sk-"]) && is_public_line(image) => Cause::PublicKeyFile,
         _ => Cause::NoImage,
     }
 }
 
-/// A name of the header that isn't known.
+/// A public key's line has its name, a blank, and its blob in base64, which begins with a length below 2 to the 16. An image without
+/// its first bytes may begin with a name too, and is private.
+fn is_public_line(line: &[u8]) -> bool {
+    let mut words = line.splitn(2, |byte| *byte == b' ');
+    let name = words.next().unwrap_or_default();
+    name.iter().all(u8::is_ascii_graphic) && words.next().map_or(false, |blob| blob.starts_with(b"AAA"))
+}
+
+/// A name that isn't known.
 pub(crate) fn unknown(named: Named, number: u64, name: &[u8]) -> Option<Cause> {
     let known = match named {
         Named::Cipher => Cipher::from_name(name).is_some(),
@@ -83,12 +92,8 @@ pub(crate) fn unknown(named: Named, number: u64, name: &[u8]) -> Option<Cause> {
 }
 
 /// A curve that isn't known, or isn't the key name's.
-pub(crate) fn wrong_curve(name: &[u8], private: bool) -> Cause {
-    match unknown(Named::Curve, 4, name) {
-        None => Cause::OtherCurve,
-        Some(_) if private => Cause::UnknownPrivate(Named::Curve),
-        Some(cause) => cause,
-    }
+pub(crate) fn wrong_curve(name: &[u8]) -> Cause {
+    unknown(Named::Curve, 4, name).unwrap_or(Cause::OtherCurve)
 }
 
 /// A string of a fixed length that has another.

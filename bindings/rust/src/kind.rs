@@ -1,9 +1,12 @@
 //! The reasons of refusals, by number and name.
 
+use core::fmt;
+
 /// The reasons, each once: its number, its name, and what it means.
 macro_rules! kinds {
     ($($number:literal $name:ident $meaning:literal)*) => {
-        /// The reason of a refusal. The first eight have ssh-key's names; that crate doesn't have the others. A variant is its
+        /// The reason of a refusal. The first eight have the names of ssh-key's errors and of those of its encoding that it hands up; it
+        /// doesn't have the others. A variant is its
         /// number: `ErrorKind::Crypto as u64` is 3.
         #[derive(Clone, Copy, Debug, PartialEq, Eq, Hash)]
         #[non_exhaustive]
@@ -28,6 +31,13 @@ macro_rules! kinds {
             }
         }
     };
+}
+
+/// The variant's name.
+impl fmt::Display for ErrorKind {
+    fn fmt(&self, f: &mut fmt::Formatter<'_>) -> fmt::Result {
+        f.pad(self.name())
+    }
 }
 
 kinds! {

@@ -16,6 +16,7 @@ mod c;
 mod cause;
 mod error;
 mod field;
+mod frame;
 mod handed;
 mod header;
 mod image;

@@ -1,6 +1,7 @@
 //! Which field of an image a refusal is about, and what is wrong with it: a walk through the bytes after the refusal.
 
 use crate::cause::{Cause, Named};
+use crate::frame::is_framed;
 use crate::judge::{bits, of_the_image, unknown, wrong_curve, wrong_length, wrong_modulus, wrong_mpint, wrong_scalar};
 use crate::judge::{LEFT_OVER, MAGIC};
 use crate::{Cipher, EcdsaCurve, Field};
@@ -15,14 +16,21 @@ pub(crate) fn refused(image: &[u8], number: u64, place: usize) -> (Field, Cause)
         return (Field::Image, of_the_image(image, number));
     }
     let left = image.get(MAGIC.len()..).unwrap_or_default();
-    let walk = Walk { left, at: MAGIC.len(), number, place: Some(place), private: false };
-    walk.image().err().unwrap_or((Field::Image, if number == LEFT_OVER { Cause::LeftOver } else { Cause::Untold }))
+    let walk = Walk { left, at: MAGIC.len(), number, place: Some(place) };
+    let untold = if number == LEFT_OVER { Cause::LeftOver } else { Cause::Untold };
+    let (field, cause) = walk.image().err().unwrap_or((Field::Image, untold));
+    if field.is_of_the_section() || !is_framed(left) {
+        return (field, cause.without_figures());
+    }
+    (field, cause)
 }
 
-/// The first field with a fault of this number in a blob that was handed in, and the fault.
+/// The first field with a fault of this number in a blob that was handed in, and the fault. Nobody knows that it is a blob: no byte
+/// of it is shown.
 pub(crate) fn refused_blob(blob: &[u8], number: u64) -> (Field, Cause) {
-    let walk = Walk { left: blob, at: 0, number, place: None, private: false };
-    walk.inside_blob().err().unwrap_or((Field::Blob, Cause::Untold))
+    let walk = Walk { left: blob, at: 0, number, place: None };
+    let (field, cause) = walk.inside_blob().err().unwrap_or((Field::Blob, Cause::Untold));
+    (field, cause.without_figures())
 }
 
 /// A walk through the fields of an image, or of one of its strings, in the order of reading.
@@ -33,8 +41,6 @@ struct Walk<'a> {
     number: u64,
     /// Where the refusal is; none where the first field with a fault of that number is looked for.
     place: Option<usize>,
-    /// In a damaged section a length may lie where a private byte was, and a name too.
-    private: bool,
 }
 
 impl<'a> Walk<'a> {
@@ -88,7 +94,7 @@ impl<'a> Walk<'a> {
     }
 
     fn section(&mut self) -> Step<()> {
-        let mut section = Walk { private: true, ..self.string(Field::SectionString)? };
+        let mut section = self.string(Field::SectionString)?;
         let has = section.left.len();
         if has % 8 != 0 {
             return Err((Field::Section, Cause::NotWhole { has, block: 8 }));
@@ -98,9 +104,9 @@ impl<'a> Walk<'a> {
             return Err((Field::SecondCheckint, Cause::Checkints));
         }
         section.uint32(Field::SecondCheckint)?;
-        let name = section.leaf(Field::SectionKeyName, |number, _| match number {
+        let name = section.leaf(Field::SectionKeyName, |number, name| match number {
             5 => Some(Cause::OtherKey),
-            _ => Some(Cause::UnknownPrivate(Named::Key)),
+            _ => unknown(Named::Key, number, name),
         })?;
         section.strings(pair_fields(name))?;
         section.leaf(Field::Comment, |_, _| Some(Cause::NotUtf8))?;
@@ -133,7 +139,7 @@ impl<'a> Walk<'a> {
             (Field::BlobPublicKey | Field::SectionPublicKey, _) => wrong_length(bytes, 32, number),
             (Field::Seed, 3) => Some(Cause::OtherHalf),
             (Field::Seed, _) => wrong_length(bytes, 64, number),
-            (Field::BlobCurve | Field::SectionCurve, 4) => Some(wrong_curve(bytes, self.private)),
+            (Field::BlobCurve | Field::SectionCurve, 4) => Some(wrong_curve(bytes)),
             (Field::BlobPoint | Field::SectionPoint, 2) if bytes.first() != Some(&4) => Some(Cause::NotFour),
             (Field::BlobPoint | Field::SectionPoint, _) => wrong_length(bytes, 1 + 2 * size, number),
             (Field::Scalar, _) => Some(wrong_scalar(bytes, size)),
@@ -173,7 +179,6 @@ impl<'a> Walk<'a> {
         let inside = *self;
         match self.take(length) {
             Some(left) => Ok(Walk { left, ..inside }),
-            None if self.private => Err((field, Cause::PastSection)),
             None => Err((field, Cause::PastEnd { says: length, left: self.left.len() })),
         }
     }
@@ -228,6 +233,6 @@ fn pair_fields(name: &[u8]) -> &'static [Field] {
     }
 }
 
-fn uint32(bytes: &[u8]) -> u32 {
+pub(crate) fn uint32(bytes: &[u8]) -> u32 {
     bytes.iter().fold(0, |number, byte| number << 8 | u32::from(*byte))
 }

@@ -14,6 +14,7 @@ mod programs;
 mod reading;
 mod rsa;
 mod scalars;
+mod secrets;
 mod sentences;
 mod support;
 mod traits;

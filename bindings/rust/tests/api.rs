@@ -58,7 +58,7 @@ fn refusals_in_words() {
         "Refusal 1 (Length): the key count at byte 35 is 2, and only 1 key in a file is taken.",
         "Refusal 2 (FormatEncoding): the image doesn't begin with `openssh-key-v1` and a zero byte.",
         "Refusal 3 (Crypto): the second checkint at byte 155 isn't equal to the first: the two check numbers before the key differ, so the section is damaged.",
-        "Refusal 4 (AlgorithmUnknown): the cipher name's string at byte 15 is \"aes512-ctr\", and no such cipher is known.",
+        "Refusal 4 (AlgorithmUnknown): the cipher name's string at byte 15 is \"aes512-ctr\", and no such cipher is known here.",
         "Refusal 5 (PublicKey): the key name's string in the section at byte 159 begins another public key than the header's.",
         "Refusal 6 (TrailingData): the image has 2 bytes too many, from byte 311 on.",
         "Refusal 7 (CharacterEncoding): the comment's string at byte 300 isn't UTF-8.",
