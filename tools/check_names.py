@@ -14,7 +14,7 @@ RT = "check ci dev doc fmt goals help mir must-fail prove selftest staticlib try
 
 # Names that aren't the project's own, by whose they are; with `::` at its end whatever such a type or module has.
 OTHERS = {
-    "the crate ssh-key's and those that it uses": "ConstantTimeEq EcdsaPrivateKey EcdsaPrivateKey:: Ed25519Keypair:: Error::Crypto "
+    "the crate ssh-key's and those that it uses": "ConstantTimeEq Dsa EcdsaPrivateKey EcdsaPrivateKey:: Ed25519Keypair:: Error::Crypto "
     "Kdf::decode KeypairData:: LineEnding:: PrivateKey:: RsaPrivateKey Zeroizing ct_eq decode_as private_key_bytes public_key_bytes",
     "Rust's, the kit's and bash's": "BASH_ENV OpenOptions:: io:: std:: str:: u8::",
     "other programs' and their files'": "decode_privatekey_comment_pair encrypted_issue_369_rsa_opensshv1 ssh-keygen",
