@@ -1,10 +1,14 @@
-//! Writing an image into a lent buffer.
+//! Writing an image into a lent buffer, or into a new one.
 
 use core::fmt;
 
 use crate::c;
 use crate::handed::{of_encrypted, of_plain, of_rsa};
+#[cfg(feature = "alloc")]
+use crate::MAX_IMAGE_LEN;
 use crate::{Algorithm, Cipher, Error, KdfAlg};
+#[cfg(feature = "alloc")]
+use alloc::{vec, vec::Vec};
 
 /// The number that stands twice before the key in a plain section.
 #[derive(Clone, Copy, PartialEq, Eq)]
@@ -112,6 +116,46 @@ pub fn write_encrypted(key: &EncryptedKey<'_>, out: &mut [u8]) -> Result<usize, 
     let (cipher, kdf) = (key.cipher.code(), key.kdf.code());
     let reply = c::write_encrypted(cipher, kdf, key.salt, key.rounds, key.blob, key.ciphertext, key.tag, out);
     Error::written(reply, |number| of_encrypted(key, number))
+}
+
+#[cfg(feature = "alloc")]
+impl PlainKey<'_> {
+    /// **Private.** The image that [`write_plain`] writes, with its refusals but for the room. Nobody wipes the bytes.
+    pub fn to_image(&self, comment: impl AsRef<[u8]>) -> Result<Vec<u8>, Error> {
+        let comment = comment.as_ref();
+        // Ed25519's public bytes stand in it three times.
+        owned(&[self.public, self.public, self.public, self.private, comment], |out| write_plain(self, comment, out))
+    }
+}
+
+#[cfg(feature = "alloc")]
+impl RsaKey<'_> {
+    /// **Private.** The image that [`write_rsa`] writes, with its refusals but for the room. Nobody wipes the bytes.
+    pub fn to_image(&self, comment: impl AsRef<[u8]>) -> Result<Vec<u8>, Error> {
+        let comment = comment.as_ref();
+        let parts = [self.n, self.e, self.n, self.e, self.d, self.iqmp, self.p, self.q, comment];
+        owned(&parts, |out| write_rsa(self, comment, out))
+    }
+}
+
+#[cfg(feature = "alloc")]
+impl EncryptedKey<'_> {
+    /// The image that [`write_encrypted`] writes, with its refusals but for the room.
+    pub fn to_image(&self) -> Result<Vec<u8>, Error> {
+        owned(&[self.salt, self.blob, self.ciphertext, self.tag], |out| write_encrypted(self, out))
+    }
+}
+
+/// What is written of these parts, in a buffer that was long enough from the start: one that grows would leave copies behind.
+#[cfg(feature = "alloc")]
+fn owned(parts: &[&[u8]], write: impl FnOnce(&mut [u8]) -> Result<usize, Error>) -> Result<Vec<u8>, Error> {
+    // More than an image has beside its parts: the magic, names, lengths, checkints, a scalar's zero and padding.
+    const BESIDE: usize = 256;
+    let room = parts.iter().fold(BESIDE, |sum, part| sum.saturating_add(part.len()));
+    let mut out = vec![0; room.min(MAX_IMAGE_LEN)];
+    let len = write(&mut out)?;
+    out.truncate(len);
+    Ok(out)
 }
 
 /// Which of the two; a given checkint may come from private bytes, and isn't said.

@@ -143,8 +143,8 @@ fn the_block_of_no_cipher() {
 mod owned {
     use super::*;
     use saltorchard::armour::{export, exported, exported_len, import, imported};
-    use saltorchard::{set_comment, MAX_IMAGE_LEN};
-    use support::images::drafts;
+    use saltorchard::{set_comment, write_plain, write_rsa, Checkint, PlainKey, RsaKey, MAX_IMAGE_LEN};
+    use support::images::{drafts, mpint};
 
     /// What a writer puts into a buffer that is long enough.
     fn written(write: impl Fn(&mut [u8]) -> Result<usize, Error>) -> Result<Vec<u8>, Error> {
@@ -174,6 +174,63 @@ mod owned {
             }
         }
         assert!(refused > 0, "none was too long");
+    }
+
+    /// The lengths of a comment: short ones, those at which an image reaches the limit, and above it.
+    fn lengths(beside: usize) -> impl Iterator<Item = usize> {
+        (0..20)
+            .chain(MAX_IMAGE_LEN - beside - 20..MAX_IMAGE_LEN - beside + 20)
+            .chain([MAX_IMAGE_LEN, 2 * MAX_IMAGE_LEN])
+    }
+
+    #[test]
+    fn plain_keys() {
+        for (kind, beside) in [(0, 234), (1, 303), (2, 399), (3, 518)] {
+            for first in [0x01, 0x7f, 0x80] {
+                let Key { public, private, .. } = key(kind).beginning(first);
+                let key = PlainKey {
+                    algorithm: ALGORITHMS[kind as usize],
+                    public: &public,
+                    private: &private,
+                    checkint: Checkint::Derived,
+                };
+                for comment in lengths(beside).map(|length| vec![b'c'; length]) {
+                    assert_eq!(key.to_image(&comment), written(|out| write_plain(&key, &comment, out)));
+                }
+                let cut = PlainKey { private: &private[1..], ..key };
+                assert_eq!(cut.to_image("oven").map_err(Error::number), Err(1));
+            }
+        }
+    }
+
+    #[test]
+    fn rsa_keys() {
+        let numbers = [1_024, 17, 1_024, 1_024, 1_024, 1_024].map(|bits| mpint(bits, &mut rng()));
+        let [n, e, d, iqmp, p, q] = &numbers;
+        let key = RsaKey { n, e, d, iqmp, p, q, checkint: Checkint::Given(7) };
+        for comment in lengths(1_000).map(|length| vec![b'c'; length]) {
+            assert_eq!(key.to_image(&comment), written(|out| write_rsa(&key, &comment, out)));
+        }
+        let no_number = RsaKey { q: &[], ..key };
+        assert_eq!(no_number.to_image("silo").map_err(Error::number), Err(2));
+    }
+
+    #[test]
+    fn encrypted_keys() {
+        let blob = read(&plain(b"")).public_blob().to_vec();
+        for length in (0..40).map(|blocks| 16 * blocks).chain([65_360, 65_376, 65_392, 131_072]) {
+            let (ciphertext, cipher, kdf) = (vec![7; length], Cipher::Aes256Gcm, KdfAlg::Bcrypt);
+            let key = EncryptedKey {
+                cipher,
+                kdf,
+                salt: &[5; 16],
+                rounds: 16,
+                blob: &blob,
+                ciphertext: &ciphertext,
+                tag: &[9; 16],
+            };
+            assert_eq!(key.to_image(), written(|out| write_encrypted(&key, out)));
+        }
     }
 
     #[test]
