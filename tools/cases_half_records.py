@@ -11,11 +11,11 @@ from images import bcrypt_options, encrypted, join, keypair_fields, plain, point
 from images import place as place_of
 from images import put as put_field
 from model import PLAIN, Answer, read_image
-from records import HEADER_NAMES, HEADER_PARTS, NAMES, Handed, index_of, numbers_of
+from records import HEADER_NAMES, HEADER_PARTS, KEYS, NAMES, Handed, index_of, numbers_of
 
 CLOSELY = ["plain 0", "plain 3", "bcrypt aes256-gcm", "none aes128-cbc"]  # each single number of these is set wrong
 HALF = [NAMES.index(name) for name in HEADER_NAMES]  # the places of a half's numbers among a record's
-HALF += [index_of(part) + end for part in HEADER_PARTS for end in (0, 1)]
+HALF += [index_of(part) + end for part in HEADER_PARTS for end in (0, 1)] + [KEYS]
 
 
 def half_alone(half):

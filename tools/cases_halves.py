@@ -56,6 +56,7 @@ def half_meant(fields):
         blob=parts["blob"],
         point=parts["blob.point"],
         salt=parts.get("options.salt", ABSENT),
+        keys=1,
     )
 
 

@@ -13,11 +13,11 @@ from cases_rsa_images import of_size
 from fields import LIMIT
 from images import corpus, encrypted, join, place, plain
 from images_rsa import high, in_blob, in_section, low, number, numbers, rsa_encrypted, rsa_plain
-from records import CODES, HEADER_RSA_PARTS, NAMES, OTHERS, PARTS, RSA_PARTS, SECTION_RSA_PARTS, Handed, index_of, numbers_of
+from records import CODES, HEADER_RSA_PARTS, KEYS, NAMES, OTHERS, PARTS, RSA_PARTS, SECTION_RSA_PARTS, Handed, index_of, numbers_of
 from rsa import NUMBERS
 
 REAL = ["keygen-rsa1024-3des-cbc", "keygen-rsa2048-ascii"]
-RSA_NUMBERS = range(OTHERS, OTHERS + 1 + 2 * len(RSA_PARTS))
+RSA_NUMBERS = range(OTHERS, KEYS)
 ABSENT_PLACES = [(1, 0), (0, 1), (2**64 - 1, 1), (2**63, 2**63)]
 
 

@@ -54,7 +54,7 @@ def whole():
         source = text(f"crates/{crate}/specs/{file}.antt")
         if "docs/RULES.md, " not in source.partition("\nuse ")[0]:
             yield f"{name} is to be read, and doesn't begin with the rules that it states"
-        used = {f"{crate}/{file}" for crate, file in re.findall(r"^use Rattle·(\w+)(?:·specs)?\.specs\.([A-Z]\w+)\.", source, re.M)}
+        used = {f"{crate}/{file}" for crate, file in re.findall(r"^(?:unfoldable pub )?use Rattle·(\w+)(?:·specs)?\.specs\.([A-Z]\w+)\.", source, re.M)}
         for other in sorted(used - listed() - LAWS) if crate != "claims" else ():
             yield f"docs/AUDIT.md has {name} read, which rests on {other}, and not that"
 

@@ -10,14 +10,15 @@ It comes out the same each time: the images are made here or stored in tools/cor
 model_writing.py and model_armour.py. Of the calls of the writers and of the comment change calls.py says how they are stored and
 printed, of the records handed in records.py, of export and import armoured.py.
 In the file of images each is its length, 4 bytes big-endian, and its bytes. For each image there are in stdout
-  - `read` and 25 numbers: number, count, at, kind, algorithm, cipher, KDF, rounds, checkint, padding, section (where
+  - `read` and 27 numbers: number, count, at, kind, algorithm, cipher, KDF, rounds, checkint, padding, section (where
     its length, or the ciphertext's, begins), then start and length of blob, point, scalar, comment, salt, ciphertext
-    and tag; 0 for what is absent; where the image is refused only number, count, at and 0,
+    and tag, the key count, and where the first keypair begins; 0 for what is absent; after these the other fifteen places,
+    where one of them isn't 0; where the image is refused only number, count, at and 0,
   - where it is accepted, `views` and 7 numbers: the sum of the bytes of each of these parts,
   - `rsa` and 19 numbers: bits, start and length of modulus, exponent, d, iqmp, p and q, and the sums of their bytes; only where
     one of them isn't 0,
-  - `header` and 14 numbers, what the header read alone says: number, count, at, algorithm, cipher, KDF, rounds, section,
-    then start and length of blob, point and salt; where the header is refused only number, count, at and 0,
+  - `header` and 15 numbers, what the header read alone says: number, count, at, algorithm, cipher, KDF, rounds, section,
+    then start and length of blob, point and salt, and the key count; where the header is refused only number, count, at and 0,
   - `header-rsa` and 5 numbers: its bits, start and length of modulus and exponent; only where one of them isn't 0,
   - the inspection program's lines.
 """
@@ -39,6 +40,7 @@ from cases_encrypted import encrypted_rows
 from cases_half_records import half_record_cases
 from cases_halves import half_cases
 from cases_header import header_cases
+from cases_key_records import key_half_cases, key_record_cases
 from cases_marked import marked_cases
 from cases_plain import plain_rows
 from cases_records import record_cases
@@ -137,7 +139,8 @@ def sums(image, answer, parts):
 
 
 def read_lines(image, answer):
-    line = reply_line("read", answer, records.chosen(answer, records.NAMES, records.PARTS))
+    numbers = records.chosen(answer, records.NAMES, records.PARTS)
+    line = reply_line("read", answer, [*numbers, answer.keys, *records.places_told(answer)])
     if answer.number != 0:
         return line
     rsa = records.chosen(answer, records.RSA_NAMES, records.RSA_PARTS) + sums(image, answer, records.RSA_PARTS)
@@ -145,7 +148,7 @@ def read_lines(image, answer):
 
 
 def header_lines(half):
-    line = reply_line("header", half, records.chosen(half, records.HEADER_NAMES, records.HEADER_PARTS))
+    line = reply_line("header", half, [*records.chosen(half, records.HEADER_NAMES, records.HEADER_PARTS), half.keys])
     return line + records.line_if_any("header-rsa", records.chosen(half, records.RSA_NAMES, records.HEADER_RSA_PARTS))
 
 
@@ -250,7 +253,10 @@ def counted(vectors, answers, by_hand):
 def made():
     """The files by their paths, and how often each entry gives each reply number."""
     vectors, written = images(), rows()
-    by_hand = {RECORDS: handed(record_cases()), HALVES: handed(itertools.chain(half_record_cases(), rsa_record_cases()))}
+    by_hand = {
+        RECORDS: handed(itertools.chain(record_cases(), key_record_cases())),
+        HALVES: handed(itertools.chain(half_record_cases(), rsa_record_cases(), key_half_cases())),
+    }
     data = b"".join(len(image).to_bytes(4, "big") + image for image in vectors)
     text = "".join(expected(image) for image in vectors)
     answers = [(call.entry, reply, after) for row in written.values() for call, reply, after in row]

@@ -23,6 +23,7 @@ from model_keys import RSA_PARTS, compared, filled_scalar, private_field, public
 from model_keys import rsa_blob, rsa_keypair
 
 PLAIN, ENCRYPTED = 1, 2
+MOST_KEYS = 16  # a record has room for so many places
 
 
 @dataclass(frozen=True)
@@ -43,6 +44,7 @@ class Half:
     bits: int = 0  # of an RSA key's modulus
     modulus: tuple = ABSENT
     exponent: tuple = ABSENT
+    keys: int = 0  # the key count
 
 
 @dataclass(frozen=True)
@@ -60,6 +62,7 @@ class Answer(Half):
     iqmp: tuple = ABSENT
     p: tuple = ABSENT
     q: tuple = ABSENT
+    places: tuple = (0,) * MOST_KEYS  # where each key's keypair begins in the image; 0 where there is none, or it is encrypted
 
 
 # ---- the three reads
@@ -104,10 +107,10 @@ def half_of_image(image):
     cipher = read_name(reader, CIPHER_NAMES)  # 4.3
     kdf = read_name(reader, KDFS)  # 4.4
     salt, rounds = read_options(reader, kdf)
-    read_key_count(reader)  # 4.5
+    keys = read_key_count(reader)  # 4.5
     blob = reader.string()  # 4.6
     algorithm, public = read_blob(reader.inside(blob))
-    names = dict(algorithm=algorithm, cipher=cipher, kdf=kdf, rounds=rounds)
+    names = dict(algorithm=algorithm, cipher=cipher, kdf=kdf, rounds=rounds, keys=keys)
     return Half(**names, section=reader.place, blob=blob, salt=salt, **public)
 
 
@@ -136,8 +139,15 @@ def read_options(reader, kdf):
 
 def read_key_count(reader):
     field = reader.place
-    if reader.uint32() != 1:
+    keys = reader.uint32()
+    if keys != 1:
         raise Refused(1, field)
+    return keys
+
+
+def places_of(begins):
+    """Where the keypairs begin, the rest filled up with 0."""
+    return (*begins, *[0] * (MOST_KEYS - len(begins)))
 
 
 # ---- the section, rules 4.7 and 4.8
@@ -189,7 +199,7 @@ def read_plain_section(reader, algorithm, public):
         raise Refused(5, key_name)
     comment = read_comment(reader)
     padding = read_padding(reader)
-    return dict(checkint=checkint, comment=comment, padding=padding, **private)
+    return dict(checkint=checkint, comment=comment, padding=padding, places=places_of([key_name]), **private)
 
 
 def read_checkints(reader):

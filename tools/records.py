@@ -2,19 +2,20 @@
 replay_halves, and what these must print.
 
 In the file of records every number is big-endian. A vector is the image's length and the lent buffer's, 4 bytes each, the
-record's 35 numbers, 8 bytes each, so that places near 2**64 can be tried, and the image's bytes. The numbers are kind (1 plain,
+record's 52 numbers, 8 bytes each, so that places near 2**64 can be tried, and the image's bytes. The numbers are kind (1 plain,
 2 encrypted), algorithm, cipher, KDF, rounds, checkint, padding and section, then start and length of blob, point, scalar,
-comment, salt, ciphertext and tag, then RSA's: bits, and start and length of modulus, exponent, d, iqmp, p and q. The lent
-buffer is filled with calls.py's bytes, in which every change shows.
+comment, salt, ciphertext and tag, then RSA's: bits, and start and length of modulus, exponent, d, iqmp, p and q, and then the
+key count and the sixteen places where keypairs begin. The lent buffer is filled with calls.py's bytes, in which every change shows.
 
 For each vector there are in stdout
   - the line of a call as calls.py has it, with the entry `record`,
   - `views` and for each part its length and, where that isn't 0, what remains of it modulo the same prime. The views do not
     judge: a part goes by its place alone, and is empty where that isn't within the image,
   - `views-rsa` and the same of RSA's six parts, where one of them isn't empty,
-  - `section` and 14 numbers, what the section read says of the image and of the record's header half alone: number, count,
-    at, kind, checkint, padding, then start and length of scalar, comment, ciphertext and tag; where it is refused only
-    number, count, at and 0. The half itself, which the answer hands back, isn't printed again,
+  - `section` and 15 numbers, what the section read says of the image and of the record's header half alone: number, count,
+    at, kind, checkint, padding, then start and length of scalar, comment, ciphertext and tag, and where the first keypair
+    begins; after these the other fifteen places, where one of them isn't 0; where it is refused only number, count, at and 0.
+    The half itself, which the answer hands back, isn't printed again,
   - `section-rsa` and 8 numbers, start and length of its d, iqmp, p and q, where one of them isn't 0.
 """
 from typing import NamedTuple
@@ -24,7 +25,7 @@ import model
 import model_writing
 from calls import LARGE, PRIME, filled
 from fields import ALGORITHMS, CIPHERS, KDFS
-from model import Answer, Half
+from model import MOST_KEYS, Answer, Half
 from model_writing import Reply
 
 PARTS = ["blob", "point", "scalar", "comment", "salt", "ciphertext", "tag"]
@@ -38,8 +39,10 @@ SECTION_NAMES = ["kind", "checkint", "padding"]
 SECTION_PARTS = ["scalar", "comment", "ciphertext", "tag"]
 SECTION_RSA_PARTS = ["d", "iqmp", "p", "q"]
 CODES = [range(1, 3), range(len(ALGORITHMS)), range(len(CIPHERS)), range(len(KDFS))]  # what the first four may be
-WIDTHS = [2**32, 2**32] + [2**64] * 29  # what the others are below
 OTHERS = len(NAMES) + 2 * len(PARTS)  # so many numbers stand before RSA's
+KEYS = OTHERS + len(RSA_NAMES) + 2 * len(RSA_PARTS)  # and so many before the key count
+PLACES = range(KEYS + 1, KEYS + 1 + MOST_KEYS)
+WIDTHS = [2**32, 2**32] + [2**64] * (PLACES.stop - len(CODES) - 2)  # what all but the first four are below
 
 
 class Handed(NamedTuple):
@@ -63,7 +66,7 @@ def chosen(record, names, parts):
 
 
 def numbers_of(record):
-    return chosen(record, NAMES, PARTS) + chosen(record, RSA_NAMES, RSA_PARTS)
+    return chosen(record, NAMES, PARTS) + chosen(record, RSA_NAMES, RSA_PARTS) + [record.keys, *record.places]
 
 
 def named(numbers, names, parts):
@@ -72,7 +75,8 @@ def named(numbers, names, parts):
 
 
 def record_of(numbers):
-    return Answer(**named(numbers[:OTHERS], NAMES, PARTS), **named(numbers[OTHERS:], RSA_NAMES, RSA_PARTS))
+    others, rsa = named(numbers[:OTHERS], NAMES, PARTS), named(numbers[OTHERS:KEYS], RSA_NAMES, RSA_PARTS)
+    return Answer(**others, **rsa, keys=numbers[KEYS], places=tuple(numbers[KEYS + 1 :]))
 
 
 def index_of(part):
@@ -84,7 +88,12 @@ def index_of(part):
 
 def half_of(record):
     names = HEADER_NAMES + HEADER_PARTS + RSA_NAMES + HEADER_RSA_PARTS
-    return Half(**{name: getattr(record, name) for name in names})
+    return Half(**{name: getattr(record, name) for name in names}, keys=record.keys)
+
+
+def places_told(record):
+    """Where the keypairs begin: the first key's, and the others' only where one of these isn't 0."""
+    return record.places if any(record.places[1:]) else record.places[:1]
 
 
 def can_be(numbers):
@@ -119,7 +128,7 @@ def section_lines(answer):
     reply = [answer.number, answer.count, answer.at]
     if answer.number != 0:
         return line("section", [*reply, 0])
-    numbers = [*reply, *chosen(answer, SECTION_NAMES, SECTION_PARTS)]
+    numbers = [*reply, *chosen(answer, SECTION_NAMES, SECTION_PARTS), *places_told(answer)]
     return line("section", numbers) + line_if_any("section-rsa", chosen(answer, [], SECTION_RSA_PARTS))
 
 

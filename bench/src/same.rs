@@ -106,7 +106,7 @@ fn halves(image: &[u8]) -> Result<(), String> {
 
 fn shown(record: &Image) -> String {
     let numbers = [record.number, record.count, record.at, record.kind, record.algorithm, record.cipher, record.kdf];
-    let more = [record.rounds, record.checkint, record.padding, record.form, record.section, record.bits];
+    let more = [record.rounds, record.checkint, record.padding, record.form, record.section, record.bits, record.keys];
     let parts = [record.blob, record.point, record.scalar, record.comment, record.salt, record.ciphertext, record.tag];
     let rsa = [record.modulus, record.exponent, record.d, record.iqmp, record.p, record.q];
     let places: Vec<_> = parts.iter().chain(&rsa).map(|part| (part.start, part.length)).collect();
@@ -145,6 +145,7 @@ fn from_model(answer: Result<model::Record, model::Refusal>) -> Image {
         iqmp: part(&record.iqmp),
         p: part(&record.p),
         q: part(&record.q),
+        keys: record.keys,
     }
 }
 

@@ -43,6 +43,7 @@ const NOTHING: Image = Image {
     iqmp: ABSENT,
     p: ABSENT,
     q: ABSENT,
+    keys: 0,
 };
 
 struct Refused {
@@ -407,6 +408,7 @@ fn header(image: &[u8], record: &mut Image) -> Step<(Public, usize)> {
     record.blob = blob.part();
     record.point = key.point.part();
     record.section = blob.end as u64;
+    record.keys = 1;
     if key.algorithm == RSA {
         record.bits = bits(image, key.modulus) as u64;
         record.modulus = key.modulus.part();

@@ -322,6 +322,7 @@ static saltorchard_image plain_record(const key *k, size_t zeros, uint32_t check
     r.scalar = part(scalar, length);
     r.comment = part(comment_at, comment);
     r.section = section - 4;
+    r.keys = 1;
     return r;
 }
 
@@ -341,6 +342,7 @@ static saltorchard_image encrypted_record(const sealed *s, const key *k)
     r.point = part(blob + s->blob.length - k->pub_len, k->pub_len);
     r.ciphertext = part(ciphertext, s->ciphertext.length);
     r.section = ciphertext - 4;
+    r.keys = 1;
     if (s->kdf == SALTORCHARD_BCRYPT)
         r.salt = part(names + 4 + 4, s->salt.length);
     if (s->tag.length > 0)
@@ -389,6 +391,7 @@ static saltorchard_image rsa_record(const rsa_key *k, size_t bits, uint32_t chec
     r.iqmp = number_of(k, RSA_IQMP);
     r.p = number_of(k, RSA_P);
     r.q = number_of(k, RSA_Q);
+    r.keys = 1;
     return r;
 }
 
@@ -482,6 +485,7 @@ static saltorchard_image header_record(const bytes *image)
         r.rounds = uint32_at(image, end_of(r.salt));
     }
     r.section = end_of(blob);
+    r.keys = uint32_at(image, blob.start - 8);
     return r;
 }
 

@@ -26,10 +26,10 @@
 extern "C" {
 #endif
 
-#define SALTORCHARD_INTERFACE 7
+#define SALTORCHARD_INTERFACE 8
 
-/* Answers 7. The pointer is there for the linker; `retain` keeps it where sections that nobody calls are dropped. */
-uint64_t saltorchard_interface_7(void);
+/* Answers 8. The pointer is there for the linker; `retain` keeps it where sections that nobody calls are dropped. */
+uint64_t saltorchard_interface_8(void);
 #if defined(__has_attribute)
 #if __has_attribute(retain)
 __attribute__((retain))
@@ -38,7 +38,7 @@ __attribute__((retain))
 #if defined(__GNUC__)
 __attribute__((used))
 #endif
-static uint64_t (*const saltorchard_interface)(void) = saltorchard_interface_7;
+static uint64_t (*const saltorchard_interface)(void) = saltorchard_interface_8;
 
 /* The number of a reply. The first condition that holds, in the order of reading or writing, gives it. */
 enum {
@@ -119,6 +119,7 @@ typedef struct {
     uint64_t section;                      /* where the section's length field is: the blob's end */
     uint64_t bits;                         /* of an RSA modulus, without leading zero bits; 0 for another key */
     saltorchard_part modulus, exponent, d, iqmp, p, q;   /* of an RSA key, as stored, a leading zero included; 0 0 where absent */
+    uint64_t keys;                         /* how many keys the image has: 1; of a header alone, how many blobs */
 } saltorchard_image;
 
 /* What the others answer. `length` is what was written, 0 where refused. `at` is 0 for what was handed to a writer, and for a text;

@@ -7,7 +7,7 @@
 
 _Static_assert(sizeof(saltorchard_part) == 16, "part");
 _Static_assert(sizeof(saltorchard_reply) == 32 && offsetof(saltorchard_reply, length) == 24, "reply");
-_Static_assert(sizeof(saltorchard_image) == 312, "image");
+_Static_assert(sizeof(saltorchard_image) == 320 && offsetof(saltorchard_image, keys) == 312, "image");
 _Static_assert(offsetof(saltorchard_image, kind) == 24 && offsetof(saltorchard_image, rounds) == 56, "image's numbers");
 _Static_assert(offsetof(saltorchard_image, form) == 80 && offsetof(saltorchard_image, blob) == 88, "image's form and parts");
 _Static_assert(offsetof(saltorchard_image, comment) == 136 && offsetof(saltorchard_image, tag) == 184, "image's last parts");
@@ -16,7 +16,7 @@ _Static_assert(offsetof(saltorchard_image, modulus) == 216 && offsetof(saltorcha
 
 /* ---- reads held to what they must answer */
 
-enum { NUMBERS = 39 };
+enum { NUMBERS = 40 };
 
 static void image_at(int line, saltorchard_image got, saltorchard_image want)
 {
@@ -25,7 +25,7 @@ static void image_at(int line, saltorchard_image got, saltorchard_image want)
         "blob.start", "blob.length", "point.start", "point.length", "scalar.start", "scalar.length", "comment.start",
         "comment.length", "salt.start", "salt.length", "ciphertext.start", "ciphertext.length", "tag.start", "tag.length",
         "section", "bits", "modulus.start", "modulus.length", "exponent.start", "exponent.length", "d.start", "d.length",
-        "iqmp.start", "iqmp.length", "p.start", "p.length", "q.start", "q.length"};
+        "iqmp.start", "iqmp.length", "p.start", "p.length", "q.start", "q.length", "keys"};
     uint64_t g[NUMBERS], w[NUMBERS];
     memcpy(g, &got, sizeof g);
     memcpy(w, &want, sizeof w);
@@ -1423,6 +1423,19 @@ static void codes_changed(const bytes *image, saltorchard_image header)
     }
 }
 
+/* The key count, the last number. */
+static void counts_changed(const bytes *image, saltorchard_image header)
+{
+    static const uint64_t COUNTS[] = {0, 2, 16, 17, UINT32_MAX, (uint64_t)1 << 32 | 1, (uint64_t)1 << 63, UINT64_MAX};
+    CHECK(header.keys == 1);
+    for (size_t i = 0; i < sizeof COUNTS / sizeof *COUNTS; i++) {
+        now("halves, count of keys", i);
+        saltorchard_image half = header;
+        half.keys = COUNTS[i];
+        FORGED(image, half);
+    }
+}
+
 /* What other reads answer. */
 static void answers_handed_in(const bytes *image, saltorchard_image header)
 {
@@ -1448,6 +1461,7 @@ static void halves_forged(void)
         saltorchard_image header = header_record(&image);
         numbers_changed(&image, header);
         codes_changed(&image, header);
+        counts_changed(&image, header);
         answers_handed_in(&image, header);
         for (int another = 0; another < KINDS; another++) {
             image_of_kind(&other, another);

@@ -26,7 +26,7 @@ from typing import Any, Iterator, List, Optional, Union, overload
 __all__ = ["Image", "Refusal", "change_comment", "change_comment_in_place", "export", "import_", "read", "read_header", "read_section",
            "rewrite", "INTERFACE", "LIMIT"]
 
-INTERFACE = 7  # the number of the C interface that is declared here
+INTERFACE = 8  # the number of the C interface that is declared here
 LIMIT = 65535  # the most bytes of an image
 
 Bytes = Union[bytes, bytearray, memoryview]
@@ -97,6 +97,7 @@ class _Image(ctypes.Structure):
         *_fields(_Part, "blob point scalar comment salt ciphertext tag"),
         *_fields(ctypes.c_uint64, "section bits"),
         *_fields(_Part, "modulus exponent d iqmp p q"),
+        *_fields(ctypes.c_uint64, "keys"),
     ]
 
 

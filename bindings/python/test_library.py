@@ -123,11 +123,11 @@ class Library(unittest.TestCase):
 
     def test_refused(self):
         (self.folder / "text.so").write_text("not a library")
-        for name, number in (("other", 8), ("number", 7)):
-            (self.folder / f"{name}.c").write_text(f"unsigned long saltorchard_interface_{number}(void) {{ return 8; }}\n")
+        for name, number in (("other", 9), ("number", 8)):
+            (self.folder / f"{name}.c").write_text(f"unsigned long saltorchard_interface_{number}(void) {{ return 9; }}\n")
             compile_c(self.folder, "-shared", "-fPIC", f"{name}.c", "-o", f"{name}.so")
-        for name, words in (("text", "can't be loaded"), ("nowhere", "can't be loaded"), ("other", "isn't of interface 7"),
-                            ("number", "isn't of interface 7")):
+        for name, words in (("text", "can't be loaded"), ("nowhere", "can't be loaded"), ("other", "isn't of interface 8"),
+                            ("number", "isn't of interface 8")):
             os.environ["SALTORCHARD_LIBRARY"] = str(self.folder / f"{name}.so")
             self.assertRaisesRegex(OSError, words, module_at(self.folder / "saltorchard.py").read, IMAGE)
 

@@ -45,7 +45,7 @@ def told(reply, after):
 
 def found(key):
     """What an image says of itself."""
-    names = [key.kind, key.algorithm, key.cipher, key.kdf, key.rounds, key.bits, key.padding, key.form, key.comment]
+    names = [key.kind, key.algorithm, key.cipher, key.kdf, key.rounds, key.bits, key.padding, key.form, key._found.keys, key.comment]
     return names + [getattr(key, part) for part in PARTS] + [getattr(key, f"private_{part}") for part in PRIVATE]
 
 
@@ -55,7 +55,7 @@ def wanted(image, said):
         return refused(said)
     whole = isinstance(said, model.Answer)
     names = [KINDS[said.kind] if whole else "header", ALGORITHMS[said.algorithm].decode(), CIPHER_NAMES[said.cipher].decode()]
-    names += [KDFS[said.kdf].decode(), said.rounds, said.bits, said.padding if whole else 0, whole and model.form(image)]
+    names += [KDFS[said.kdf].decode(), said.rounds, said.bits, said.padding if whole else 0, whole and model.form(image), said.keys]
     parts = [content(image, getattr(said, part, (0, 0))) for part in ["comment", *PARTS, *PRIVATE]]
     return names + [parts[0].decode()] + parts[1:]
 
@@ -93,6 +93,12 @@ class AgainstTheModel(unittest.TestCase):
                 image = (CORPUS / f"{other}.bin").read_bytes()
                 self.assertEqual(answer(saltorchard.read_section, image, header), (1, 0, 0))
         self.assertEqual(answer(saltorchard.read_section, IMAGE, saltorchard.read(IMAGE)), (1, 0, 0))
+
+    def test_other_key_counts(self):
+        for count in (0, 2, 16, 17, 2**32 + 1, 2**63):
+            header = saltorchard.read_header(IMAGE)
+            header._found.keys = count
+            self.assertEqual(answer(saltorchard.read_section, IMAGE, header), (1, 0, 0))
 
     def test_changes_in_place(self):
         """Each row on one buffer, compared whole after each change; what other entries do to it is the model's."""

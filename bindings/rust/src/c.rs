@@ -39,6 +39,7 @@ pub struct Image {
     pub iqmp: Part,
     pub p: Part,
     pub q: Part,
+    pub keys: u64,
 }
 
 /// What a writer, a comment change, an export or an import answers.
@@ -52,7 +53,7 @@ pub struct Reply {
 }
 
 extern "C" {
-    fn saltorchard_interface_7() -> u64;
+    fn saltorchard_interface_8() -> u64;
     fn saltorchard_read(image: *const u8, image_len: usize) -> Image;
     fn saltorchard_read_header(image: *const u8, image_len: usize) -> Image;
     fn saltorchard_read_section(image: *const u8, image_len: usize, header: Image) -> Image;
@@ -117,7 +118,7 @@ extern "C" {
 }
 
 /// What the archive has under this name only if its structs and functions are the ones declared here.
-static INTERFACE: unsafe extern "C" fn() -> u64 = saltorchard_interface_7;
+static INTERFACE: unsafe extern "C" fn() -> u64 = saltorchard_interface_8;
 
 /// Before each call: refers to the archive's number, so that with an archive of another number nothing links. The pointer is read,
 /// and not only there, since older compilers let the linker drop a static that is no more than `#[used]`.

@@ -9,8 +9,9 @@ use support::images::{drafts, Draft, Key, DRAFTS};
 use support::model::Numbers;
 use support::Rng;
 
-/// The places of kind, algorithm, cipher and KDF among the numbers.
+/// The places of kind, algorithm, cipher and KDF among the numbers, and of the key count.
 const CODES: [usize; 4] = [3, 4, 5, 6];
+const KEYS: usize = 39;
 
 /// Images of every kind, each with its header's numbers.
 fn images(rng: &mut Rng) -> Vec<(Vec<u8>, Numbers)> {
@@ -27,7 +28,7 @@ fn images(rng: &mut Rng) -> Vec<(Vec<u8>, Numbers)> {
 fn forged(tally: &mut Tally, image: &[u8], half: Numbers) {
     let refusal = numbers_of(&tally.section(image, raw_of(half)));
     assert_eq!(refusal[0], 1);
-    assert_eq!(refusal[1..], [0; 38]);
+    assert_eq!(refusal[1..], [0; 39]);
 }
 
 #[test]
@@ -58,7 +59,7 @@ fn numbers_changed() {
             }
         }
     }
-    tally.end(DRAFTS * 39 * 6);
+    tally.end(DRAFTS * 40 * 6);
 }
 
 #[test]
@@ -79,6 +80,20 @@ fn codes_changed() {
 }
 
 #[test]
+fn counts_changed() {
+    let mut tally = Tally::new("halves, counts of keys changed");
+    for (image, header) in images(&mut Rng::new("halves, counts of keys changed")) {
+        assert_eq!(header[KEYS], 1);
+        for count in [0, 2, 16, 17, 1 << 32 | 1, 1 << 63, u64::MAX] {
+            let mut half = header;
+            half[KEYS] = count;
+            forged(&mut tally, &image, half);
+        }
+    }
+    tally.end(DRAFTS * 7);
+}
+
+#[test]
 fn other_answers() {
     let mut tally = Tally::new("halves, other answers");
     for (image, header) in images(&mut Rng::new("halves, other answers")) {
@@ -87,7 +102,7 @@ fn other_answers() {
         whole[3] = header[3];
         forged(&mut tally, &image, whole);
         for number in 0..12 {
-            let mut refusal = [0; 39];
+            let mut refusal = [0; 40];
             refusal[0] = number;
             forged(&mut tally, &image, refusal);
         }
@@ -169,7 +184,7 @@ fn around_the_limit() {
             let image = Draft::in_form(&key, 7, &vec![b'c'; length]).bytes();
             let section = tally.section(&image, header);
             assert_eq!(section.number, u64::from(image.len() > 65_535), "above the limit it is 1, not 11");
-            forged(&mut tally, &image, [0; 39]);
+            forged(&mut tally, &image, [0; 40]);
         }
     }
     tally.expect_of_sections(&[0], 60);

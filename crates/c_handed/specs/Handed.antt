@@ -51,6 +51,7 @@ sameImage a b =
     && samePlace (a .iqmp) (b .iqmp)
     && samePlace (a .p) (b .p)
     && samePlace (a .q) (b .q)
+    && eqb (a .keys) (b .keys)
 
 abbrev pub partOf : Place → Part
 partOf p = part (p .start) (p .length)
@@ -74,6 +75,7 @@ halfFrom x a c k =
       kdf = k;
       salt = partOf (x .salt);
       rounds = roundsOf (x .rounds);
+      count = x .keys;
       algorithm = a;
       blob = partOf (x .blob);
       public = publicFrom x;

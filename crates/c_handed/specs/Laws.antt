@@ -44,7 +44,8 @@ place-last before a b e = let ok = both-true before (samePlace a b) e in (ok .0,
 pub image-same : (a b : Image) → sameImage a b ≡ true → a ≡ b
 unfolding sameImage
 image-same a b e =
-    let q = place-last _ (a .q) (b .q) e in
+    let keys = number-last _ (a .keys) (b .keys) e in
+    let q = place-last _ (a .q) (b .q) (keys .0) in
     let p = place-last _ (a .p) (b .p) (q .0) in
     let iqmp = place-last _ (a .iqmp) (b .iqmp) (p .0) in
     let d = place-last _ (a .d) (b .d) (iqmp .0) in
@@ -70,7 +71,7 @@ image-same a b e =
     let at = number-last _ (a .at) (b .at) (kind .0) in
     let count = number-last _ (a .count) (b .count) (at .0) in
     let number : a .number ≡ b .number = eqb-true _ _ (count .0) in
-    let whole : _≡_ {A = Image} (record { number = a .number; count = a .count; at = a .at; kind = a .kind; algorithm = a .algorithm; cipher = a .cipher; kdf = a .kdf; rounds = a .rounds; checkint = a .checkint; padding = a .padding; form = a .form; blob = a .blob; point = a .point; scalar = a .scalar; comment = a .comment; salt = a .salt; ciphertext = a .ciphertext; tag = a .tag; section = a .section; bits = a .bits; modulus = a .modulus; exponent = a .exponent; d = a .d; iqmp = a .iqmp; p = a .p; q = a .q }) (record { number = b .number; count = b .count; at = b .at; kind = b .kind; algorithm = b .algorithm; cipher = b .cipher; kdf = b .kdf; rounds = b .rounds; checkint = b .checkint; padding = b .padding; form = b .form; blob = b .blob; point = b .point; scalar = b .scalar; comment = b .comment; salt = b .salt; ciphertext = b .ciphertext; tag = b .tag; section = b .section; bits = b .bits; modulus = b .modulus; exponent = b .exponent; d = b .d; iqmp = b .iqmp; p = b .p; q = b .q }) = rw (number, count .1, at .1, kind .1, algorithm .1, cipher .1, kdf .1, rounds .1, checkint .1, padding .1, form .1, blob .1, point .1, scalar .1, comment .1, salt .1, ciphertext .1, tag .1, section .1, bits .1, modulus .1, exponent .1, d .1, iqmp .1, p .1, q .1) in
+    let whole : _≡_ {A = Image} (record { number = a .number; count = a .count; at = a .at; kind = a .kind; algorithm = a .algorithm; cipher = a .cipher; kdf = a .kdf; rounds = a .rounds; checkint = a .checkint; padding = a .padding; form = a .form; blob = a .blob; point = a .point; scalar = a .scalar; comment = a .comment; salt = a .salt; ciphertext = a .ciphertext; tag = a .tag; section = a .section; bits = a .bits; modulus = a .modulus; exponent = a .exponent; d = a .d; iqmp = a .iqmp; p = a .p; q = a .q; keys = a .keys }) (record { number = b .number; count = b .count; at = b .at; kind = b .kind; algorithm = b .algorithm; cipher = b .cipher; kdf = b .kdf; rounds = b .rounds; checkint = b .checkint; padding = b .padding; form = b .form; blob = b .blob; point = b .point; scalar = b .scalar; comment = b .comment; salt = b .salt; ciphertext = b .ciphertext; tag = b .tag; section = b .section; bits = b .bits; modulus = b .modulus; exponent = b .exponent; d = b .d; iqmp = b .iqmp; p = b .p; q = b .q; keys = b .keys }) = rw (number, count .1, at .1, kind .1, algorithm .1, cipher .1, kdf .1, rounds .1, checkint .1, padding .1, form .1, blob .1, point .1, scalar .1, comment .1, salt .1, ciphertext .1, tag .1, section .1, bits .1, modulus .1, exponent .1, d .1, iqmp .1, p .1, q .1, keys .1) in
     whole
 
 pub image-self : (a : Image) → sameImage a a ≡ true
@@ -109,7 +110,7 @@ kdf-small kdf.Bcrypt = omega arith
 from-own : (h : Header) → h .rounds < 2 ^ 32 → halfFrom (halfImage h) (h .algorithm) (h .cipher) (h .kdf) ≡ h
 unfolding halfFrom
 from-own h small =
-    ap (λ (n : ℕ). record { cipher = h .cipher; kdf = h .kdf; salt = h .salt; rounds = n; algorithm = h .algorithm; blob = h .blob; public = h .public; section = h .section })
+    ap (λ (n : ℕ). record { cipher = h .cipher; kdf = h .kdf; salt = h .salt; rounds = n; count = h .count; algorithm = h .algorithm; blob = h .blob; public = h .public; section = h .section })
     (let own : roundsOf (h .rounds) ≡ h .rounds = rw (lt-ltb (h .rounds) (2 ^ 32) small) in own)
 
 pub half-own : (h : Header) → h .rounds < 2 ^ 32 → halfOf (halfImage h) ≡ half.Header h

@@ -56,6 +56,7 @@ fn same_image(a: Image, b: Image) -> bool
         & same_place(a.iqmp, b.iqmp)
         & same_place(a.p, b.p)
         & same_place(a.q, b.q)
+        & (a.keys == b.keys)
 }
 
 fn part_of(p: Place) -> Part
@@ -101,6 +102,7 @@ fn half_from(x: Image, algorithm: Algorithm, cipher: Cipher, kdf: Kdf) -> Header
         kdf: kdf,
         salt: part_of(x.salt),
         rounds: rounds_of(x.rounds),
+        count: x.keys as usize,
         algorithm: algorithm,
         blob: part_of(x.blob),
         public: public,

@@ -60,6 +60,7 @@ refusedImage f =
       iqmp = placeOf absent;
       p = placeOf absent;
       q = placeOf absent;
+      keys = 0;
     }
 
 abbrev pub acceptedImage : Fields → Bool → Image
@@ -91,6 +92,7 @@ acceptedImage f form =
       iqmp = placeOf (f .section .private .iqmp);
       p = placeOf (f .section .private .p);
       q = placeOf (f .section .private .q);
+      keys = f .header .count;
     }
 
 unfoldable pub imageOf : FormRead → Image
@@ -127,6 +129,7 @@ halfImage h =
       iqmp = placeOf absent;
       p = placeOf absent;
       q = placeOf absent;
+      keys = h .count;
     }
 
 unfoldable pub headerOf : HeaderRead → Image

@@ -49,6 +49,7 @@ pub struct Image {
     pub iqmp: Place,
     pub p: Place,
     pub q: Place,
+    pub keys: u64,
 }
 
 #[repr(C)]
@@ -118,6 +119,7 @@ fn refused_image(f: Fault) -> Image
         iqmp: zero,
         p: zero,
         q: zero,
+        keys: 0,
     }
 }
 
@@ -159,6 +161,7 @@ fn accepted_image(f: Fields, form: bool) -> Image
         iqmp: place_of(private.iqmp),
         p: place_of(private.p),
         q: place_of(private.q),
+        keys: header.count as u64,
     }
 }
 
@@ -208,6 +211,7 @@ pub fn half_image(h: Header) -> Image
         iqmp: none,
         p: none,
         q: none,
+        keys: h.count as u64,
     }
 }
 

@@ -3,7 +3,7 @@
 use Prim.Native.Nat.{ℕ, _+_, _-_, _≤_}
 use mathlib.Core.Path.{_≡_, refl, sym, _∙_, ap, ap₂}
 use mathlib.Core.Bool.{true, cond}
-use mathlib.Core.List.{List, []}
+use mathlib.Core.List.{List, [], map}
 use lib.ListN.{length, take}
 use Rattle.fields.specs.Bytes.{AllBytes, sameBytes, same-self}
 use Rattle.fields.specs.Fields.{fault}
@@ -12,17 +12,17 @@ use Rattle.names.specs.declared.Algorithm.{Algorithm}
 use Rattle.names.specs.declared.Cipher.the-variants as cipher
 use Rattle.names.specs.declared.Kdf.the-variants as kdf
 use Rattle.utf8.specs.Utf8.{utf8}
-use Rattle.format.specs.Format.{PublicBytes, PrivateBytes, filled, zerosAsked, blob, keypair, header, writtenImage}
+use Rattle.format.specs.Format.{PublicBytes, PrivateBytes, filled, zerosAsked, blob, keypair, header, writtenImage, alone, keyOf, Key, filledKey}
 use Rattle.format.specs.Scalars.{rule-may, written-own}
 use Rattle.reader_section.specs.declared.Kind.the-variants as kind
-use Rattle.reader_section.specs.Back.{KeyFits}
+use Rattle.reader_entries.specs.Back.{KeyFits}
 use Rattle.reader_section.specs.Read.{beforeComment}
 use Rattle.reader_image.specs.declared.Fields.{Fields}
 use Rattle.reader_image.specs.declared.ImageRead.the-variants as read
 use Rattle.reader_image.specs.Container.{publicIn, privateIn, materialIn, readAt}
 use Rattle.reader_image.specs.Form.{rewritten, formOf}
 use Rattle.reader_image.specs.Read.{PlainText}
-use Rattle.reader_image.specs.FormLaws.{plain-of, form-rule}
+use Rattle.reader_image.specs.FormLaws.{plain-of, form-rule, rewritten-plain, back-keys}
 use Rattle.reader_image.specs.Back.{PlainImageBack, plain-image-back}
 use Rattle.writer_reply.specs.declared.Written.{Written}
 use Rattle.writer_reply.specs.declared.Written.the-variants as written
@@ -40,7 +40,7 @@ pub record Base (s : List ℕ) (f : Fields) : Type 0 where
 
 -- where the comment's bytes begin, by the key alone
 abbrev commentPlace : Algorithm → PublicBytes → PrivateBytes → ℕ
-commentPlace a key x = length (header cipher.None kdf.None [] 0 (blob a key)) + 4 + beforeComment (keypair a (zerosAsked a x) key x) + 4
+commentPlace a key x = length (header cipher.None kdf.None [] 0 (alone (blob a key))) + 4 + beforeComment (keypair a (zerosAsked a x) key x) + 4
 
 place-of :
     (s : List ℕ) → AllBytes s → (f : Fields) → Base s f
@@ -95,12 +95,15 @@ module _ (s : List ℕ) (f : Fields) (t : List ℕ) (g : Fields) (k : SameKey s 
 
 -- an image that was written of a record's key, and is read back, is in the form
 pub back-form :
-    (t : List ℕ) (n : ℕ) (a : Algorithm) (key : PublicBytes) (x : PrivateBytes) (comment : List ℕ) (padding : ℕ) → t ≡ writtenImage n a key (filled a x) comment
+    (t : List ℕ) (n : ℕ) (a : Algorithm) (key : PublicBytes) (x : PrivateBytes) (comment : List ℕ) (padding : ℕ) → t ≡ writtenImage n (alone (keyOf a key (filled a x) comment))
     → (b : PlainImageBack t n a key x comment padding) → formOf t (b .fields) ≡ true
-unfolding formOf rewritten
+unfolding formOf
 back-form t n a key x comment padding e b =
-    rw (b .plain, b .same-checkint, b .same-algorithm, b .same-public, b .same-private, b .same-comment)
-    (ap (λ (l : List ℕ). sameBytes l t) (sym e) ∙ same-self t)
+    let same : rewritten t (b .fields) ≡ t =
+    rewritten-plain t (b .fields) (b .plain)
+    ∙ ap₂ (λ (m : ℕ) (keys : List Key). writtenImage m (map filledKey keys)) (b .same-checkint) (back-keys t n a key x comment padding b)
+    ∙ sym e in
+    ap (λ (l : List ℕ). sameBytes l t) same ∙ same-self t
 
 -- the record with which it is read again
 pub record ReadAgain (s : List ℕ) (f : Fields) (comment : List ℕ) : Type 0 where
@@ -133,7 +136,7 @@ module _ (old : List ℕ) (n : ℕ) (inside : n ≤ length old) (all : AllBytes 
       let fits = text-of .key-fits in
       let h = plain-accepted a key (materialIn s f) c comment (length old) k e in
       let fit : KeyFits a (zerosAsked a x) key x comment = record { public = fits .public; private = fits .private; may = rule-may a key x (fits .private); text = h .text } in
-      let r = plain-image-back (afresh s f comment) c a (zerosAsked a x) key x comment (h .small) (text-of .checkint-fits) fit (written-own c a key x comment (fits .private)) in
+      let r = plain-image-back (afresh s f comment) c a (zerosAsked a x) key x comment (h .small) (text-of .checkint-fits) fit (written-own c (alone (keyOf a key x comment)) (fits .private, tt)) in
       record {
         fields = r .fields;
         base = record { was-read = r .read; plain = r .plain; form = back-form (afresh s f comment) c a key x comment _ refl r };

@@ -18,14 +18,14 @@ use Rattle.names.specs.declared.Algorithm.the-variants.{Elliptic as OnCurve, Rs
 use Rattle.names.specs.declared.Curve.{Curve}
 use Rattle.names.specs.Algorithms.{sizeOf}
 use Rattle.mpint.specs.Mpint.{isMpint}
-use Rattle.format.specs.Format.{PrivateBytes, PrivateFits, MayStand, standing, leadingZero, zeroLength, zerosAsked, blob, keypair, plainImage}
+use Rattle.format.specs.Format.{PrivateBytes, PrivateFits, MayStand, standing, leadingZero, zeroLength, zerosAsked, blob, keypair, plainImage, alone, entry}
 use Rattle.key_pairs.specs.Pairs.{privateBytes}
 use Rattle.format.specs.Laws.{standing-same}
 use Rattle.format.specs.Scalars.{mpint-standing}
 use Rattle.reader_section.specs.declared.Kind.the-variants.{Plain, Encrypted}
 use Rattle.reader_image.specs.declared.Fields.{Fields}
 use Rattle.reader_image.specs.declared.ImageRead.the-variants as read
-use Rattle.reader_image.specs.Container.{publicIn, privateIn, readAt}
+use Rattle.reader_image.specs.Container.{publicIn, privateIn, readAt, firstIn}
 use Rattle.reader_image.specs.Form.{rewritten, formOf}
 use Rattle.reader_image.specs.Read.{PlainText, ImageText, plain-text, encrypted-text, image-text}
 use Rattle.reader_image.specs.FormLaws.{scalar-short, form-agrees, form-encrypted, plain-of}
@@ -51,8 +51,7 @@ encrypted-in-form s all f e kind = go (image-text s all f e)
 abbrev pub Stands : List ℕ → Fields → ℕ → Type 0
 Stands s f zeros =
     (s
-    ≡ plainImage (f .section .checkint) (blob (f .header .algorithm) (publicIn s f)) (keypair (f .header .algorithm) zeros (publicIn s f) (privateIn s f))
-    (viewOf s (f .section .comment)))
+    ≡ plainImage (f .section .checkint) (alone (blob (f .header .algorithm) (publicIn s f))) (alone (entry (keypair (f .header .algorithm) zeros (publicIn s f) (privateIn s f)) (viewOf s (f .section .comment)))))
     × MayStand (f .header .algorithm) zeros (privateIn s f)
 
 -- the scalar's bytes without leading zeros
@@ -123,8 +122,10 @@ module _ (s : List ℕ) (all : AllBytes s) (f : Fields) (e : readAt s ≡ read.R
   stands-once : (zeros : ℕ) → Stands s f zeros → text .zeros ≡ zeros
   stands-once zeros z =
       let p = text in
-      standing-same (f .section .checkint) (f .header .algorithm) (publicIn s f) (privateIn s f) (viewOf s (f .section .comment)) (p .zeros) zeros
-      (scalar-short (f .header .algorithm) (publicIn s f) (privateIn s f) (p .key-fits .private)) (p .key-fits .may) (z .1) (sym (p .text) ∙ z .0)
+      let short = scalar-short (f .header .algorithm) (publicIn s f) (privateIn s f) (p .key-fits .private) in
+      ap (λ (l : List ℕ). getD l 0 0)
+      (standing-same (f .section .checkint) (alone (blob (f .header .algorithm) (publicIn s f))) (alone (firstIn s f)) (alone (p .zeros)) (alone zeros)
+      (short, p .key-fits .may, tt) (short, z .1, tt) (sym (p .text) ∙ z .0))
 
   -- which accepted plain images are in the form: all of a key that isn't ECDSA's
   pub others-in-form : ((k : Curve) → f .header .algorithm ≡ OnCurve (Ecdsa k) → ⊥) → formOf s f ≡ true

@@ -24,22 +24,24 @@ use Rattle.names.specs.declared.Curve.{Curve}
 use Rattle.names.specs.declared.Elliptic.the-variants.{Ecdsa}
 use Rattle.names.specs.declared.Kdf.the-variants as kdf
 use Rattle.names.specs.Algorithms.{algorithmName, sizeOf, algorithm-back}
-use Rattle.format.specs.Format.{PublicFits, ofPoint, ofScalar, blob, keypair, pairFields, content, section, header, plainImage, paddingLength, paddingBytes}
-use Rattle.format.specs.Laws.{keypair-then, content-then, section-length, padding-length}
+use Rattle.format.specs.Format.{PublicFits, ofPoint, ofScalar, blob, keypair, pairFields, content, section, header, plainImage, paddingLength, paddingBytes, alone, entry, keyOf}
+use Rattle.format.specs.Laws.{keypair-then, alone-then, section-length, padding-length}
 use Rattle.format.specs.Lengths.{pointBlobLength, blob-length, content-length, plain-length}
-use Rattle.writer_plain.specs.Parts.{keypair-joined}
+use Rattle.writer_curve.specs.Parts.{keypair-joined}
 use Rattle.key_public.specs.declared.Public.{Public}
 use Rattle.laws_keys.specs.Back.{ecdsa-public-back}
 use Rattle.key_pairs.specs.declared.Keypair.the-variants as pair
 use Rattle.key_pairs.specs.Pairs.{scalarAt, ecdsaPairAt, ellipticPairAt, keypairAt}
 use Rattle.reader_header.specs.Back.{header-back}
 use Rattle.reader_section.specs.declared.SectionRead.the-variants as section-read
-use Rattle.reader_section.specs.Section.{entryAt, contentAt, plainAt}
+use Rattle.reader_entries.specs.Entries.{entryAt, keysAt}
+use Rattle.reader_header.specs.Header.{secondBlob}
+use Rattle.reader_section.specs.Section.{closedAt, contentAt, endedAt, plainAt}
 use Rattle.reader_section.specs.Back.{checkints-back}
 use Rattle.reader_image.specs.declared.ImageRead.the-variants as read
 use Rattle.reader_image.specs.Container.{sectionAt, readAt}
-use Rattle.laws_places.specs.Fields.{After}
-use Rattle.laws_places.specs.Keys.{ecdsa-public-lies}
+use Rattle.laws_fields.specs.Fields.{After}
+use Rattle.laws_fields.specs.Keys.{ecdsa-public-lies}
 use Rattle.laws_places.specs.Section.{checkints-lies}
 use Rattle.claims.specs.Scalars.{storedImage, NoScalar, scalar-refused}
 
@@ -78,17 +80,17 @@ module _ (k : Curve) (point stored : List ℕ) (long : length point ≡ 1 + 2 * 
 
   module _ (n : ℕ) (comment : List ℕ) (fit : n < 2 ^ 32) where
     abbrev padding : List ℕ
-    padding = take (paddingLength (length (content n keys comment))) paddingBytes
+    padding = take (paddingLength (length (content n (alone (entry keys comment))))) paddingBytes
 
     content-reached :
-        (s : List ℕ) (c : Cursor) (q : Public) → Good s c → rest s c ≡ section n keys comment
-        → Reached s c k stored (string comment ++ padding) (λ g. contentAt s c a q ≡ section-read.Refused g)
-    unfolding contentAt entryAt section
-    content-reached s c q good e =
-        let size = length (content n keys comment) in
-        let whole : c .end - c .at ≡ size + paddingLength size = sym (length-slice (c .at) (c .end) s (good .1)) ∙ ap length e ∙ section-length n keys comment in
+        (s : List ℕ) (c : Cursor) (q : Public) (o : Cursor) (more : ℕ) → Good s c → rest s c ≡ section n (alone (entry keys comment))
+        → Reached s c k stored (string comment ++ padding) (λ g. contentAt s c a q o more ≡ section-read.Refused g)
+    unfolding contentAt closedAt keysAt entryAt section
+    content-reached s c q o more good e =
+        let size = length (content n (alone (entry keys comment))) in
+        let whole : c .end - c .at ≡ size + paddingLength size = sym (length-slice (c .at) (c .end) s (good .1)) ∙ ap length e ∙ section-length n (alone (entry keys comment)) in
         let eight : (c .end - c .at) % 8 ≡ 0 = omega arith in
-        let m = checkints-back s c good n (keys ++ (string comment ++ padding)) fit (e ∙ content-then n keys comment padding) in
+        let m = checkints-back s c good n (keys ++ (string comment ++ padding)) fit (e ∙ alone-then n keys comment padding) in
         let after : After c (m .next) = rw (m .read) at (checkints-lies s c good) in
         let p = pair-reached s (m .next) (string comment ++ padding) (m .good) (m .more) in
         record {
@@ -100,16 +102,16 @@ module _ (k : Curve) (point stored : List ℕ) (long : length point ≡ 1 + 2 * 
         }
 
     section-reached :
-        (s : List ℕ) (c : Cursor) (q : Public) → Good s c → length s < 2 ^ 32 → rest s c ≡ string (section n keys comment)
-        → Reached s c k stored (string comment ++ padding) (λ g. plainAt s c a q ≡ section-read.Refused g)
-    unfolding plainAt
-    section-reached s c q good small e =
-        let body = section n keys comment in
+        (s : List ℕ) (c : Cursor) (q : Public) (o : Cursor) (more : ℕ) → Good s c → length s < 2 ^ 32 → rest s c ≡ string (section n (alone (entry keys comment)))
+        → Reached s c k stored (string comment ++ padding) (λ g. plainAt s c a q o more ≡ section-read.Refused g)
+    unfolding plainAt endedAt
+    section-reached s c q o more good small e =
+        let body = section n (alone (entry keys comment)) in
         let e′ : rest s c ≡ string body ++ [] = e ∙ sym (append-nil (string body)) in
         let m = string-back s c good body [] (short-of s c good small body [] e′) e′ in
         let place = string-place s c (m .place) (m .next) (m .read) .placed in
         let left : m .next .end - m .next .at ≡ 0 = sym (length-slice (m .next .at) (m .next .end) s (m .good .1)) ∙ ap length (m .more) in
-        let p = content-reached s (within (m .place)) q (omega (arith, m .inside)) (rest-within s (m .place) (m .inside) ∙ m .seen) in
+        let p = content-reached s (within (m .place)) q o more (omega (arith, m .inside)) (rest-within s (m .place) (m .inside) ∙ m .seen) in
         record {
           at = p .at;
           good = p .good;
@@ -124,13 +126,13 @@ module _ (k : Curve) (point stored : List ℕ) (long : length point ≡ 1 + 2 * 
     image-reached : length s ≤ 65535 → Reached s (whole s) k stored (string comment ++ padding) (λ g. readAt s ≡ read.Refused g)
     unfolding readAt sectionAt plainImage
     image-reached small =
-        let body = section n keys comment in
+        let body = section n (alone (entry keys comment)) in
         let key = blob a (ofPoint point) in
         let fits : PublicFits a (ofPoint point) = (long, eq-eqb (getD point 0 0) 4 tag, refl) in
         let h =
-        header-back s cipher.None kdf.None [] 0 a (ofPoint point) (string body) small (refl, refl) fits
-        (ap (λ (l : List ℕ). header cipher.None kdf.None [] 0 key ++ l) (append-nil (string body))) in
-        let p = section-reached s (record { at = h .fields .section; end = length s }) (h .fields .public) (h .good, omega arith) (omega arith) (h .more) in
+        header-back s cipher.None kdf.None [] 0 (keyOf a (ofPoint point) (ofScalar []) []) [] (string body) small (refl, refl) (fits, tt) refl
+        (ap (λ (l : List ℕ). header cipher.None kdf.None [] 0 (alone key) ++ l) (append-nil (string body))) in
+        let p = section-reached s (record { at = h .fields .section; end = length s }) (h .fields .public) (secondBlob s (h .fields)) (h .fields .count - 1) (h .good, omega arith) (omega arith) (h .more) in
         record {
           at = p .at;
           good = p .good;
@@ -147,13 +149,13 @@ module _ (k : Curve) (point stored : List ℕ) (long : length point ≡ 1 + 2 * 
     field-at : (small : length s ≤ 65535) → image-reached small .at .at ≡ scalarField k
     field-at small =
         let r = image-reached small in
-        let size = length (content n keys comment) in
+        let size = length (content n (alone (entry keys comment))) in
         let left : r .at .end - r .at .at ≡ 4 + length stored + (4 + length comment + paddingLength size) =
         sym (length-slice (r .at .at) (r .at .end) s (r .good .1)) ∙ ap length (r .more) ∙ simp (length-append, length-string, padding-length size) in
         let image : length s ≡ 47 + pointBlobLength (Ecdsa k) + (size + paddingLength size) =
-        plain-length n (blob a (ofPoint point)) keys comment
-        ∙ rw (section-length n keys comment, blob-length (ofPoint point) (ofScalar []) a (long, omega arith)) in
-        omega (arith, left, image, content-length n keys comment, keys-length, r .end, r .good)
+        plain-length n (alone (blob a (ofPoint point))) (alone (entry keys comment))
+        ∙ rw (section-length n (alone (entry keys comment)), blob-length (ofPoint point) (ofScalar []) a (long, omega arith)) (omega arith) in
+        omega (arith, left, image, content-length n (alone (entry keys comment)), keys-length, r .end, r .good)
 
     -- the claim
     pub refuses-stored :

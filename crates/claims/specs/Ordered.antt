@@ -21,7 +21,7 @@ use Rattle.names.specs.declared.Cipher.{Cipher}
 use Rattle.names.specs.declared.Kdf.{Kdf}
 use Rattle.names.specs.declared.Kdf.the-variants as kdf
 use Rattle.utf8.specs.Utf8.{utf8}
-use Rattle.format.specs.Format.{PublicBytes, PrivateBytes, publicLength, privateLength, pointTag, notZero, writtenImage, encryptedImage}
+use Rattle.format.specs.Format.{PublicBytes, PrivateBytes, publicLength, privateLength, pointTag, notZero, writtenImage, encryptedImage, alone, keyOf}
 use Rattle.key_public.specs.Keys.{onBlob, blobAt}
 use Rattle.key_public.specs.declared.Blob.{Blob}
 use Rattle.key_public.specs.declared.Blob.the-variants as blob
@@ -76,7 +76,7 @@ keyConditions Rsa key x more = says (not (allMpints key x)) 2 ∷ says (not (siz
 
 -- then comment 7; size 11; room 9
 abbrev pub plainConditions : Algorithm → PublicBytes → PrivateBytes → ℕ → List ℕ → ℕ → List Condition
-plainConditions a key x checkint comment room = keyConditions a key x (says (not (utf8 comment)) 7 ∷ sizes (writtenImage checkint a key x comment) room)
+plainConditions a key x checkint comment room = keyConditions a key x (says (not (utf8 comment)) 7 ∷ sizes (writtenImage checkint (alone (keyOf a key x comment))) room)
 
 -- KDF `none` with salt bytes or rounds other than 0
 abbrev pub misused : Kdf → List ℕ → ℕ → Bool
@@ -212,10 +212,10 @@ key-first Rsa key x w c n h =
 pub plain-first :
     (a : Algorithm) (key : PublicBytes) (x : PrivateBytes) (checkint : ℕ) (comment : List ℕ) (room : ℕ)
     → told (plainReply a key x checkint comment room)
-    ≡ first (plainConditions a key x checkint comment room) (length (writtenImage checkint a key x comment))
+    ≡ first (plainConditions a key x checkint comment room) (length (writtenImage checkint (alone (keyOf a key x comment))))
 unfolding plainReply
 plain-first a key x checkint comment room =
-    let image = writtenImage checkint a key x comment in
+    let image = writtenImage checkint (alone (keyOf a key x comment)) in
     let n = length image in
     key-first a key x (unless (utf8 comment) CharacterEncoding (sized image room)) (says (not (utf8 comment)) 7 ∷ sizes image room) n
     (then-first (not (utf8 comment)) (utf8 comment) refl CharacterEncoding refl (sized image room) (sizes image room) n

@@ -23,11 +23,12 @@ use Rattle.names.specs.declared.Kdf.{Kdf}
 use Rattle.names.specs.Ciphers.{isNone, blockSize, tagLength}
 use Rattle.names_codes.specs.Codes.{algorithmCoded, cipherCoded, kdfCoded}
 use Rattle.utf8.specs.Utf8.{utf8}
-use Rattle.format.specs.Format.{PublicBytes, PrivateBytes, publicLength, privateLength, pointTag, notZero, ofPoint, ofScalar, scalarFilled, ofModulus, ofNumbers, writtenImage, encryptedImage}
+use Rattle.format.specs.Format.{PublicBytes, PrivateBytes, publicLength, privateLength, pointTag, notZero, ofPoint, ofScalar, scalarFilled, ofModulus, ofNumbers, writtenImage, encryptedImage, alone, entry, keyOf}
 use Rattle.key_material.specs.Material.{publicOf, privateOf, checkintOf}
 use Rattle.key_public.specs.Keys.{onAlgorithm, blobAt}
 use Rattle.laws_keys.specs.Read.{by-algorithm}
-use Rattle.reader_header.specs.Place.{by-cipher-name, by-kdf-name, by-blob}
+use Rattle.reader_header.specs.Place.{by-cipher-name, by-kdf-name}
+use Rattle.reader_blobs.specs.Read.{by-blob}
 use Rattle.reader_section.specs.declared.Kind.{Kind}
 use Rattle.reader_section.specs.declared.Kind.the-variants.{Plain, Encrypted as Sealed}
 use Rattle.reader_image.specs.declared.Fields.{Fields}
@@ -133,7 +134,7 @@ key-at place Rsa key x next one two h =
 plain-at : (a : Algorithm) (key : PublicBytes) (x : PrivateBytes) (n : ℕ) (comment : List ℕ) (room : ℕ) → At nowhere (plainReply a key x n comment room)
 unfolding plainReply
 plain-at a key x n comment room =
-    let image = writtenImage n a key x comment in
+    let image = writtenImage n (alone (keyOf a key x comment)) in
     key-at nowhere a key x (unless (utf8 comment) CharacterEncoding (sized image room)) refl refl
     (unless-at nowhere (utf8 comment) CharacterEncoding (sized image room) refl (sized-at nowhere image room refl refl refl))
 
@@ -175,7 +176,7 @@ handed-at s f room = unless-at nowhere (isRead s f) Length (recordReply s f room
 afresh-at : (s : List ℕ) (f : Fields) (comment : List ℕ) (room : ℕ) → utf8 comment ≡ true → At (acceptedPlace f) (afreshReply s f comment room)
 unfolding afreshReply plainReply
 afresh-at s f comment room text =
-    let image = writtenImage (f .section .checkint) (f .header .algorithm) (publicIn s f) (materialIn s f) comment in
+    let image = writtenImage (f .section .checkint) (alone (keyOf (f .header .algorithm) (publicIn s f) (materialIn s f) comment)) in
     rw text
     (key-at (acceptedPlace f) (f .header .algorithm) (publicIn s f) (materialIn s f) (sized image room) refl refl
     (sized-at (acceptedPlace f) image room refl refl refl))

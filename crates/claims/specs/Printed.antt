@@ -29,11 +29,11 @@ use Rattle.names.specs.declared.Kdf.the-variants as kdf
 use Rattle.names.specs.Algorithms.{sizeOf}
 use Rattle.utf8.specs.Utf8.{UTF8-char, utf8, utf8From}
 use Rattle.mpint.specs.Mpint.{zerosBefore, bits}
-use Rattle.format.specs.Format.{PublicBytes, PrivateBytes, ofPoint, ofScalar, scalarZero, zerosAsked, blob, keypair, paddingLength, content, plainImage, writtenImage, encryptedImage}
+use Rattle.format.specs.Format.{PublicBytes, PrivateBytes, ofPoint, ofScalar, scalarZero, zerosAsked, blob, keypair, paddingLength, content, plainImage, writtenImage, encryptedImage, alone, entry, keyOf}
 use Rattle.format.specs.Laws.{section-length}
 use Rattle.format.specs.Lengths.{LengthsFit, blobLength, keypairLength, blob-length, content-length, plain-length}
 use Rattle.format.specs.Scalars.{fits-allowed}
-use Rattle.reader_section.specs.Back.{KeyFits}
+use Rattle.reader_entries.specs.Back.{KeyFits}
 use Rattle.reader_section.specs.declared.Kind.the-variants as kind
 use Rattle.reader_image.specs.declared.Fields.{Fields}
 use Rattle.reader_image.specs.declared.ImageRead.the-variants as read
@@ -84,18 +84,18 @@ lengths-fit Rsa zeros key x comment fits = tt
 
 module _ (n : ℕ) (a : Algorithm) (zeros : ℕ) (key : PublicBytes) (x : PrivateBytes) (comment : List ℕ) (small : n < 2 ^ 32) (fits : KeyFits a zeros key x comment) where
   abbrev image : List ℕ
-  image = plainImage n (blob a key) (keypair a zeros key x) comment
+  image = plainImage n (alone (blob a key)) (alone (entry (keypair a zeros key x) comment))
 
   -- the lengths that are printed
-  size-is : length (content n (keypair a zeros key x) comment) ≡ sectionSize a zeros key x (length comment)
-  size-is = content-length n (keypair a zeros key x) comment ∙ rw (pair-length a zeros key x comment fits)
+  size-is : length (content n (alone (entry (keypair a zeros key x) comment))) ≡ sectionSize a zeros key x (length comment)
+  size-is = content-length n (alone (entry (keypair a zeros key x) comment)) ∙ rw (pair-length a zeros key x comment fits) (omega arith)
 
   length-is :
       length image
       ≡ 47 + blobLength a key + (sectionSize a zeros key x (length comment) + paddingLength (sectionSize a zeros key x (length comment)))
   length-is =
-      plain-length n (blob a key) (keypair a zeros key x) comment
-      ∙ rw (section-length n (keypair a zeros key x) comment, size-is, blob-length key x a (lengths-fit a zeros key x comment fits))
+      plain-length n (alone (blob a key)) (alone (entry (keypair a zeros key x) comment))
+      ∙ rw (section-length n (alone (entry (keypair a zeros key x) comment)), size-is, blob-length key x a (lengths-fit a zeros key x comment fits)) (omega arith)
 
   -- what is printed of a plain image
   pub report-plain : length image ≤ 65535 → reportOf image ≡ lines (shown a zeros key x (length comment))
@@ -110,9 +110,9 @@ pub no-private-byte :
     (a : Algorithm) (zeros zeros′ n m : ℕ) (key : PublicBytes) (x : PrivateBytes) (comment : List ℕ) (key′ : PublicBytes) (x′ : PrivateBytes) (comment′ : List ℕ)
     → n < 2 ^ 32 → m < 2 ^ 32 → KeyFits a zeros key x comment → KeyFits a zeros′ key′ x′ comment′
     → shown a zeros key x (length comment) ≡ shown a zeros′ key′ x′ (length comment′)
-    → length (plainImage n (blob a key) (keypair a zeros key x) comment) ≤ 65535
-    → length (plainImage m (blob a key′) (keypair a zeros′ key′ x′) comment′) ≤ 65535
-    → reportOf (plainImage n (blob a key) (keypair a zeros key x) comment) ≡ reportOf (plainImage m (blob a key′) (keypair a zeros′ key′ x′) comment′)
+    → length (plainImage n (alone (blob a key)) (alone (entry (keypair a zeros key x) comment))) ≤ 65535
+    → length (plainImage m (alone (blob a key′)) (alone (entry (keypair a zeros′ key′ x′) comment′))) ≤ 65535
+    → reportOf (plainImage n (alone (blob a key)) (alone (entry (keypair a zeros key x) comment))) ≡ reportOf (plainImage m (alone (blob a key′)) (alone (entry (keypair a zeros′ key′ x′) comment′)))
 no-private-byte a zeros zeros′ n m key x comment key′ x′ comment′ hn hm fits also-fits alike limit also-limit =
     report-plain n a zeros key x comment hn fits limit ∙ ap lines alike ∙ sym (report-plain m a zeros′ key′ x′ comment′ hm also-fits also-limit)
 
@@ -135,7 +135,7 @@ oven7-text = refl
 -- the rules' example: an Ed25519 image with comment `oven7`, whatever the key and the checkint
 pub oven7-report :
     (n : ℕ) (point seed : List ℕ) → n < 2 ^ 32 → length point ≡ 32 → length seed ≡ 32
-    → reportOf (writtenImage n (OnCurve Ed25519) (ofPoint point) (ofScalar seed) (ascii "oven7"))
+    → reportOf (writtenImage n (alone (keyOf (OnCurve Ed25519) (ofPoint point) (ofScalar seed) (ascii "oven7"))))
     ≡ printed
     ("kind plain" ∷ "algorithm ssh-ed25519" ∷ "cipher none" ∷ "kdf none" ∷ "comment 5" ∷ "padding 0" ∷ "image 234" ∷ "form yes" ∷ [])
 unfolding writtenImage bits zerosBefore leadingZeros
@@ -144,7 +144,7 @@ oven7-report n point seed small long private =
     let key = ofPoint point in
     let x = ofScalar seed in
     let fits : KeyFits ed25519 0 key x (ascii "oven7") = record { public = (long, refl, refl); private = (private, refl); may = refl; text = oven7-text } in
-    let limit : length (plainImage n (blob ed25519 key) (keypair ed25519 0 key x) (ascii "oven7")) ≤ 65535 =
+    let limit : length (plainImage n (alone (blob ed25519 key)) (alone (entry (keypair ed25519 0 key x) (ascii "oven7")))) ≤ 65535 =
     omega (arith, length-is n ed25519 0 key x (ascii "oven7") small fits) in
     report-plain n ed25519 0 key x (ascii "oven7") small fits limit ∙ oven7
 
@@ -171,7 +171,7 @@ pub report-accepted :
 report-accepted s all f e plain =
     let p = plain-of s all f e plain in
     let a = f .header .algorithm in
-    let image = plainImage (f .section .checkint) (blob a (publicIn s f)) (keypair a (p .zeros) (publicIn s f) (privateIn s f)) (viewOf s (f .section .comment)) in
+    let image = plainImage (f .section .checkint) (alone (blob a (publicIn s f))) (alone (entry (keypair a (p .zeros) (publicIn s f) (privateIn s f)) (viewOf s (f .section .comment)))) in
     let limit : length image ≤ 65535 = omega (arith, ap length (p .text), p .fits) in (
       p .zeros,
       (p .text, p .key-fits .may),

@@ -14,10 +14,10 @@ use Rattle.fields.specs.declared.Refusal.the-variants.{Length, FormatEncoding}
 use Rattle.names.specs.declared.Elliptic.{Elliptic}
 use Rattle.names.specs.declared.Algorithm.{Algorithm}
 use Rattle.names.specs.declared.Algorithm.the-variants.{Elliptic as OnCurve, Rsa}
-use Rattle.format.specs.Format.{PublicBytes, PrivateBytes, ofPoint, ofScalar, ofModulus, ofNumbers, PublicFits, PrivateFits, publicLength, privateLength, pointTag, notZero, trimmed, filled, zerosAsked, writtenPair, paddingLength, blob, keypair, content, plainImage, writtenImage}
+use Rattle.format.specs.Format.{PublicBytes, PrivateBytes, ofPoint, ofScalar, ofModulus, ofNumbers, PublicFits, PrivateFits, publicLength, privateLength, pointTag, notZero, trimmed, filled, zerosAsked, writtenPair, paddingLength, blob, keypair, content, plainImage, writtenImage, alone, entry, keyOf}
 use Rattle.format.specs.Scalars.{rule-may, allowed-own, trimmed-back, trimmed-fits}
 use Rattle.utf8.specs.Utf8.{utf8}
-use Rattle.reader_section.specs.Back.{KeyFits}
+use Rattle.reader_entries.specs.Back.{KeyFits}
 use Rattle.reader_image.specs.Back.{PlainImageBack, plain-image-back}
 use Rattle.buffer.specs.Puts.{take-splice}
 use Rattle.writer_reply.specs.declared.Written.{Written}
@@ -103,9 +103,9 @@ module _ (a : Algorithm) (key : PublicBytes) (x : PrivateBytes) (n : ℕ) (comme
     pub fits : Own a key x → KeyFits a (zerosAsked a (trimmed a x)) key (trimmed a x) comment
     pub material : Own a key x → filled a (trimmed a x) ≡ x
     pub text : utf8 comment ≡ true
-    pub small : length (writtenImage n a key x comment) ≤ 65535
-    pub room-enough : length (writtenImage n a key x comment) ≤ room
-    pub size : k ≡ length (writtenImage n a key x comment)
+    pub small : length (writtenImage n (alone (keyOf a key x comment))) ≤ 65535
+    pub room-enough : length (writtenImage n (alone (keyOf a key x comment))) ≤ room
+    pub size : k ≡ length (writtenImage n (alone (keyOf a key x comment)))
 
   pub plain-accepted : (room k : ℕ) → plainReply a key x n comment room ≡ written.Length k → PlainAccepted room k
   unfolding plainReply
@@ -127,11 +127,11 @@ module _ (a : Algorithm) (key : PublicBytes) (x : PrivateBytes) (n : ℕ) (comme
 
   -- the first bytes of the buffer are then the image
   pub plain-written :
-      (old : List ℕ) (k : ℕ) → plainReply a key x n comment (length old) ≡ written.Length k → take k (plainLeft a key x n comment old) ≡ writtenImage n a key x comment
+      (old : List ℕ) (k : ℕ) → plainReply a key x n comment (length old) ≡ written.Length k → take k (plainLeft a key x n comment old) ≡ writtenImage n (alone (keyOf a key x comment))
   unfolding plainLeft
   plain-written old k e =
       let h = plain-accepted (length old) k e in
-      let image = writtenImage n a key x comment in
+      let image = writtenImage n (alone (keyOf a key x comment)) in
       let fit : 0 + length image ≤ length old = omega (arith, h .room-enough) in
       let end : k ≡ 0 + length image = omega (arith, h .size) in
       rw (e, end) (take-splice old 0 image fit)
@@ -140,7 +140,7 @@ module _ (a : Algorithm) (key : PublicBytes) (x : PrivateBytes) (n : ℕ) (comme
   pub read-after-write :
       (old : List ℕ) (k : ℕ) → n < 2 ^ 32 → Own a key x → plainReply a key x n comment (length old) ≡ written.Length k
       → PlainImageBack (take k (plainLeft a key x n comment old)) n a key (trimmed a x) comment
-      (paddingLength (length (content n (writtenPair a key x) comment)))
+      (paddingLength (length (content n (alone (entry (writtenPair a key x) comment)))))
   unfolding writtenImage
   read-after-write old k small own e =
       let h = plain-accepted (length old) k e in
@@ -152,8 +152,8 @@ module _ (a : Algorithm) (key : PublicBytes) (x : PrivateBytes) (n : ℕ) (comme
 -- before it
 pub plain-admitted :
     (n : ℕ) (a : Algorithm) (zeros : ℕ) (key : PublicBytes) (x : PrivateBytes) (comment : List ℕ) → n < 2 ^ 32 → KeyFits a zeros key x comment
-    → length (plainImage n (blob a key) (keypair a zeros key x) comment) ≤ 65535
-    → PlainImageBack (plainImage n (blob a key) (keypair a zeros key x) comment) n a key x comment
-    (paddingLength (length (content n (keypair a zeros key x) comment)))
+    → length (plainImage n (alone (blob a key)) (alone (entry (keypair a zeros key x) comment))) ≤ 65535
+    → PlainImageBack (plainImage n (alone (blob a key)) (alone (entry (keypair a zeros key x) comment))) n a key x comment
+    (paddingLength (length (content n (alone (entry (keypair a zeros key x) comment)))))
 plain-admitted n a zeros key x comment small fits limit =
-    plain-image-back (plainImage n (blob a key) (keypair a zeros key x) comment) n a zeros key x comment limit small fits refl
+    plain-image-back (plainImage n (alone (blob a key)) (alone (entry (keypair a zeros key x) comment))) n a zeros key x comment limit small fits refl

@@ -18,23 +18,25 @@ use Rattle.names.specs.declared.Cipher.{Cipher}
 use Rattle.names.specs.declared.Kdf.{Kdf}
 use Rattle.names.specs.declared.Kdf.the-variants as kdf
 use Rattle.names.specs.Ciphers.{isNone, blockSize, tagLength}
-use Rattle.format.specs.Format.{PublicBytes, PrivateBytes, trimmed, filled, zerosAsked, blob, keypair, plainImage, writtenImage}
+use Rattle.format.specs.Format.{PublicBytes, PrivateBytes, trimmed, filled, zerosAsked, blob, keypair, plainImage, writtenImage, alone, entry, keyOf}
 use Rattle.format.specs.Scalars.{rule-may, written-own}
 use Rattle.key_public.specs.declared.Public.{Public}
 use Rattle.reader_section.specs.declared.Kind.the-variants.{Plain, Encrypted}
 use Rattle.reader_header.specs.declared.Header.{Header}
-use Rattle.reader_header.specs.Header.{onKdf}
+use Rattle.reader_header.specs.Header.{onKdf, secondBlob}
 use Rattle.reader_section.specs.declared.SectionRead.{SectionRead}
 use Rattle.reader_section.specs.declared.SectionRead.the-variants as section-read
-use Rattle.reader_section.specs.Section.{checkintsAt, entryAt, paddingAt, contentAt, plainAt, encryptedAt}
-use Rattle.reader_section.specs.Back.{KeyFits}
-use Rattle.reader_section.specs.Read.{by-entry, by-section}
+use Rattle.reader_entries.specs.Entries.{keysAt}
+use Rattle.reader_entries.specs.Read.{by-keys}
+use Rattle.reader_section.specs.Section.{checkintsAt, paddingAt, closedAt, contentAt, endedAt, plainAt, encryptedAt}
+use Rattle.reader_entries.specs.Back.{KeyFits}
+use Rattle.reader_section.specs.Read.{by-section}
 use Rattle.reader_image.specs.declared.Fields.{Fields}
 use Rattle.reader_image.specs.declared.ImageRead.the-variants as read
-use Rattle.reader_image.specs.Container.{publicIn, privateIn, materialIn, kdfNamePlace, sectionAt, readAt}
+use Rattle.reader_image.specs.Container.{publicIn, privateIn, materialIn, firstIn, kdfNamePlace, sectionAt, readAt}
 use Rattle.reader_image.specs.Form.{rewritten, formOf}
 use Rattle.reader_image.specs.Read.{halves, PlainText, ImageText, plain-text, encrypted-text, image-text}
-use Rattle.reader_image.specs.FormLaws.{form-encrypted}
+use Rattle.reader_image.specs.FormLaws.{rewritten-one, form-encrypted}
 use Rattle.reader_image.specs.Back.{plain-image-back}
 use Rattle.writer_reply.specs.declared.Written.{Written}
 use Rattle.writer_reply.specs.declared.Written.the-variants as written
@@ -56,8 +58,8 @@ plain-in-form a key x n comment old r out k small own meets answered =
     let b = read-after-write a key x n comment old k small own e in
     let t = take k (plainLeft a key x n comment old) in
     let material = plain-accepted a key x n comment (length old) k e .material own in
-    let text : t ≡ writtenImage n a key (filled a (trimmed a x)) comment =
-    plain-written a key x n comment old k e ∙ ap (λ (y : PrivateBytes). writtenImage n a key y comment) (sym material) in
+    let text : t ≡ writtenImage n (alone (keyOf a key (filled a (trimmed a x)) comment)) =
+    plain-written a key x n comment old k e ∙ ap (λ (y : PrivateBytes). writtenImage n (alone (keyOf a key y comment))) (sym material) in
     rw (meets .1) (b .fields, b .read, back-form t n a key (trimmed a x) comment _ text b)
 
 -- ---- what a rewrite writes
@@ -94,9 +96,9 @@ abbrev Open : SectionRead → Type 0
 Open (section-read.Refused g) = Unit {0}
 Open (section-read.Section x) = x .kind ≡ Plain → (x .ciphertext ≡ absent) × (x .tag ≡ absent)
 
-content-open : (s : List ℕ) (c : Cursor) (a : Algorithm) (q : Public) → Open (contentAt s c a q)
-unfolding contentAt
-content-open s c a q =
+content-open : (s : List ℕ) (c : Cursor) (a : Algorithm) (q : Public) (o : Cursor) (more : ℕ) → Open (contentAt s c a q o more)
+unfolding contentAt closedAt
+content-open s c a q o more =
     by-bool (eqb ((c .end - c .at) % 8) 0)
     (λ w.
     rw w
@@ -104,29 +106,29 @@ content-open s c a q =
     (λ g v. rw v tt)
     (λ n d v.
     rw v
-    (by-entry (entryAt s d a q)
+    (by-keys (keysAt s d a q o more)
     (λ g u. rw u tt)
-    (λ y m b u.
+    (λ y m places b u.
     rw u
     (by-ending (paddingAt s b)
     (λ g t. rw t tt)
     (λ t. rw t (λ plain. (refl, refl)))))))))
     (λ w. rw w tt)
 
-plain-open : (s : List ℕ) (c : Cursor) (a : Algorithm) (q : Public) → Open (plainAt s c a q)
-unfolding plainAt
-plain-open s c a q =
+plain-open : (s : List ℕ) (c : Cursor) (a : Algorithm) (q : Public) (o : Cursor) (more : ℕ) → Open (plainAt s c a q o more)
+unfolding plainAt endedAt
+plain-open s c a q o more =
     by-field (stringAt s c)
     (λ g w. rw w tt)
     (λ p d w.
     rw w
-    (by-section (contentAt s (within p) a q)
+    (by-section (contentAt s (within p) a q o more)
     (λ g v. rw v tt)
     (λ x v.
     rw v
     (by-ending (endAt d)
     (λ g u. rw u tt)
-    (λ u. rw u (rw v at (content-open s (within p) a q)))))))
+    (λ u. rw u (rw v at (content-open s (within p) a q o more)))))))
 
 encrypted-open : (s : List ℕ) (c : Cursor) (k : Cipher) → Open (encryptedAt s c k)
 unfolding encryptedAt
@@ -152,11 +154,11 @@ unfolding sectionAt
 section-open s h =
     let c : Cursor = record { at = h .section; end = length s } in
     by-bool (isNone (h .cipher))
-    (λ w. rw w (by-kdf (h .kdf) (plain-open s c (h .algorithm) (h .public))))
+    (λ w. rw w (by-kdf (h .kdf) (plain-open s c (h .algorithm) (h .public) (secondBlob s h) (h .count - 1))))
     (λ w. rw w (encrypted-open s c (h .cipher)))
   where
-    by-kdf : (k : Kdf) → Open (plainAt s (record { at = h .section; end = length s }) (h .algorithm) (h .public))
-        → Open (onKdf k (plainAt s (record { at = h .section; end = length s }) (h .algorithm) (h .public)) (section-read.Refused (fault Crypto kdfNamePlace)))
+    by-kdf : (k : Kdf) → Open (plainAt s (record { at = h .section; end = length s }) (h .algorithm) (h .public) (secondBlob s h) (h .count - 1))
+        → Open (onKdf k (plainAt s (record { at = h .section; end = length s }) (h .algorithm) (h .public) (secondBlob s h) (h .count - 1)) (section-read.Refused (fault Crypto kdfNamePlace)))
     by-kdf kdf.None h₁ = h₁
     by-kdf kdf.Bcrypt h₁ = tt
 
@@ -175,14 +177,12 @@ module _ (s : List ℕ) (all : AllBytes s) (f : Fields) (e : readAt s ≡ read.R
   plain-text-is :
       f .section .kind ≡ Plain → PlainText s f
       → (rewritten s f
-      ≡ writtenImage (f .section .checkint) (f .header .algorithm) (publicIn s f) (materialIn s f) (viewOf s (f .section .comment)))
+      ≡ writtenImage (f .section .checkint) (alone (keyOf (f .header .algorithm) (publicIn s f) (materialIn s f) (viewOf s (f .section .comment)))))
       × (rewritten s f
-      ≡ plainImage (f .section .checkint) (blob (f .header .algorithm) (publicIn s f))
-      (keypair (f .header .algorithm) (zerosAsked (f .header .algorithm) (privateIn s f)) (publicIn s f) (privateIn s f)) (viewOf s (f .section .comment)))
-  unfolding rewritten
+      ≡ plainImage (f .section .checkint) (alone (blob (f .header .algorithm) (publicIn s f))) (alone (entry (keypair (f .header .algorithm) (zerosAsked (f .header .algorithm) (privateIn s f)) (publicIn s f) (privateIn s f)) (viewOf s (f .section .comment)))))
   plain-text-is plain p =
-      let w = written-own (f .section .checkint) (f .header .algorithm) (publicIn s f) (privateIn s f) (viewOf s (f .section .comment)) (p .key-fits .private) in
-      rw plain (refl, w)
+      let own = rewritten-one s f p plain in
+      (own, own ∙ written-own (f .section .checkint) (alone (firstIn s f)) (p .key-fits .private, tt))
 
   plain-read : f .section .kind ≡ Plain → PlainText s f → length (rewritten s f) ≤ 65535 → Rewritten s f (rewritten s f)
   plain-read plain p small =

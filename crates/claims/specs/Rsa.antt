@@ -52,7 +52,7 @@ module _ (s : List ℕ) (all : AllBytes s) (f : Fields) (e : readAt s ≡ read.R
   pub bits-told : f .header .public .bits ≡ bits (publicIn s f .modulus)
   bits-told =
       let h = header-text s all (f .header) (halves s f e .0) in
-      ap (λ p. p .bits) (h .public-lies) ∙ place-bits (f .header .section) (f .header .algorithm) (publicIn s f) (h .public-fits)
+      ap (λ p. p .bits) (h .public-lies) ∙ place-bits (f .header .blob .start + f .header .blob .length) (f .header .algorithm) (publicIn s f) (h .public-fits)
 
   -- what an accepted RSA image's bits are
   pub record Counted : Type 0 where

@@ -25,11 +25,11 @@ use Rattle.names.specs.Algorithms.{sizeOf}
 use Rattle.utf8.specs.Utf8.{utf8}
 use Rattle.mpint.specs.Mpint.{value, isMpint, zerosBefore, significant}
 use Rattle.mpint.specs.Laws.{mpint-same}
-use Rattle.format.specs.Format.{PublicBytes, PrivateBytes, ofPoint, ofScalar, standing, minimal, leadingZero, zeroLength, notZero, PublicFits, blob, keypair, plainImage, writtenImage}
+use Rattle.format.specs.Format.{PublicBytes, PrivateBytes, ofPoint, ofScalar, standing, minimal, leadingZero, zeroLength, notZero, PublicFits, blob, keypair, plainImage, writtenImage, alone, entry, keyOf}
 use Rattle.format.specs.Scalars.{standing-again, significant-length, significant-first, value-standing, mpint-standing, minimal-mpint, minimal-value}
 use Rattle.key_pairs.specs.Pairs.{privateBytes, isScalar, scalarAt}
 use Rattle.key_pairs.specs.Scalar.{scalar-some, scalar-short, scalar-stands}
-use Rattle.reader_section.specs.Back.{KeyFits}
+use Rattle.reader_entries.specs.Back.{KeyFits}
 use Rattle.reader_section.specs.declared.Kind.the-variants.{Plain}
 use Rattle.reader_image.specs.declared.Fields.{Fields}
 use Rattle.reader_image.specs.declared.ImageRead.the-variants as read
@@ -47,7 +47,7 @@ use Rattle.claims.specs.Form.{Stands, scalarIn, ecdsa-fits, ecdsa-may}
 -- an image of an ECDSA key in which these bytes stand as the scalar's string
 abbrev pub storedImage : Curve → ℕ → List ℕ → List ℕ → List ℕ → List ℕ
 storedImage k n point stored comment =
-    plainImage n (blob (OnCurve (Ecdsa k)) (ofPoint point)) (keypair (OnCurve (Ecdsa k)) 0 (ofPoint point) (ofScalar stored)) comment
+    plainImage n (alone (blob (OnCurve (Ecdsa k)) (ofPoint point))) (alone (entry (keypair (OnCurve (Ecdsa k)) 0 (ofPoint point) (ofScalar stored)) comment))
 
 -- it is read, the scalar without its leading zeros, and is in the form or not
 pub record ReadAs (stored s : List ℕ) (form : Bool) : Type 0 where
@@ -80,7 +80,7 @@ reads-stored k n point stored comment fit public is long text small =
     let may : zeros + length (significant stored) ≤ sizeOf k + 1 = omega (arith, left) in
     let s = storedImage k n point stored comment in
     let fits : KeyFits a zeros key x comment = record { public = public; private = ((short, first), refl); may = may; text = text } in
-    let stands : s ≡ plainImage n (blob a key) (keypair a zeros key x) comment = ap (λ (pair : List ℕ). plainImage n (blob a key) pair comment) (pair-stored k key stored) in
+    let stands : s ≡ plainImage n (alone (blob a key)) (alone (entry (keypair a zeros key x) comment)) = ap (λ (pair : List ℕ). plainImage n (alone (blob a key)) (alone (entry pair comment))) (pair-stored k key stored) in
     let b = plain-image-back s n a zeros key x comment small fit fits stands in
     record {
       fields = b .fields;
@@ -188,8 +188,8 @@ all-significant x all i = rw (getD-drop (zerosBefore x) x i 0) (all (zerosBefore
 -- the string that stands for a scalar that was written is RFC 4251's mpint of the scalar's number, and there is no other
 pub record Minimal (k : Curve) (n : ℕ) (key : PublicBytes) (x : PrivateBytes) (comment : List ℕ) : Type 0 where
   pub image :
-      writtenImage n (OnCurve (Ecdsa k)) key x comment
-      ≡ plainImage n (blob (OnCurve (Ecdsa k)) key) (keypair (OnCurve (Ecdsa k)) 0 key (ofScalar (minimal (x .scalar)))) comment
+      writtenImage n (alone (keyOf (OnCurve (Ecdsa k)) key x comment))
+      ≡ plainImage n (alone (blob (OnCurve (Ecdsa k)) key)) (alone (entry (keypair (OnCurve (Ecdsa k)) 0 key (ofScalar (minimal (x .scalar)))) comment))
   pub mpint : isMpint (minimal (x .scalar)) ≡ true
   pub number : value (minimal (x .scalar)) ≡ value (x .scalar)
   pub only : (b : List ℕ) → AllBytes b → isMpint b ≡ true → value b ≡ value (x .scalar) → b ≡ minimal (x .scalar)

@@ -17,7 +17,7 @@ use Rattle.fields.specs.declared.Fault.{Fault}
 use Rattle.names.specs.declared.Algorithm.{Algorithm}
 use Rattle.names.specs.declared.Algorithm.the-variants.{Elliptic as OnCurve}
 use Rattle.names.specs.declared.Elliptic.the-variants.{Ed25519}
-use Rattle.format.specs.Format.{PublicBytes, PrivateBytes, ofPoint, ofScalar, magic, blob, keypair, header, trimmed, filled, zerosAsked, writtenPair, paddingLength, content, section, plainImage, writtenImage}
+use Rattle.format.specs.Format.{PublicBytes, PrivateBytes, ofPoint, ofScalar, magic, blob, keypair, header, trimmed, filled, zerosAsked, writtenPair, paddingLength, content, section, plainImage, writtenImage, alone, entry, keyOf}
 use Rattle.reader_image.specs.declared.ImageRead.{ImageRead}
 use Rattle.reader_image.specs.declared.ImageRead.the-variants as read
 use Rattle.reader_image.specs.Container.{answersRead}
@@ -147,7 +147,7 @@ module _ (w : Writer) (meets : MeetsPlain w) where
   unfolding writtenImage plainImage header magic
   stores-nothing same =
       let kept : plainLeft ed25519 public32 private32 7 [] buffer ≡ buffer = sym (meets ed25519 public32 private32 7 [] buffer given-none .1) ∙ same ed25519 public32 private32 7 [] buffer given-none in
-      let image : take 234 buffer ≡ writtenImage 7 ed25519 public32 private32 [] =
+      let image : take 234 buffer ≡ writtenImage 7 (alone (keyOf ed25519 public32 private32 [])) =
       ap (take 234) (sym kept) ∙ plain-written ed25519 public32 private32 7 [] buffer 234 takes-234 in
       let e : _≡_ {A = ℕ} 0 111 = ap (λ (l : List ℕ). getD l 0 0) image in
       omega arith
@@ -188,9 +188,9 @@ MeetsChange w =
 module _ (a : Algorithm) (key : PublicBytes) (x : PrivateBytes) (n : ℕ) (fit : n < 2 ^ 32) (own : Own a key x) (first second : List ℕ) (k : ℕ)
     (was : PlainAccepted a key x n first k k) (fits : plainReply a key x n second k ≡ written.Length k) where
   abbrev s : List ℕ
-  s = writtenImage n a key x first
+  s = writtenImage n (alone (keyOf a key x first))
 
-  back : PlainImageBack s n a key (trimmed a x) first (paddingLength (length (content n (writtenPair a key x) first)))
+  back : PlainImageBack s n a key (trimmed a x) first (paddingLength (length (content n (alone (entry (writtenPair a key x) first)))))
   unfolding writtenImage
   back = plain-image-back s n a (zerosAsked a (trimmed a x)) key (trimmed a x) first (was .small) fit (was .fits own) refl
 
@@ -202,10 +202,10 @@ module _ (a : Algorithm) (key : PublicBytes) (x : PrivateBytes) (n : ℕ) (fit :
   all = ap (λ (i : ℕ). take i s) (was .size) ∙ take-length s
 
   in-form : formOf s (back .fields) ≡ true
-  in-form = back-form s n a key (trimmed a x) first _ (ap (λ (y : PrivateBytes). writtenImage n a key y first) (sym material)) back
+  in-form = back-form s n a key (trimmed a x) first _ (ap (λ (y : PrivateBytes). writtenImage n (alone (keyOf a key y first))) (sym material)) back
 
   -- written afresh, it is the image with that comment
-  afresh-is : afresh (take k s) (back .fields) second ≡ writtenImage n a key x second
+  afresh-is : afresh (take k s) (back .fields) second ≡ writtenImage n (alone (keyOf a key x second))
   unfolding afresh
   afresh-is = rw (all, back .same-checkint, back .same-algorithm, back .same-public, back .same-private, material)
 
@@ -222,7 +222,7 @@ module _ (a : Algorithm) (key : PublicBytes) (x : PrivateBytes) (n : ℕ) (fit :
         fits = rw afresh-is (omega (arith, will .room-enough, was .size));
       }
 
-  changes-to : AllBytes s → (changeReply s k second ≡ written.Length k) × (changeLeft s k second ≡ writtenImage n a key x second)
+  changes-to : AllBytes s → (changeReply s k second ≡ written.Length k) × (changeLeft s k second ≡ writtenImage n (alone (keyOf a key x second)))
   changes-to bytes =
       let will = plain-accepted a key x n second k k fits in
       let d = demand-three s k (back .fields) second (asked bytes) (changeReply s k second) (changeLeft s k second) (refl, refl, refl) in
@@ -234,7 +234,7 @@ module _ (a : Algorithm) (key : PublicBytes) (x : PrivateBytes) (n : ℕ) (fit :
 
 -- the key's image with a comment of one letter
 abbrev lettered : ℕ → List ℕ
-lettered letter = writtenImage 7 ed25519 public32 private32 (letter ∷ [])
+lettered letter = writtenImage 7 (alone (keyOf ed25519 public32 private32 (letter ∷ [])))
 
 takes-letter : (letter : ℕ) → letter < 0x80 → plainReply ed25519 public32 private32 7 (letter ∷ []) 234 ≡ written.Length 234
 takes-letter letter h = ed25519-takes 1 234 4 refl (omega arith) refl bytes32 bytes32 7 (letter ∷ []) parts text refl .answer 234 (omega arith)

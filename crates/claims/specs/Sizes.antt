@@ -14,10 +14,10 @@ use Rattle.names.specs.declared.Elliptic.{Elliptic}
 use Rattle.names.specs.declared.Elliptic.the-variants.{Ed25519, Ecdsa}
 use Rattle.names.specs.declared.Curve.the-variants.{Nistp256}
 use Rattle.utf8.specs.Laws.{ascii-utf8}
-use Rattle.format.specs.Format.{ofPoint, ofScalar, publicLength, privateLength, pointTag, scalarBytes, notZero, zeroLength, zerosAsked, paddingLength, writtenImage}
+use Rattle.format.specs.Format.{ofPoint, ofScalar, publicLength, privateLength, pointTag, scalarBytes, notZero, zeroLength, zerosAsked, paddingLength, writtenImage, alone, keyOf}
 use Rattle.format.specs.Scalars.{significant-own, rule-may, allowed-own, trimmed-fits}
 use Rattle.format.specs.Lengths.{pointBlobLength, contentLength, written-content-length, written-length}
-use Rattle.reader_section.specs.Back.{KeyFits}
+use Rattle.reader_entries.specs.Back.{KeyFits}
 use Rattle.reader_image.specs.Back.{PlainImageBack, plain-image-back}
 use Rattle.writer_reply.specs.declared.Written.the-variants as written
 use Rattle.writer_reply.specs.Reply.{refused, sized}
@@ -45,10 +45,10 @@ module _ (a : Elliptic) (point scalar : List ℕ) (n : ℕ) (comment : List ℕ)
   -- the writer answers this length where there is room for it, and the image is read with this padding
   pub record Takes (size padding : ℕ) : Type 0 where
     pub answer : (room : ℕ) → size ≤ room → plainReply (OnCurve a) (ofPoint point) (ofScalar scalar) n comment room ≡ written.Length size
-    pub pads : n < 2 ^ 32 → PlainImageBack (writtenImage n (OnCurve a) (ofPoint point) (ofScalar scalar) comment) n (OnCurve a) (ofPoint point) (ofScalar (scalarBytes a scalar)) comment padding
+    pub pads : n < 2 ^ 32 → PlainImageBack (writtenImage n (alone (keyOf (OnCurve a) (ofPoint point) (ofScalar scalar) comment))) n (OnCurve a) (ofPoint point) (ofScalar (scalarBytes a scalar)) comment padding
 
   -- a key with an ASCII comment is refused for its size or for want of room only
-  sized-alone : Key a point scalar → Ascii comment → (room : ℕ) → plainReply (OnCurve a) (ofPoint point) (ofScalar scalar) n comment room ≡ sized (writtenImage n (OnCurve a) (ofPoint point) (ofScalar scalar) comment) room
+  sized-alone : Key a point scalar → Ascii comment → (room : ℕ) → plainReply (OnCurve a) (ofPoint point) (ofScalar scalar) n comment room ≡ sized (writtenImage n (alone (keyOf (OnCurve a) (ofPoint point) (ofScalar scalar) comment))) room
   unfolding plainReply keyChecked
   sized-alone key text room = rw (eq-eqb _ _ (key .long), eq-eqb _ _ (key .private), key .tag, key .some, ascii-utf8 comment text)
 
@@ -70,13 +70,13 @@ module _ (a : Elliptic) (point scalar : List ℕ) (n : ℕ) (comment : List ℕ)
       → paddingLength (bodyLength a scalar (length comment)) ≡ padding → Takes size padding
   unfolding sized writtenImage
   takes key text size padding long small pads =
-      let is : length (writtenImage n (OnCurve a) (ofPoint point) (ofScalar scalar) comment) ≡ size = written-length n (OnCurve a) (ofPoint point) (ofScalar scalar) comment (key .long, allowed-own a scalar (key .private)) ∙ long in
+      let is : length (writtenImage n (alone (keyOf (OnCurve a) (ofPoint point) (ofScalar scalar) comment))) ≡ size = written-length n (OnCurve a) (ofPoint point) (ofScalar scalar) comment (key .long, allowed-own a scalar (key .private)) ∙ long in
       record {
         answer = λ room enough. sized-alone key text room ∙ rw (is, le-leb _ _ small, le-leb _ _ enough);
         pads =
             λ fits.
             rw (ap paddingLength (written-content-length n (OnCurve a) (ofPoint point) (ofScalar scalar) comment (key .long, allowed-own a scalar (key .private))) ∙ pads) at
-            (plain-image-back (writtenImage n (OnCurve a) (ofPoint point) (ofScalar scalar) comment) n (OnCurve a) (zerosAsked (OnCurve a) (ofScalar (scalarBytes a scalar))) (ofPoint point) (ofScalar (scalarBytes a scalar)) comment (omega (arith, is, small)) fits
+            (plain-image-back (writtenImage n (alone (keyOf (OnCurve a) (ofPoint point) (ofScalar scalar) comment))) n (OnCurve a) (zerosAsked (OnCurve a) (ofScalar (scalarBytes a scalar))) (ofPoint point) (ofScalar (scalarBytes a scalar)) comment (omega (arith, is, small)) fits
             (key-fits key text) refl);
       }
 

@@ -14,8 +14,8 @@ use Rattle.fields.specs.Rest.{length-uint32}
 use Rattle.names.specs.declared.Cipher.the-variants as cipher
 use Rattle.names.specs.declared.Kdf.the-variants as kdf
 use Rattle.utf8.specs.Utf8.{utf8}
-use Rattle.format.specs.Format.{zerosAsked, blob, keypair, paddingLength, paddingBytes, content, section, header, plainImage}
-use Rattle.format.specs.Laws.{content-then, section-length}
+use Rattle.format.specs.Format.{zerosAsked, blob, keypair, paddingLength, paddingBytes, content, section, header, plainImage, alone, entry, keyOf}
+use Rattle.format.specs.Laws.{alone-then, section-length}
 use Rattle.format.specs.Lengths.{content-length}
 use Rattle.format.specs.Scalars.{written-own}
 use Rattle.reader_section.specs.Read.{beforeComment}
@@ -44,43 +44,43 @@ middle-length : (n : ℕ) (pair : List ℕ) → length (middle n pair) ≡ befor
 unfolding middle
 middle-length n pair = simp (length-append, length-uint32) (omega arith)
 
-middle-then : (n : ℕ) (pair comment t : List ℕ) → content n pair comment ++ t ≡ middle n pair ++ (string comment ++ t)
+middle-then : (n : ℕ) (pair comment t : List ℕ) → content n (alone (entry pair comment)) ++ t ≡ middle n pair ++ (string comment ++ t)
 unfolding middle
-middle-then n pair comment t = content-then n pair comment t ∙ simp append-assoc
+middle-then n pair comment t = alone-then n pair comment t ∙ simp append-assoc
 
 -- the section's length without its padding
 abbrev bareOf : ℕ → List ℕ → List ℕ → ℕ
 bareOf n pair comment = length (middle n pair) + (4 + length comment)
 
-bare-is : (n : ℕ) (pair comment : List ℕ) → length (content n pair comment) ≡ bareOf n pair comment
-bare-is n pair comment = content-length n pair comment ∙ omega (arith, middle-length n pair)
+bare-is : (n : ℕ) (pair comment : List ℕ) → length (content n (alone (entry pair comment))) ≡ bareOf n pair comment
+bare-is n pair comment = content-length n (alone (entry pair comment)) ∙ omega (arith, middle-length n pair)
 
-section-is : (n : ℕ) (pair comment : List ℕ) → section n pair comment ≡ content n pair comment ++ take (paddingLength (length (content n pair comment))) paddingBytes
+section-is : (n : ℕ) (pair comment : List ℕ) → section n (alone (entry pair comment)) ≡ content n (alone (entry pair comment)) ++ take (paddingLength (length (content n (alone (entry pair comment))))) paddingBytes
 unfolding section
 section-is n pair comment = refl
 
 section-then :
     (n : ℕ) (pair comment : List ℕ)
-    → string (section n pair comment)
+    → string (section n (alone (entry pair comment)))
     ≡ uint32 (bareOf n pair comment + paddingLength (bareOf n pair comment))
     ++ (middle n pair ++ (string comment ++ take (paddingLength (bareOf n pair comment)) paddingBytes))
 unfolding string
 section-then n pair comment =
     ap₂ (λ (k : ℕ) (l : List ℕ). uint32 k ++ l)
-    (section-length n pair comment ∙ ap (λ (k : ℕ). k + paddingLength k) (bare-is n pair comment))
+    (section-length n (alone (entry pair comment)) ∙ ap (λ (k : ℕ). k + paddingLength k) (bare-is n pair comment))
     (section-is n pair comment ∙ middle-then n pair comment _
     ∙ ap (λ (k : ℕ). middle n pair ++ (string comment ++ take (paddingLength k) paddingBytes)) (bare-is n pair comment))
 
 pub regrouped :
     (n : ℕ) (key pair comment : List ℕ)
-    → plainImage n key pair comment
-    ≡ header cipher.None kdf.None [] 0 key
+    → plainImage n (alone key) (alone (entry pair comment))
+    ≡ header cipher.None kdf.None [] 0 (alone key)
     ++ (uint32 (bareOf n pair comment + paddingLength (bareOf n pair comment))
     ++ (middle n pair ++ (string comment ++ take (paddingLength (bareOf n pair comment)) paddingBytes)))
 unfolding plainImage
 regrouped n key pair comment =
-    ap (λ (l : List ℕ). header cipher.None kdf.None [] 0 key ++ l)
-    (append-nil (string (section n pair comment)) ∙ section-then n pair comment)
+    ap (λ (l : List ℕ). header cipher.None kdf.None [] 0 (alone key) ++ l)
+    (append-nil (string (section n (alone (entry pair comment)))) ∙ section-then n pair comment)
 
 -- ---- the places of the shell
 
@@ -101,7 +101,7 @@ module _ (old : List ℕ) (n : ℕ) (inside : n ≤ length old) (f : Fields) (p 
     pub middle-stands : slice (f .header .section + 4) (commentField f) old ≡ between
 
   pub stands :
-      Standing (header cipher.None kdf.None [] 0 (blob (f .header .algorithm) (publicIn (take n old) f)))
+      Standing (header cipher.None kdf.None [] 0 (alone (blob (f .header .algorithm) (publicIn (take n old) f))))
       (middle (f .section .checkint) (keypair (f .header .algorithm) (p .zeros) (publicIn (take n old) f) (privateIn (take n old) f)))
   stands =
       let s = take n old in
@@ -110,7 +110,7 @@ module _ (old : List ℕ) (n : ℕ) (inside : n ≤ length old) (f : Fields) (p 
       let key = blob a (publicIn s f) in
       let pair = keypair a (p .zeros) (publicIn s f) (privateIn s f) in
       let comment = viewOf s (f .section .comment) in
-      let front = header cipher.None kdf.None [] 0 key in
+      let front = header cipher.None kdf.None [] 0 (alone key) in
       let m = middle c pair in
       let k = uint32 (bareOf c pair comment + paddingLength (bareOf c pair comment)) in
       let t = string comment ++ take (paddingLength (bareOf c pair comment)) paddingBytes in
@@ -147,7 +147,7 @@ module _ (old : List ℕ) (n : ℕ) (inside : n ≤ length old) (f : Fields) (p 
       let key = blob a (publicIn s f) in
       let pair = keypair a (p .zeros) (publicIn s f) (privateIn s f) in
       let same : bareOf c pair comment ≡ bare (f .header .section) (commentField f) comment = omega (arith, stands .apart) in
-      let written = written-own c a (publicIn s f) (privateIn s f) comment (p .key-fits .private) in
+      let written = written-own c (alone (keyOf a (publicIn s f) (privateIn s f) comment)) (p .key-fits .private, tt) in
       rw (written, rule)
       (regrouped c key pair comment
       ∙ rw (stands .before, stands .middle-stands, same, append-nil))

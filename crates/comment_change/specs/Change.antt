@@ -8,7 +8,7 @@ use lib.ListN.{length, take}
 use Rattle.fields.specs.Fields.{fault}
 use Rattle.fields.specs.declared.Refusal.the-variants.{Length, CharacterEncoding, Encrypted, Form, Size}
 use Rattle.utf8.specs.Utf8.{utf8}
-use Rattle.format.specs.Format.{writtenImage}
+use Rattle.format.specs.Format.{writtenImage, alone, keyOf}
 use Rattle.reader_image.specs.Container.{publicIn, materialIn, onRead, readAt}
 use Rattle.reader_image.specs.Form.{onKind, formOf}
 use Rattle.reader_image.specs.declared.Fields.{Fields}
@@ -23,7 +23,7 @@ use Rattle.writer_reply.specs.Reply.{onWritten, refused, unless, answers}
 
 unfoldable pub afresh : List ℕ → Fields → List ℕ → List ℕ
 afresh s f comment =
-    writtenImage (f .section .checkint) (f .header .algorithm) (publicIn s f) (materialIn s f) comment
+    writtenImage (f .section .checkint) (alone (keyOf (f .header .algorithm) (publicIn s f) (materialIn s f) comment))
 
 unfoldable pub afreshReply : List ℕ → Fields → List ℕ → ℕ → Written
 afreshReply s f comment room =

@@ -3,7 +3,7 @@
 use Prim.Native.Nat.{ℕ, _+_, _-_, _*_, _%_, _≤_, _<_, _^_}
 use mathlib.Core.Path.{_≡_}
 use mathlib.Core.Bool.{Bool, true, false}
-use mathlib.Core.List.{List, [], _∷_, _++_}
+use mathlib.Core.List.{List, [], _∷_, _++_, map}
 use lib.Dec.{leb, ltb, eqb}
 use lib.ListN.{length, take, getD, replicate}
 use Rattle.fields.specs.Bytes.{ascii, uint32, string, join}
@@ -218,29 +218,88 @@ paddingBytes = 1 ∷ 2 ∷ 3 ∷ 4 ∷ 5 ∷ 6 ∷ 7 ∷ []
 abbrev pub paddingLength : ℕ → ℕ
 paddingLength n = (8 - n % 8) % 8
 
--- a plain section: the checkint twice, the keypair, the comment, the padding
-unfoldable pub content : ℕ → List ℕ → List ℕ → List ℕ
-content checkint pair comment = join (uint32 checkint ∷ uint32 checkint ∷ pair ∷ string comment ∷ [])
+-- ---- an image of several keys
 
-unfoldable pub section : ℕ → List ℕ → List ℕ → List ℕ
-section checkint pair comment = content checkint pair comment ++ take (paddingLength (length (content checkint pair comment))) paddingBytes
+-- what stands in a section of one key: its keypair and its comment
+pub record Entry : Type 0 where
+  pub pair : List ℕ
+  pub comment : List ℕ
 
--- the header, up to and with the public blob, `key`; one key
-unfoldable pub header : Cipher → Kdf → List ℕ → ℕ → List ℕ → List ℕ
-header cipher kdf salt rounds key =
+abbrev pub entry : List ℕ → List ℕ → Entry
+entry pair comment = record { pair = pair; comment = comment }
+
+-- the public blobs, one string each
+abbrev pub blobFields : List (List ℕ) → List (List ℕ)
+blobFields [] = []
+blobFields (key ∷ more) = string key ∷ blobFields more
+
+-- the entries of a section, in the same order
+abbrev pub entryFields : List Entry → List (List ℕ)
+entryFields [] = []
+entryFields (e ∷ more) = e .pair ∷ string (e .comment) ∷ entryFields more
+
+-- a plain section: the checkint twice, keypair and comment of each key, one padding
+unfoldable pub content : ℕ → List Entry → List ℕ
+content checkint entries = join (uint32 checkint ∷ uint32 checkint ∷ entryFields entries)
+
+unfoldable pub section : ℕ → List Entry → List ℕ
+section checkint entries = content checkint entries ++ take (paddingLength (length (content checkint entries))) paddingBytes
+
+-- the header, up to and with the last public blob
+unfoldable pub header : Cipher → Kdf → List ℕ → ℕ → List (List ℕ) → List ℕ
+header cipher kdf salt rounds keys =
     join
-    (magic ∷ string (cipherName cipher) ∷ string (kdfName kdf) ∷ string (options kdf salt rounds) ∷ uint32 1 ∷ string key ∷ [])
+    (magic
+    ∷ string (cipherName cipher)
+    ∷ string (kdfName kdf)
+    ∷ string (options kdf salt rounds)
+    ∷ uint32 (length keys)
+    ∷ blobFields keys)
 
--- an image with a plain section, of the public blob `key` and the keypair `pair`
-unfoldable pub plainImage : ℕ → List ℕ → List ℕ → List ℕ → List ℕ
-plainImage checkint key pair comment =
-    join (header cipher.None kdf.None [] 0 key ∷ string (section checkint pair comment) ∷ [])
+-- an image with a plain section, of the public blobs `keys`, and of an entry for each
+unfoldable pub plainImage : ℕ → List (List ℕ) → List Entry → List ℕ
+plainImage checkint keys entries =
+    join (header cipher.None kdf.None [] 0 keys ∷ string (section checkint entries) ∷ [])
 
--- the image that the writer makes: a scalar stands as the minimal mpint
-unfoldable pub writtenImage : ℕ → Algorithm → PublicBytes → PrivateBytes → List ℕ → List ℕ
-writtenImage checkint a key x comment = plainImage checkint (blob a key) (writtenPair a key x) comment
+-- a key with its comment, as a writer takes them and a record gives them
+pub record Key : Type 0 where
+  pub algorithm : Algorithm
+  pub public : PublicBytes
+  pub private : PrivateBytes
+  pub comment : List ℕ
 
--- an encrypted image: the tag stands outside the ciphertext's string
+abbrev pub keyBlob : Key → List ℕ
+keyBlob k = blob (k .algorithm) (k .public)
+
+-- a key's entry, so many zeros before its scalar; and as the writer writes it
+abbrev pub standingEntry : ℕ → Key → Entry
+standingEntry zeros k = entry (keypair (k .algorithm) zeros (k .public) (k .private)) (k .comment)
+
+abbrev pub writtenEntry : Key → Entry
+writtenEntry k = entry (writtenPair (k .algorithm) (k .public) (k .private)) (k .comment)
+
+-- keys' entries, so many zeros before the scalar of each
+abbrev pub standingEntries : List ℕ → List Key → List Entry
+standingEntries [] keys = []
+standingEntries (zeros ∷ more) [] = []
+standingEntries (zeros ∷ more) (k ∷ keys) = standingEntry zeros k ∷ standingEntries more keys
+
+-- the image that the writer makes: each scalar stands as the minimal mpint
+unfoldable pub writtenImage : ℕ → List Key → List ℕ
+writtenImage checkint keys = plainImage checkint (map keyBlob keys) (map writtenEntry keys)
+
+-- one key is the list of one
+abbrev pub keyOf : Algorithm → PublicBytes → PrivateBytes → List ℕ → Key
+keyOf a key x comment = record { algorithm = a; public = key; private = x; comment = comment }
+
+-- a key as a writer takes it, its scalar filled with zeros
+abbrev pub filledKey : Key → Key
+filledKey k = keyOf (k .algorithm) (k .public) (filled (k .algorithm) (k .private)) (k .comment)
+
+abbrev pub alone : {A : Type 0} → A → List A
+alone x = x ∷ []
+
+-- an encrypted image has one key; the tag stands outside the ciphertext's string
 unfoldable pub encryptedImage : Cipher → Kdf → List ℕ → ℕ → List ℕ → List ℕ → List ℕ → List ℕ
 encryptedImage cipher kdf salt rounds key ciphertext tag =
-    join (header cipher kdf salt rounds key ∷ string ciphertext ∷ tag ∷ [])
+    join (header cipher kdf salt rounds (alone key) ∷ string ciphertext ∷ tag ∷ [])

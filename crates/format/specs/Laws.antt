@@ -1,8 +1,8 @@
--- Fields regrouped, the lengths of what the format writes, and that an image says in which form its scalar stands (`standing-same`).
+-- Fields regrouped, the lengths of what the format writes, and that an image says in which form its scalars stand (`standing-same`).
 use Prim.Native.Nat.{ℕ, _+_, _<_, _^_}
 use native.Mathlib.Omega.{arith}
-use mathlib.Core.Path.{_≡_, refl, sym, _∙_, ap}
-use mathlib.Core.List.{List, [], _++_, append-assoc, append-nil}
+use mathlib.Core.Path.{_≡_, refl, sym, _∙_, ap, ap₂}
+use mathlib.Core.List.{List, [], _∷_, _++_, append-assoc, append-nil}
 use lib.ListN.{length, take, drop, length-append}
 use lib.Seq.{length-take-le, drop-at}
 use Rattle.fields.specs.Rest.{append-cancel, string-same, length-uint32}
@@ -18,7 +18,7 @@ use Rattle.names.specs.declared.Algorithm.the-variants.{Elliptic as OnCurve, Rs
 use Rattle.names.specs.declared.Curve.the-variants.{Nistp256, Nistp384, Nistp521}
 use Rattle.names.specs.Algorithms.{algorithmName, size-small}
 use Rattle.names.specs.Ciphers.{cipherName, kdfName}
-use Rattle.format.specs.Format.{PublicBytes, PrivateBytes, magic, options, header, curveField, publicFields, blob, standing, pairFields, keypair, MayStand, content, section, plainImage, paddingLength, paddingBytes, publicLength, privateLength, LengthAllowed}
+use Rattle.format.specs.Format.{PublicBytes, PrivateBytes, Key, Entry, entry, alone, magic, options, header, curveField, publicFields, blob, standing, pairFields, keypair, MayStand, blobFields, entryFields, standingEntry, standingEntries, content, section, plainImage, paddingLength, paddingBytes, publicLength, privateLength, LengthAllowed}
 use Rattle.format.specs.Scalars.{standing-length}
 
 -- a public key or a keypair and what comes after it, field by field
@@ -34,28 +34,48 @@ keypair-then a zeros key x t = append-assoc (string (algorithmName a)) (join (pa
 
 -- a header and what comes after it, field by field
 pub header-then :
-    (cipher : Cipher) (kdf : Kdf) (salt : List ℕ) (rounds : ℕ) (key t : List ℕ)
-    → header cipher kdf salt rounds key ++ t
-    ≡ magic ++ (string (cipherName cipher) ++ (string (kdfName kdf) ++ (string (options kdf salt rounds) ++ (uint32 1 ++ (string key ++ t)))))
+    (cipher : Cipher) (kdf : Kdf) (salt : List ℕ) (rounds : ℕ) (keys : List (List ℕ)) (t : List ℕ)
+    → header cipher kdf salt rounds keys ++ t
+    ≡ magic
+    ++ (string (cipherName cipher)
+    ++ (string (kdfName kdf) ++ (string (options kdf salt rounds) ++ (uint32 (length keys) ++ (join (blobFields keys) ++ t)))))
 unfolding header
-header-then cipher kdf salt rounds key t = simp append-assoc
+header-then cipher kdf salt rounds keys t = simp append-assoc
 
 -- a section's content and what comes after it, field by field
-pub content-then :
-    (n : ℕ) (pair comment t : List ℕ) → content n pair comment ++ t ≡ uint32 n ++ (uint32 n ++ (pair ++ (string comment ++ t)))
+pub content-then : (n : ℕ) (entries : List Entry) (t : List ℕ) → content n entries ++ t ≡ uint32 n ++ (uint32 n ++ (join (entryFields entries) ++ t))
 unfolding content
-content-then n pair comment t = simp append-assoc
+content-then n entries t = simp append-assoc
+
+-- an entry, and what comes after it
+pub entry-then :
+    (e : Entry) (more : List Entry) (t : List ℕ)
+    → join (entryFields (e ∷ more)) ++ t ≡ e .pair ++ (string (e .comment) ++ (join (entryFields more) ++ t))
+entry-then e more t = simp append-assoc
+
+-- a blob, and what comes after it
+pub blob-field-then :
+    (key : List ℕ) (more : List (List ℕ)) (t : List ℕ) → join (blobFields (key ∷ more)) ++ t ≡ string key ++ (join (blobFields more) ++ t)
+blob-field-then key more t = append-assoc (string key) (join (blobFields more)) t
+
+-- of one key
+pub alone-then :
+    (n : ℕ) (pair comment t : List ℕ)
+    → content n (alone (entry pair comment)) ++ t ≡ uint32 n ++ (uint32 n ++ (pair ++ (string comment ++ t)))
+alone-then n pair comment t =
+    content-then n (alone (entry pair comment)) t
+    ∙ ap (λ (l : List ℕ). uint32 n ++ (uint32 n ++ l)) (entry-then (entry pair comment) [] t)
 
 -- a padding's length, and that of what it fills up
 pub padding-length : (n : ℕ) → length (take (paddingLength n) paddingBytes) ≡ paddingLength n
 padding-length n = length-take-le (paddingLength n) paddingBytes (omega arith)
 
 pub section-length :
-    (n : ℕ) (pair comment : List ℕ) → length (section n pair comment) ≡ length (content n pair comment) + paddingLength (length (content n pair comment))
+    (n : ℕ) (entries : List Entry) → length (section n entries) ≡ length (content n entries) + paddingLength (length (content n entries))
 unfolding section
-section-length n pair comment =
-    length-append (content n pair comment) (take (paddingLength (length (content n pair comment))) paddingBytes)
-    ∙ ap (λ (k : ℕ). length (content n pair comment) + k) (padding-length (length (content n pair comment)))
+section-length n entries =
+    length-append (content n entries) (take (paddingLength (length (content n entries))) paddingBytes)
+    ∙ ap (λ (k : ℕ). length (content n entries) + k) (padding-length (length (content n entries)))
 
 -- the lengths of a key's parts are small, and its private bytes are some
 pub key-small : (e : Elliptic) → (publicLength e < 134) × (privateLength e < 67) × (0 < privateLength e)
@@ -100,22 +120,47 @@ string-body b c q =
     ∙ ap (drop 4) (sym (append-nil (string b)) ∙ q ∙ append-nil (string c))
     ∙ drop-at (uint32 (length c)) c 4 (length-uint32 (length c))
 
--- equal images with the same blob have equal sections
-image-body : (n : ℕ) (key pair₁ pair₂ comment : List ℕ) → plainImage n key pair₁ comment ≡ plainImage n key pair₂ comment → section n pair₁ comment ≡ section n pair₂ comment
+-- equal images with the same blobs have equal sections
+image-body :
+    (n : ℕ) (keys : List (List ℕ)) (es fs : List Entry) → plainImage n keys es ≡ plainImage n keys fs → section n es ≡ section n fs
 unfolding plainImage
-image-body n key pair₁ pair₂ comment e =
-    string-body (section n pair₁ comment) (section n pair₂ comment)
-    (append-cancel (header cipher.None kdf.None [] 0 key) (string (section n pair₁ comment) ++ []) (string (section n pair₂ comment) ++ []) e)
+image-body n keys es fs e =
+    string-body (section n es) (section n fs)
+    (append-cancel (header cipher.None kdf.None [] 0 keys) (string (section n es) ++ []) (string (section n fs) ++ []) e)
 
+-- scalars that may stand so, and are short
+abbrev pub AllMay : List ℕ → List Key → Type 0
+AllMay [] [] = Unit {0}
+AllMay [] (k ∷ keys) = ⊥
+AllMay (zeros ∷ more) [] = ⊥
+AllMay (zeros ∷ more) (k ∷ keys) = (length (k .private .scalar) < 67) × MayStand (k .algorithm) zeros (k .private) × AllMay more keys
+
+-- entries of the same keys that begin the same bytes have their scalars in the same form
+entries-same :
+    (keys : List Key) (zs ws t u : List ℕ) → AllMay zs keys → AllMay ws keys
+    → join (entryFields (standingEntries zs keys)) ++ t ≡ join (entryFields (standingEntries ws keys)) ++ u → zs ≡ ws
+entries-same [] [] [] t u mz mw e = refl
+entries-same (k ∷ keys) (z ∷ zs) (w ∷ ws) t u mz mw e =
+    let pair : ℕ → List ℕ = λ v. keypair (k .algorithm) v (k .public) (k .private) in
+    let tail : List ℕ → List ℕ → List ℕ = λ vs l. join (entryFields (standingEntries vs keys)) ++ l in
+    let e₀ = sym (entry-then (standingEntry z k) (standingEntries zs keys) t) ∙ e ∙ entry-then (standingEntry w k) (standingEntries ws keys) u in
+    let same : z ≡ w =
+    keypair-same (k .algorithm) (k .public) (k .private) (string (k .comment) ++ tail zs t) (string (k .comment) ++ tail ws u) z w (mz .0) (mz .1) (mw .1) e₀ in
+    let e₁ : pair w ++ (string (k .comment) ++ tail zs t) ≡ pair w ++ (string (k .comment) ++ tail ws u) = rw same at e₀ in
+    let e₂ = append-cancel (pair w) (string (k .comment) ++ tail zs t) (string (k .comment) ++ tail ws u) e₁ in
+    let e₃ = append-cancel (string (k .comment)) (tail zs t) (tail ws u) e₂ in
+    ap₂ (λ (v : ℕ) (vs : List ℕ). v ∷ vs) same (entries-same keys zs ws t u (mz .2) (mw .2) e₃)
+
+-- equal images of the same keys have their scalars in the same form
 pub standing-same :
-    (n : ℕ) (a : Algorithm) (key : PublicBytes) (x : PrivateBytes) (comment : List ℕ) (z w : ℕ) → length (x .scalar) < 67 → MayStand a z x
-    → MayStand a w x → plainImage n (blob a key) (keypair a z key x) comment ≡ plainImage n (blob a key) (keypair a w key x) comment → z ≡ w
+    (n : ℕ) (blobs : List (List ℕ)) (keys : List Key) (zs ws : List ℕ) → AllMay zs keys → AllMay ws keys
+    → plainImage n blobs (standingEntries zs keys) ≡ plainImage n blobs (standingEntries ws keys) → zs ≡ ws
 unfolding section
-standing-same n a key x comment z w hx mz mw e =
-    let pair : ℕ → List ℕ = λ v. keypair a v key x in
-    let pad : ℕ → List ℕ = λ v. take (paddingLength (length (content n (pair v) comment))) paddingBytes in
-    let tail : ℕ → List ℕ = λ v. string comment ++ pad v in
-    let e₀ = sym (content-then n (pair z) comment (pad z)) ∙ image-body n (blob a key) (pair z) (pair w) comment e ∙ content-then n (pair w) comment (pad w) in
-    let e₁ = append-cancel (uint32 n) (uint32 n ++ (pair z ++ tail z)) (uint32 n ++ (pair w ++ tail w)) e₀ in
-    let e₂ = append-cancel (uint32 n) (pair z ++ tail z) (pair w ++ tail w) e₁ in
-    keypair-same a key x (tail z) (tail w) z w hx mz mw e₂
+standing-same n blobs keys zs ws mz mw e =
+    let es : List ℕ → List Entry = λ vs. standingEntries vs keys in
+    let pad : List ℕ → List ℕ = λ vs. take (paddingLength (length (content n (es vs)))) paddingBytes in
+    let tail : List ℕ → List ℕ = λ vs. join (entryFields (es vs)) ++ pad vs in
+    let e₀ = sym (content-then n (es zs) (pad zs)) ∙ image-body n blobs (es zs) (es ws) e ∙ content-then n (es ws) (pad ws) in
+    let e₁ = append-cancel (uint32 n) (uint32 n ++ tail zs) (uint32 n ++ tail ws) e₀ in
+    let e₂ = append-cancel (uint32 n) (tail zs) (tail ws) e₁ in
+    entries-same keys zs ws (pad zs) (pad ws) mz mw e₂

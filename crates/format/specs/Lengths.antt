@@ -1,9 +1,10 @@
 -- How long what the format writes is, by the lengths of its parts.
 use Prim.Native.Nat.{ℕ, _+_, _*_}
 use native.Mathlib.Omega.{arith}
-use mathlib.Core.Path.{_≡_, _∙_}
-use mathlib.Core.List.{List, []}
+use mathlib.Core.Path.{_≡_, refl, _∙_}
+use mathlib.Core.List.{List, [], _∷_}
 use lib.ListN.{length, length-append, length-replicate}
+use Rattle.fields.specs.Bytes.{join}
 use Rattle.fields.specs.Rest.{length-uint32, length-string}
 use Rattle.names.specs.declared.Elliptic.{Elliptic}
 use Rattle.names.specs.declared.Elliptic.the-variants.{Ed25519, Ecdsa}
@@ -17,7 +18,7 @@ use Rattle.names.specs.declared.Kdf.the-variants as kdf
 use Rattle.names.specs.Algorithms.{sizeOf}
 use Rattle.names.specs.Ciphers.{cipherName, kdfName}
 use Rattle.mpint.specs.Mpint.{significant}
-use Rattle.format.specs.Format.{PublicBytes, PrivateBytes, magic, options, header, blob, keypair, publicLength, LengthAllowed, leadingZero, zeroLength, writtenPair, paddingLength, content, section, plainImage, writtenImage, encryptedImage}
+use Rattle.format.specs.Format.{PublicBytes, PrivateBytes, Entry, entry, alone, keyOf, magic, options, header, blob, keypair, publicLength, LengthAllowed, leadingZero, zeroLength, writtenPair, paddingLength, blobFields, entryFields, content, section, plainImage, writtenImage, encryptedImage}
 use Rattle.format.specs.Laws.{section-length}
 
 -- the length of a blob whose point has its algorithm's length
@@ -62,41 +63,59 @@ module _ (key : PublicBytes) (x : PrivateBytes) where
   keypair-length (OnCurve (Ecdsa Nistp521)) h = simp (length-append, length-string, length-replicate) (omega (arith, h .0))
   keypair-length Rsa h = simp (length-append, length-string) (omega arith)
 
--- a section's length but for its padding, by what stands before the comment
-pub content-length : (n : ℕ) (pair comment : List ℕ) → length (content n pair comment) ≡ 8 + length pair + (4 + length comment)
-unfolding content
-content-length n pair comment = simp (length-append, length-string, length-uint32) (omega arith)
+-- the lengths of the blobs' strings, and of the entries
+abbrev pub blobsLength : List (List ℕ) → ℕ
+blobsLength [] = 0
+blobsLength (key ∷ more) = 4 + length key + blobsLength more
 
--- the same, for what the writer writes
+abbrev pub entriesLength : List Entry → ℕ
+entriesLength [] = 0
+entriesLength (e ∷ more) = length (e .pair) + (4 + length (e .comment)) + entriesLength more
+
+pub blobs-length : (keys : List (List ℕ)) → length (join (blobFields keys)) ≡ blobsLength keys
+blobs-length [] = refl
+blobs-length (key ∷ more) = simp (length-append, length-string, blobs-length more)
+
+pub entries-length : (entries : List Entry) → length (join (entryFields entries)) ≡ entriesLength entries
+entries-length [] = refl
+entries-length (e ∷ more) = simp (length-append, length-string, entries-length more) (omega arith)
+
+-- a section's length but for its padding
+pub content-length : (n : ℕ) (entries : List Entry) → length (content n entries) ≡ 8 + entriesLength entries
+unfolding content
+content-length n entries = simp (length-append, length-uint32, entries-length) (omega arith)
+
+-- the header of a plain image
+pub plain-header-length : (keys : List (List ℕ)) → length (header cipher.None kdf.None [] 0 keys) ≡ 39 + blobsLength keys
+unfolding header magic
+plain-header-length keys = simp (length-append, length-string, length-uint32, blobs-length) (omega arith)
+
+-- a plain image
+pub plain-length :
+    (n : ℕ) (keys : List (List ℕ)) (entries : List Entry) → length (plainImage n keys entries) ≡ 43 + blobsLength keys + length (section n entries)
+unfolding plainImage
+plain-length n keys entries = simp (length-append, length-string, plain-header-length) (omega arith)
+
+-- of one key, as the writer writes it: the section but for its padding, by what stands before the comment
 abbrev pub contentLength : Algorithm → PublicBytes → PrivateBytes → ℕ → ℕ
 contentLength a key x comment = 8 + keypairLength a key x + (4 + comment)
 
 pub written-content-length :
     (n : ℕ) (a : Algorithm) (key : PublicBytes) (x : PrivateBytes) (comment : List ℕ) → LengthsFit a key x
-    → length (content n (writtenPair a key x) comment) ≡ contentLength a key x (length comment)
-written-content-length n a key x comment h = content-length n (writtenPair a key x) comment ∙ rw (keypair-length key x a h)
-
--- the header of a plain image
-plain-header-length : (key : List ℕ) → length (header cipher.None kdf.None [] 0 key) ≡ 43 + length key
-unfolding header magic
-plain-header-length key = simp (length-append, length-string, length-uint32) (omega arith)
-
--- an image with a section of n bytes
-pub plain-length :
-    (n : ℕ) (key pair comment : List ℕ) → length (plainImage n key pair comment) ≡ 47 + length key + length (section n pair comment)
-unfolding plainImage
-plain-length n key pair comment = simp (length-append, length-string, plain-header-length) (omega arith)
+    → length (content n (alone (entry (writtenPair a key x) comment))) ≡ contentLength a key x (length comment)
+written-content-length n a key x comment h =
+    content-length n (alone (entry (writtenPair a key x) comment)) ∙ rw (keypair-length key x a h) (omega arith)
 
 -- the length law: an image's length by its kind, its parts' lengths, the scalar's bytes without leading zeros and the comment's length
 pub written-length :
     (n : ℕ) (a : Algorithm) (key : PublicBytes) (x : PrivateBytes) (comment : List ℕ) → LengthsFit a key x
-    → length (writtenImage n a key x comment)
+    → length (writtenImage n (alone (keyOf a key x comment)))
     ≡ 47 + blobLength a key + (contentLength a key x (length comment) + paddingLength (contentLength a key x (length comment)))
 unfolding writtenImage
 written-length n a key x comment h =
-    let pair = writtenPair a key x in
-    plain-length n (blob a key) pair comment
-    ∙ rw (section-length n pair comment, written-content-length n a key x comment h, blob-length key x a h)
+    let entries = alone (entry (writtenPair a key x) comment) in
+    plain-length n (alone (blob a key)) entries
+    ∙ rw (section-length n entries, written-content-length n a key x comment h, blob-length key x a h) (omega arith)
 
 -- the length of an encrypted image
 pub encrypted-length :

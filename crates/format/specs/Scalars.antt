@@ -2,9 +2,9 @@
 -- mpint of its number.
 use Prim.Native.Nat.{ℕ, zero, suc, _+_, _-_, _*_, _≤_, _<_, _^_}
 use native.Mathlib.Omega.{arith}
-use mathlib.Core.Path.{_≡_, refl, sym, _∙_, ap}
+use mathlib.Core.Path.{_≡_, refl, sym, _∙_, ap, ap₂}
 use mathlib.Core.Bool.{Bool, true, false, cond}
-use mathlib.Core.List.{List, [], _∷_, _++_}
+use mathlib.Core.List.{List, [], _∷_, _++_, map}
 use borrow.Author.Tests.{ltb-true, ltb-false, leb-true, leb-false, eq-eqb, ne-eqb, lt-ltb, le-ltb}
 use lib.Dec.{eqb, ltb, leb}
 use lib.ListN.{length, drop, getD, replicate, length-append, length-drop, length-replicate}
@@ -18,7 +18,7 @@ use Rattle.names.specs.Algorithms.{sizeOf}
 use Rattle.mpint.specs.Mpint.{value, isMpint, zerosBefore, significant}
 use Rattle.mpint.specs.Values.{value-cons}
 use Rattle.mpint.specs.Zeros.{mpint-bytes, zeros-le, zeros-found}
-use Rattle.format.specs.Format.{PublicBytes, PrivateBytes, ofScalar, privateLength, standing, scalarBytes, filledTo, scalarFilled, trimmed, filled, notZero, leadingZero, zeroLength, zerosAsked, minimal, MayStand, LengthAllowed, ScalarFits, PrivateFits, blob, keypair, plainImage, writtenImage}
+use Rattle.format.specs.Format.{PublicBytes, PrivateBytes, Key, filledKey, Entry, entry, ofScalar, privateLength, standing, scalarBytes, filledTo, scalarFilled, trimmed, filled, notZero, leadingZero, zeroLength, zerosAsked, minimal, MayStand, LengthAllowed, ScalarFits, PrivateFits, keypair, keyOf, keyBlob, standingEntry, standingEntries, writtenEntry, plainImage, writtenImage}
 
 -- ---- zeros in front
 
@@ -190,15 +190,48 @@ pub fits-some : (e : Elliptic) (x : List ℕ) → ScalarFits e x → notZero e x
 fits-some Ed25519 x h = refl
 fits-some (Ecdsa k) x h = lt-ltb (zerosBefore x) (length x) (omega (arith, no-zeros x (h .1), some-bytes x (h .1)))
 
--- ---- the image of a scalar that is filled
+-- ---- the image of keys whose scalars are filled
 
-module _ (n : ℕ) (a : Algorithm) (key : PublicBytes) (x : PrivateBytes) (comment : List ℕ) where
-  -- zeros in front change nothing of it
-  pub written-filled : writtenImage n a key (filled a x) comment ≡ writtenImage n a key x comment
-  unfolding writtenImage
-  written-filled = ap (λ (y : PrivateBytes). plainImage n (blob a key) (keypair a (zerosAsked a y) key y) comment) (filled-trimmed a x)
+-- the zeros that the rule asks for before the scalar of each
+abbrev pub keyZeros : Key → ℕ
+keyZeros k = zerosAsked (k .algorithm) (k .private)
 
-  -- of a record's private bytes it has the zeros that the rule asks for, and the bytes
-  pub written-own : PrivateFits a key x → writtenImage n a key (filled a x) comment ≡ plainImage n (blob a key) (keypair a (zerosAsked a x) key x) comment
-  unfolding writtenImage
-  written-own fits = rw (trimmed-filled a key x fits)
+-- private bytes that fit, of every key
+abbrev pub AllPrivate : List Key → Type 0
+AllPrivate [] = Unit {0}
+AllPrivate (k ∷ keys) = PrivateFits (k .algorithm) (k .public) (k .private) × AllPrivate keys
+
+entry-filled : (k : Key) → writtenEntry (filledKey k) ≡ writtenEntry k
+entry-filled k =
+    ap (λ (y : PrivateBytes). entry (keypair (k .algorithm) (zerosAsked (k .algorithm) y) (k .public) y) (k .comment))
+    (filled-trimmed (k .algorithm) (k .private))
+
+entry-own : (k : Key) → PrivateFits (k .algorithm) (k .public) (k .private) → writtenEntry (filledKey k) ≡ standingEntry (keyZeros k) k
+entry-own k fits =
+    ap (λ (y : PrivateBytes). entry (keypair (k .algorithm) (zerosAsked (k .algorithm) y) (k .public) y) (k .comment))
+    (trimmed-filled (k .algorithm) (k .public) (k .private) fits)
+
+-- zeros before a scalar don't show in its blob
+blobs-filled : (keys : List Key) → map keyBlob (map filledKey keys) ≡ map keyBlob keys
+blobs-filled [] = refl
+blobs-filled (k ∷ keys) = ap (λ (l : List (List ℕ)). keyBlob k ∷ l) (blobs-filled keys)
+
+-- zeros in front change nothing of it
+pub written-filled : (n : ℕ) (keys : List Key) → writtenImage n (map filledKey keys) ≡ writtenImage n keys
+unfolding writtenImage
+written-filled n keys = ap₂ (plainImage n) (blobs-filled keys) (entries keys)
+  where
+    entries : (ks : List Key) → map writtenEntry (map filledKey ks) ≡ map writtenEntry ks
+    entries [] = refl
+    entries (k ∷ ks) = ap₂ (λ (e : Entry) (l : List Entry). e ∷ l) (entry-filled k) (entries ks)
+
+-- of a record's private bytes it has the zeros that the rule asks for, and the bytes
+pub written-own :
+    (n : ℕ) (keys : List Key) → AllPrivate keys
+    → writtenImage n (map filledKey keys) ≡ plainImage n (map keyBlob keys) (standingEntries (map keyZeros keys) keys)
+unfolding writtenImage
+written-own n keys fits = ap₂ (plainImage n) (blobs-filled keys) (entries keys fits)
+  where
+    entries : (ks : List Key) → AllPrivate ks → map writtenEntry (map filledKey ks) ≡ standingEntries (map keyZeros ks) ks
+    entries [] fit = refl
+    entries (k ∷ ks) fit = ap₂ (λ (e : Entry) (l : List Entry). e ∷ l) (entry-own k (fit .0)) (entries ks (fit .1))

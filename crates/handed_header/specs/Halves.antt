@@ -1,5 +1,5 @@
 -- docs/RULES.md, 9.3: an entry that is handed the first half of a record that isn't what an accepted
--- header read of its image gives replies 1 before all else. So every field is compared: names, rounds, bits and every place.
+-- header read of its image gives replies 1 before all else. So every field is compared: names, rounds, key count, bits and every place.
 use Prim.Native.Nat.{ℕ}
 use mathlib.Core.Path.{_≡_, refl, sym, _∙_, ap, ap₂}
 use mathlib.Core.Bool.{Bool, true, false, _&&_}
@@ -32,6 +32,7 @@ sameHeader a b =
     && eqb (kdfCode (a .kdf)) (kdfCode (b .kdf))
     && samePart (a .salt) (b .salt)
     && eqb (a .rounds) (b .rounds)
+    && eqb (a .count) (b .count)
     && eqb (algorithmCode (a .algorithm)) (algorithmCode (b .algorithm))
     && samePart (a .blob) (b .blob)
     && samePublic (a .public) (b .public)
@@ -65,10 +66,11 @@ public-same a b e =
 pub header-same : (a b : Header) → sameHeader a b ≡ true → a ≡ b
 unfolding sameHeader sameAlgorithm
 header-same a b e =
-    let e₇ = both-true _ (eqb (a .section) (b .section)) e in
-    let e₆ = both-true _ (samePublic (a .public) (b .public)) (e₇ .0) in
-    let e₅ = both-true _ (samePart (a .blob) (b .blob)) (e₆ .0) in
-    let e₄ = both-true _ (eqb (algorithmCode (a .algorithm)) (algorithmCode (b .algorithm))) (e₅ .0) in
+    let e₈ = both-true _ (eqb (a .section) (b .section)) e in
+    let e₇ = both-true _ (samePublic (a .public) (b .public)) (e₈ .0) in
+    let e₆ = both-true _ (samePart (a .blob) (b .blob)) (e₇ .0) in
+    let e₅ = both-true _ (eqb (algorithmCode (a .algorithm)) (algorithmCode (b .algorithm))) (e₆ .0) in
+    let e₄ = both-true _ (eqb (a .count) (b .count)) (e₅ .0) in
     let e₃ = both-true _ (eqb (a .rounds) (b .rounds)) (e₄ .0) in
     let e₂ = both-true _ (samePart (a .salt) (b .salt)) (e₃ .0) in
     let e₁ = both-true _ (eqb (kdfCode (a .kdf)) (kdfCode (b .kdf))) (e₂ .0) in
@@ -76,11 +78,12 @@ header-same a b e =
     let kdf : a .kdf ≡ b .kdf = kdf-code-same _ _ (eqb-true _ _ (e₁ .1)) in
     let salt : a .salt ≡ b .salt = part-same _ _ (e₂ .1) in
     let rounds : a .rounds ≡ b .rounds = eqb-true _ _ (e₃ .1) in
-    let algorithm : a .algorithm ≡ b .algorithm = algorithm-same _ _ (e₄ .1) in
-    let blob : a .blob ≡ b .blob = part-same _ _ (e₅ .1) in
-    let public : a .public ≡ b .public = public-same _ _ (e₆ .1) in
-    let section : a .section ≡ b .section = eqb-true _ _ (e₇ .1) in
-    let whole : _≡_ {A = Header} (record { cipher = a .cipher; kdf = a .kdf; salt = a .salt; rounds = a .rounds; algorithm = a .algorithm; blob = a .blob; public = a .public; section = a .section }) (record { cipher = b .cipher; kdf = b .kdf; salt = b .salt; rounds = b .rounds; algorithm = b .algorithm; blob = b .blob; public = b .public; section = b .section }) = cc in
+    let count : a .count ≡ b .count = eqb-true _ _ (e₄ .1) in
+    let algorithm : a .algorithm ≡ b .algorithm = algorithm-same _ _ (e₅ .1) in
+    let blob : a .blob ≡ b .blob = part-same _ _ (e₆ .1) in
+    let public : a .public ≡ b .public = public-same _ _ (e₇ .1) in
+    let section : a .section ≡ b .section = eqb-true _ _ (e₈ .1) in
+    let whole : _≡_ {A = Header} (record { cipher = a .cipher; kdf = a .kdf; salt = a .salt; rounds = a .rounds; count = a .count; algorithm = a .algorithm; blob = a .blob; public = a .public; section = a .section }) (record { cipher = b .cipher; kdf = b .kdf; salt = b .salt; rounds = b .rounds; count = b .count; algorithm = b .algorithm; blob = b .blob; public = b .public; section = b .section }) = cc in
     whole
 
 pub eqb-self : (n : ℕ) → eqb n n ≡ true

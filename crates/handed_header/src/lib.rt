@@ -36,6 +36,7 @@ pub fn same_header(a: Header, b: Header) -> bool
         & (kdf_code(a_kdf) == kdf_code(b_kdf))
         & same_part(a.salt, b.salt)
         & (a.rounds == b.rounds)
+        & (a.count == b.count)
         & (a_algorithm.code() == b_algorithm.code())
         & same_part(a.blob, b.blob)
         & same_public(a.public, b.public)

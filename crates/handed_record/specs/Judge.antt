@@ -1,5 +1,5 @@
 -- docs/RULES.md, 9.3: any entry that is handed a record that isn't what an accepted read of its image gives replies 1 before all
--- else. So every field is compared: kind, checkint, rounds, padding and every place included.
+-- else. So every field is compared: kind, checkint, rounds, padding, key count and every place included.
 use Prim.Native.Nat.{ℕ}
 use mathlib.Core.Path.{_≡_, refl, sym, _∙_, ap}
 use mathlib.Core.Bool.{Bool, true, false, _&&_}
@@ -13,6 +13,7 @@ use Rattle.reader_section.specs.declared.Kind.{Kind}
 use Rattle.reader_section.specs.declared.Kind.the-variants.{Plain, Encrypted}
 use Rattle.reader_section.specs.declared.Section.{Section}
 use Rattle.key_pairs.specs.declared.Private.{Private}
+use Rattle.places.specs.Places.{samePlaces, places-same}
 use Rattle.handed_header.specs.Halves.{samePart, sameHeader, part-same, header-same, header-self, eqb-self}
 use Rattle.reader_image.specs.declared.Fields.{Fields}
 use Rattle.reader_image.specs.declared.ImageRead.the-variants as read
@@ -38,6 +39,7 @@ sameSection a b =
     && eqb (a .padding) (b .padding)
     && samePrivate (a .private) (b .private)
     && samePart (a .comment) (b .comment)
+    && samePlaces (a .places) (b .places)
     && samePart (a .ciphertext) (b .ciphertext)
     && samePart (a .tag) (b .tag)
 
@@ -70,8 +72,9 @@ private-same a b e =
 pub section-same : (a b : Section) → sameSection a b ≡ true → a ≡ b
 unfolding sameSection
 section-same a b e =
-    let e₆ = both-true _ (samePart (a .tag) (b .tag)) e in
-    let e₅ = both-true _ (samePart (a .ciphertext) (b .ciphertext)) (e₆ .0) in
+    let e₇ = both-true _ (samePart (a .tag) (b .tag)) e in
+    let e₆ = both-true _ (samePart (a .ciphertext) (b .ciphertext)) (e₇ .0) in
+    let e₅ = both-true _ (samePlaces (a .places) (b .places)) (e₆ .0) in
     let e₄ = both-true _ (samePart (a .comment) (b .comment)) (e₅ .0) in
     let e₃ = both-true _ (samePrivate (a .private) (b .private)) (e₄ .0) in
     let e₂ = both-true _ (eqb (a .padding) (b .padding)) (e₃ .0) in
@@ -81,9 +84,10 @@ section-same a b e =
     let padding : a .padding ≡ b .padding = eqb-true _ _ (e₂ .1) in
     let private : a .private ≡ b .private = private-same _ _ (e₃ .1) in
     let comment : a .comment ≡ b .comment = part-same _ _ (e₄ .1) in
-    let ciphertext : a .ciphertext ≡ b .ciphertext = part-same _ _ (e₅ .1) in
-    let tag : a .tag ≡ b .tag = part-same _ _ (e₆ .1) in
-    let whole : _≡_ {A = Section} (record { kind = a .kind; checkint = a .checkint; padding = a .padding; private = a .private; comment = a .comment; ciphertext = a .ciphertext; tag = a .tag }) (record { kind = b .kind; checkint = b .checkint; padding = b .padding; private = b .private; comment = b .comment; ciphertext = b .ciphertext; tag = b .tag }) = cc in
+    let places : a .places ≡ b .places = places-same _ _ (e₅ .1) in
+    let ciphertext : a .ciphertext ≡ b .ciphertext = part-same _ _ (e₆ .1) in
+    let tag : a .tag ≡ b .tag = part-same _ _ (e₇ .1) in
+    let whole : _≡_ {A = Section} (record { kind = a .kind; checkint = a .checkint; padding = a .padding; private = a .private; comment = a .comment; places = a .places; ciphertext = a .ciphertext; tag = a .tag }) (record { kind = b .kind; checkint = b .checkint; padding = b .padding; private = b .private; comment = b .comment; places = b .places; ciphertext = b .ciphertext; tag = b .tag }) = cc in
     whole
 
 section-self : (a : Section) → sameSection a a ≡ true

@@ -34,11 +34,13 @@ pub fn same_section(a: Section, b: Section) -> bool
 {
     let a_kind = a.kind;
     let b_kind = b.kind;
+    let a_places = a.places;
     (kind_code(a_kind) == kind_code(b_kind))
         & (a.checkint == b.checkint)
         & (a.padding == b.padding)
         & same_private(a.private, b.private)
         & same_part(a.comment, b.comment)
+        & a_places.same(b.places)
         & same_part(a.ciphertext, b.ciphertext)
         & same_part(a.tag, b.tag)
 }

@@ -1,6 +1,6 @@
 -- docs/RULES.md, 7.3 and 7.5: where a header refuses. The size and the magic are about the whole image and give its first byte; the place of
 -- any other refusal lies after the magic, and no further than the image's end.
-use Prim.Native.Nat.{ℕ, _+_, _≤_, _<_}
+use Prim.Native.Nat.{ℕ, zero, suc, _+_, _-_, _≤_, _<_}
 use native.Mathlib.Omega.{arith}
 use mathlib.Core.Path.{_≡_, refl, sym, _∙_, ap}
 use mathlib.Core.Bool.{Bool, true, false, _||_, not}
@@ -28,15 +28,18 @@ use Rattle.reader_header.specs.declared.CipherField.{CipherField}
 use Rattle.reader_header.specs.declared.CipherField.the-variants as cipher-field
 use Rattle.reader_header.specs.declared.KdfField.{KdfField}
 use Rattle.reader_header.specs.declared.KdfField.the-variants as kdf-field
-use Rattle.reader_header.specs.declared.BlobField.{BlobField}
-use Rattle.reader_header.specs.declared.BlobField.the-variants as blob-field
+use Rattle.reader_blobs.specs.declared.BlobField.{BlobField}
+use Rattle.reader_blobs.specs.declared.BlobField.the-variants as blob-field
+use Rattle.reader_blobs.specs.declared.Blobs.{Blobs}
+use Rattle.reader_blobs.specs.declared.Blobs.the-variants as blobs
+use Rattle.reader_blobs.specs.Blobs.{blobFieldAt, blobsAt}
+use Rattle.reader_blobs.specs.Read.{by-blob, by-blob-field, by-blobs}
 use Rattle.reader_header.specs.declared.HeaderRead.{HeaderRead}
 use Rattle.reader_header.specs.declared.HeaderRead.the-variants as header-read
-use Rattle.reader_header.specs.Header.{onKdf, magicAt, cipherAt, noneAt, bcryptAt, kdfAt, countAt, blobFieldAt, headerAt}
-use Rattle.reader_header.specs.Place.{by-cipher-name, by-kdf-name, by-blob}
-use Rattle.reader_header.specs.Read.{by-cipher-field, by-kdf-field, by-blob-field}
-use Rattle.laws_places.specs.Fields.{Lies, After, Uint32Lies, lies-after, after-after, good-after, uint32-lies, string-lies, string-in, lies-within, end-lies}
-use Rattle.laws_places.specs.Keys.{blob-lies}
+use Rattle.reader_header.specs.Header.{onKdf, magicAt, cipherAt, noneAt, bcryptAt, kdfAt, keysAllowed, countAt, keysAt, headerAt}
+use Rattle.reader_header.specs.Place.{by-cipher-name, by-kdf-name, by-cipher-field, by-kdf-field}
+use Rattle.laws_fields.specs.Fields.{Lies, After, Uint32Lies, lies-after, after-after, good-after, uint32-lies, string-lies, string-in, lies-within, end-lies}
+use Rattle.laws_fields.specs.Keys.{blob-lies}
 
 -- ---- from the KDF's name on
 
@@ -44,9 +47,14 @@ abbrev KdfLies : Cursor → KdfField → Type 0
 KdfLies c (kdf-field.Refused f) = Lies c f
 KdfLies c (kdf-field.Options k salt rounds d) = After c d
 
-abbrev BlobFieldLies : Cursor → BlobField → Type 0
+-- a blob's string ends after what stood before it
+abbrev pub BlobFieldLies : Cursor → BlobField → Type 0
 BlobFieldLies c (blob-field.Refused f) = Lies c f
-BlobFieldLies c (blob-field.Key a p key d) = After c d
+BlobFieldLies c (blob-field.Key a p key d) = After c d × (c .at ≤ p .start + p .length) × (p .start + p .length ≤ c .end)
+
+abbrev BlobsLies : Cursor → Blobs → Type 0
+BlobsLies c (blobs.Refused f) = Lies c f
+BlobsLies c (blobs.After d) = After c d
 
 none-lies : (s : List ℕ) (c : Cursor) → Good s c → KdfLies c (noneAt s c)
 unfolding noneAt
@@ -110,11 +118,11 @@ count-lies s c good =
     (λ f w. rw w (rw w at (uint32-lies s c good)))
     (λ n d w.
     rw w
-    (by-bool (eqb n 1)
+    (by-bool (keysAllowed n)
     (λ v. rw v (rw w at (uint32-lies s c good)))
     (λ v. rw v (omega (arith, good)))))
 
-blob-field-lies : (s : List ℕ) (c : Cursor) → Good s c → BlobFieldLies c (blobFieldAt s c)
+pub blob-field-lies : (s : List ℕ) (c : Cursor) → Good s c → BlobFieldLies c (blobFieldAt s c)
 unfolding blobFieldAt
 blob-field-lies s c good =
     by-field (stringAt s c)
@@ -124,7 +132,34 @@ blob-field-lies s c good =
     rw w
     (by-blob (blobAt s (within p))
     (λ f v. rw v (lies-within s c p d f i (rw v at (blob-lies s (within p) (i .inside)))))
-    (λ a key v. rw v (i .after))))
+    (λ a key v. rw v (i .after, omega (arith, i), omega (arith, i)))))
+
+blobs-lies : (s : List ℕ) (c : Cursor) (n : ℕ) → Good s c → BlobsLies c (blobsAt s c n)
+unfolding blobsAt
+blobs-lies s c zero good = omega (arith, good)
+blobs-lies s c (suc n) good =
+    by-blob-field (blobFieldAt s c)
+    (λ f w. rw w (rw w at (blob-field-lies s c good)))
+    (λ a p key d w.
+    let i = rw w at (blob-field-lies s c good) in
+    rw w (moved-on d (i .0) (blobsAt s d n) (blobs-lies s d n (good-after s c d good (i .0)))))
+  where
+    moved-on : (d : Cursor) → After c d → (r : Blobs) → BlobsLies d r → BlobsLies c r
+    moved-on d a (blobs.Refused f) l = lies-after c d f a l
+    moved-on d a (blobs.After e) l = after-after c d e a l
+
+keys-lies : (s : List ℕ) (c : Cursor) (more : ℕ) → Good s c → BlobFieldLies c (keysAt s c more)
+unfolding keysAt
+keys-lies s c more good =
+    by-blob-field (blobFieldAt s c)
+    (λ f w. rw w (rw w at (blob-field-lies s c good)))
+    (λ a p key d w.
+    let i = rw w at (blob-field-lies s c good) in
+    let next = blobs-lies s d more (good-after s c d good (i .0)) in
+    rw w
+    (by-blobs (blobsAt s d more)
+    (λ f v. rw v (lies-after c d f (i .0) (rw v at next)))
+    (λ e v. rw v (after-after c d e (i .0) (rw v at next), i .1, i .2))))
 
 -- ---- the whole image
 
@@ -220,10 +255,15 @@ cipher-said s =
     ap length (sym (cipher-read (viewOf s name) k u)) ∙ view-length s name (omega (arith, i)) in
     rw u (about, omega (arith, i, m), omega (arith, i, m, named)))))))))
 
--- a header that is read ends after its cipher's name, and within the image
+-- a header that is read ends after its cipher's name, and within the image; so does its first blob, after the magic
 abbrev pub HeaderSaid : List ℕ → HeaderRead → Type 0
 HeaderSaid s (header-read.Refused f) = PlaceSaid s (aboutWhole s) f
-HeaderSaid s (header-read.Header h) = (aboutWhole s ≡ false) × (19 + length (cipherName (h .cipher)) ≤ h .section) × (h .section ≤ length s)
+HeaderSaid s (header-read.Header h) =
+    (aboutWhole s ≡ false)
+    × (19 + length (cipherName (h .cipher)) ≤ h .section)
+    × (h .section ≤ length s)
+    × (15 ≤ h .blob .start + h .blob .length)
+    × (h .blob .start + h .blob .length ≤ length s)
 
 pub header-said : (s : List ℕ) → HeaderSaid s (headerAt s)
 unfolding headerAt
@@ -250,8 +290,9 @@ header-said s =
     let good₃ = good-after s d e good₂ b₃ in
     let a₃ = after-after start d e a₂ b₃ in
     rw u
-    (by-blob-field (blobFieldAt s e)
-    (λ f t. rw t (said-field s f (m .0) (lies-after start e f a₃ (rw t at (blob-field-lies s e good₃)))))
+    (by-blob-field (keysAt s e (n - 1))
+    (λ f t. rw t (said-field s f (m .0) (lies-after start e f a₃ (rw t at (keys-lies s e (n - 1) good₃)))))
     (λ a blob key g t.
-    let b₄ = rw t at (blob-field-lies s e good₃) in
-    rw t (m .0, omega (arith, m .2, b₂, b₃, b₄), omega (arith, a₃, b₄)))))))))
+    let b₄ = rw t at (keys-lies s e (n - 1) good₃) in
+    rw t
+    (m .0, omega (arith, m .2, b₂, b₃, b₄ .0), omega (arith, a₃, b₄ .0), omega (arith, a₃, b₄ .1), omega (arith, a₃, b₄ .2)))))))))

@@ -1,12 +1,13 @@
 -- Reading back: a header that begins an image as the format writes it is read, with its fields.
-use Prim.Native.Nat.{ℕ, _≤_, _<_, _^_}
+use Prim.Native.Nat.{ℕ, suc, _+_, _-_, _≤_, _<_, _^_}
 use native.Mathlib.Omega.{arith}
 use mathlib.Core.Path.{_≡_, refl, sym, _∙_, ap}
-use mathlib.Core.List.{List, [], _++_, append-nil}
+use mathlib.Core.Bool.{true}
+use mathlib.Core.List.{List, [], _∷_, _++_, map, append-nil}
 use borrow.Author.Tests.{eq-eqb, le-ltb}
 use lib.ListN.{length, length-append}
 use lib.Seq.{slice}
-use Rattle.fields.specs.Bytes.{uint32, string, same-self}
+use Rattle.fields.specs.Bytes.{uint32, string, join, same-self}
 use Rattle.fields.specs.Fields.{absent, whole, within, bytesAt, viewOf}
 use Rattle.fields.specs.Place.{string-place}
 use Rattle.fields.specs.Rest.{rest, Good, rest-whole, rest-within, view-absent, length-string}
@@ -14,27 +15,27 @@ use Rattle.fields.specs.Back.{FieldBack, also, Uint32Back, short-of, bytes-back
 use Rattle.fields.specs.declared.Cursor.{Cursor}
 use Rattle.fields.specs.declared.Part.{Part}
 use Rattle.fields.specs.declared.Field.the-variants as field
-use Rattle.names.specs.declared.Algorithm.{Algorithm}
 use Rattle.names.specs.declared.Cipher.{Cipher}
 use Rattle.names.specs.declared.Kdf.{Kdf}
 use Rattle.names.specs.declared.Kdf.the-variants as kdf
 use Rattle.names.specs.Ciphers.{cipherName, kdfName, row, kdf-back}
 use Rattle.mpint.specs.Mpint.{bits}
-use Rattle.format.specs.Format.{PublicBytes, magic, options, OptionsFit, PublicFits, blob, header}
+use Rattle.format.specs.Format.{Key, magic, options, OptionsFit, blobFields, keyBlob, header}
 use Rattle.key_public.specs.declared.Public.{Public}
 use Rattle.key_public.specs.Keys.{publicBytes}
-use Rattle.format.specs.Laws.{header-then}
-use Rattle.laws_keys.specs.Back.{blob-back}
+use Rattle.format.specs.Laws.{header-then, blob-field-then}
+use Rattle.reader_blobs.specs.declared.BlobField.{BlobField}
+use Rattle.reader_blobs.specs.declared.BlobField.the-variants as blob-field
+use Rattle.reader_blobs.specs.Blobs.{blobBytes}
+use Rattle.reader_blobs.specs.Back.{AllPublic, blob-field-back, blobs-back}
 use Rattle.reader_header.specs.declared.CipherField.{CipherField}
 use Rattle.reader_header.specs.declared.CipherField.the-variants as cipher-field
 use Rattle.reader_header.specs.declared.KdfField.{KdfField}
 use Rattle.reader_header.specs.declared.KdfField.the-variants as kdf-field
-use Rattle.reader_header.specs.declared.BlobField.{BlobField}
-use Rattle.reader_header.specs.declared.BlobField.the-variants as blob-field
 use Rattle.reader_header.specs.declared.Header.{Header}
 use Rattle.reader_header.specs.declared.HeaderRead.the-variants as header-read
-use Rattle.reader_header.specs.Place.{cipher-place, kdf-place, count-place}
-use Rattle.reader_header.specs.Header.{onKdf, magicAt, cipherAt, noneAt, bcryptAt, kdfAt, countAt, blobFieldAt, headerAt}
+use Rattle.reader_header.specs.Place.{cipher-place, kdf-place, count-place, keys-most}
+use Rattle.reader_header.specs.Header.{onKdf, magicAt, cipherAt, noneAt, bcryptAt, kdfAt, keysAllowed, countAt, keysAt, secondBlob, headerAt}
 
 -- the magic begins the image
 length-magic : length magic ≡ 15
@@ -134,81 +135,101 @@ kdf-options-back s c good small k salt rounds t fit e =
         let o = bcrypt-back s d good′ salt′ rounds′ t small fit′ e′ short salty in
         (o, o .read)
 
-count-back : (s : List ℕ) (c : Cursor) → Good s c → (t : List ℕ) → rest s c ≡ uint32 1 ++ t → Uint32Back s (countAt s c) 1 t
+count-back : (s : List ℕ) (c : Cursor) → Good s c → (n : ℕ) (t : List ℕ) → n < 2 ^ 32 → keysAllowed n ≡ true → rest s c ≡ uint32 n ++ t → Uint32Back s (countAt s c) n t
 unfolding countAt
-count-back s c good t e =
-    let k = uint32-back s c good 1 t (omega arith) e in
+count-back s c good n t fits allowed e =
+    let k = uint32-back s c good n t fits e in
     record {
       next = k .next;
-      read = rw (k .read);
+      read = rw (k .read, allowed);
       good = k .good;
       more = k .more;
-    }
-
-record BlobFieldBack (s : List ℕ) (w : BlobField) (a : Algorithm) (key : PublicBytes) (t : List ℕ) : Type 0 where
-  pub place : Part
-  pub public : Public
-  pub next : Cursor
-  pub read : w ≡ blob-field.Key a place public next
-  pub content : viewOf s place ≡ blob a key
-  pub seen : publicBytes s public ≡ key
-  pub counted : public .bits ≡ bits (key .modulus)
-  pub good : Good s next
-  pub more : rest s next ≡ t
-  pub end : next .end ≡ length s
-
-blob-field-back :
-    (s : List ℕ) (c : Cursor) → Good s c → c .end ≡ length s → length s ≤ 65535 → (a : Algorithm) (key : PublicBytes) (t : List ℕ) → PublicFits a key
-    → rest s c ≡ string (blob a key) ++ t → BlobFieldBack s (blobFieldAt s c) a key t
-unfolding blobFieldAt
-blob-field-back s c good end small a key t fits e =
-    let p = string-back s c good (blob a key) t (short-of s c good (omega arith) (blob a key) t e) e in
-    let b = blob-back s (within (p .place)) (omega (arith, p .inside)) (omega arith) a key fits (rest-within s (p .place) (p .inside) ∙ p .seen) in
-    record {
-      place = p .place;
-      public = b .place;
-      next = p .next;
-      read = rw (p .read, b .read);
-      content = p .seen;
-      seen = b .seen;
-      counted = b .counted;
-      good = p .good;
-      more = p .more;
-      end = string-place s c (p .place) (p .next) (p .read) .placed .end ∙ end;
     }
 
 -- a place whose end is the image's
 to-end : (s : List ℕ) (c : Cursor) (t : List ℕ) → c .end ≡ length s → rest s c ≡ t → rest s (record { at = c .at; end = length s }) ≡ t
 to-end s c t end e = ap (λ (i : ℕ). slice (c .at) i s) (sym end) ∙ e
 
+-- the first blob and the others
+record KeysBack (s : List ℕ) (w : BlobField) (k : Key) (others : List Key) (t : List ℕ) : Type 0 where
+  pub place : Part
+  pub public : Public
+  pub next : Cursor
+  pub read : w ≡ blob-field.Key (k .algorithm) place public next
+  pub content : viewOf s place ≡ keyBlob k
+  pub seen : publicBytes s public ≡ k .public
+  pub counted : public .bits ≡ bits (k .public .modulus)
+  pub good : Good s next
+  pub more : rest s next ≡ t
+  pub end : next .end ≡ length s
+  pub second-good : place .start + place .length ≤ length s
+  pub second : rest s (record { at = place .start + place .length; end = length s }) ≡ join (blobFields (map keyBlob others)) ++ t
+  pub held : blobBytes s (record { at = place .start + place .length; end = length s }) (length others) ≡ map keyBlob others
+
+keys-back :
+    (s : List ℕ) (c : Cursor) → Good s c → c .end ≡ length s → length s ≤ 65535 → (k : Key) (others : List Key) (t : List ℕ) → AllPublic (k ∷ others)
+    → rest s c ≡ join (blobFields (map keyBlob (k ∷ others))) ++ t → KeysBack s (keysAt s c (length others)) k others t
+unfolding keysAt
+keys-back s c good end small k others t fits e =
+    let rest-of = join (blobFields (map keyBlob others)) ++ t in
+    let b =
+    blob-field-back s c good end small (k .algorithm) (k .public) rest-of (fits .0) (e ∙ blob-field-then (keyBlob k) (map keyBlob others) t) in
+    let m = blobs-back s (b .next) (b .good) (b .end) small others t (fits .1) (b .more) in
+    let after : b .next .at ≡ b .place .start + b .place .length = b .ends in
+    record {
+      place = b .place;
+      public = b .public;
+      next = m .next;
+      read = rw (b .read, m .read);
+      content = b .content;
+      seen = b .seen;
+      counted = b .counted;
+      good = m .good;
+      more = m .more;
+      end = m .end;
+      second-good = omega (arith, after, b .good, b .end);
+      second = rw (← after) (to-end s (b .next) rest-of (b .end) (b .more));
+      held = rw (← after, ← b .end) (m .held);
+    }
+
 -- the fields that a header gives back
-pub record HeaderBack (s : List ℕ) (cipher : Cipher) (k : Kdf) (salt : List ℕ) (rounds : ℕ) (a : Algorithm) (key : PublicBytes) (t : List ℕ) : Type 0 where
+pub record HeaderBack (s : List ℕ) (cipher : Cipher) (k : Kdf) (salt : List ℕ) (rounds : ℕ) (key : Key) (others : List Key) (t : List ℕ) : Type 0 where
   pub fields : Header
   pub read : headerAt s ≡ header-read.Header fields
   pub same-cipher : fields .cipher ≡ cipher
   pub same-kdf : fields .kdf ≡ k
   pub same-salt : viewOf s (fields .salt) ≡ salt
   pub same-rounds : fields .rounds ≡ rounds
-  pub same-algorithm : fields .algorithm ≡ a
-  pub same-blob : viewOf s (fields .blob) ≡ blob a key
-  pub same-public : publicBytes s (fields .public) ≡ key
-  pub same-bits : fields .public .bits ≡ bits (key .modulus)
+  pub same-count : fields .count ≡ suc (length others)
+  pub same-algorithm : fields .algorithm ≡ key .algorithm
+  pub same-blob : viewOf s (fields .blob) ≡ keyBlob key
+  pub same-public : publicBytes s (fields .public) ≡ key .public
+  pub same-bits : fields .public .bits ≡ bits (key .public .modulus)
   pub good : fields .section ≤ length s
   pub more : rest s (record { at = fields .section; end = length s }) ≡ t
+  pub second-good : fields .blob .start + fields .blob .length ≤ length s
+  pub second : rest s (secondBlob s fields) ≡ join (blobFields (map keyBlob others)) ++ t
+  pub same-others : blobBytes s (secondBlob s fields) (length others) ≡ map keyBlob others
 
 pub header-back :
-    (s : List ℕ) (cipher : Cipher) (k : Kdf) (salt : List ℕ) (rounds : ℕ) (a : Algorithm) (key : PublicBytes) (t : List ℕ) → length s ≤ 65535
-    → OptionsFit k salt rounds → PublicFits a key → s ≡ header cipher k salt rounds (blob a key) ++ t
-    → HeaderBack s cipher k salt rounds a key t
+    (s : List ℕ) (cipher : Cipher) (k : Kdf) (salt : List ℕ) (rounds : ℕ) (key : Key) (others : List Key) (t : List ℕ) → length s ≤ 65535
+    → OptionsFit k salt rounds → AllPublic (key ∷ others) → keysAllowed (suc (length others)) ≡ true
+    → s ≡ header cipher k salt rounds (map keyBlob (key ∷ others)) ++ t → HeaderBack s cipher k salt rounds key others t
 unfolding headerAt
-header-back s cipher k salt rounds a key t small fit fits e =
-    let after-count = string (blob a key) ++ t in
-    let after-kdf = uint32 1 ++ after-count in
+header-back s cipher k salt rounds key others t small fit fits allowed e =
+    let keys = map keyBlob (key ∷ others) in
+    let n = length keys in
+    let counted : n ≡ suc (length others) = ap suc (map-length others) in
+    let after-count = join (blobFields keys) ++ t in
+    let after-kdf = uint32 n ++ after-count in
     let after-cipher = string (kdfName k) ++ (string (options k salt rounds) ++ after-kdf) in
-    let c = cipher-back s cipher after-cipher small (e ∙ header-then cipher k salt rounds (blob a key) t) in
+    let c = cipher-back s cipher after-cipher small (e ∙ header-then cipher k salt rounds keys t) in
     let o = kdf-options-back s (c .next) (c .good) small k salt rounds after-kdf fit (c .more) in
-    let n = count-back s (o .next) (o .good) after-count (o .more) in
-    let b = blob-field-back s (n .next) (n .good) (count-place s (o .next) 1 (n .next) (n .read) .1 ∙ kdf-place s (c .next) k (o .place) rounds (o .next) (o .read) .end ∙ cipher-place s cipher (c .next) (c .read) .end) small a key t fits (n .more) in
+    let few : suc (length others) < 2 ^ 32 = omega (arith, keys-most (suc (length others)) allowed) in
+    let m = count-back s (o .next) (o .good) (suc (length others)) after-count few allowed (o .more ∙ ap (λ (i : ℕ). uint32 i ++ after-count) counted) in
+    let ends = count-place s (o .next) (suc (length others)) (m .next) (m .read) .end ∙ kdf-place s (c .next) k (o .place) rounds (o .next) (o .read) .end ∙ cipher-place s cipher (c .next) (c .read) .end in
+    let less : suc (length others) - 1 ≡ length others = omega arith in
+    let b = keys-back s (m .next) (m .good) ends small key others t fits (m .more) in
     record {
       fields =
           record {
@@ -216,20 +237,29 @@ header-back s cipher k salt rounds a key t small fit fits e =
             kdf = k;
             salt = o .place;
             rounds = rounds;
-            algorithm = a;
+            count = suc (length others);
+            algorithm = key .algorithm;
             blob = b .place;
             public = b .public;
             section = b .next .at;
           };
-      read = rw (c .read, o .read, n .read, b .read);
+      read = rw (c .read, o .read, m .read, less, b .read);
       same-cipher = refl;
       same-kdf = refl;
       same-salt = o .seen;
       same-rounds = refl;
+      same-count = refl;
       same-algorithm = refl;
       same-blob = b .content;
       same-public = b .seen;
       same-bits = b .counted;
       good = omega (arith, b .good, b .end);
       more = to-end s (b .next) t (b .end) (b .more);
+      second-good = b .second-good;
+      second = b .second;
+      same-others = b .held;
     }
+  where
+    map-length : (ks : List Key) → length (map keyBlob ks) ≡ length ks
+    map-length [] = refl
+    map-length (x ∷ xs) = ap suc (map-length xs)

@@ -1,9 +1,9 @@
--- docs/RULES.md, 4.1 to 4.6, 7.3 and 8.1: what reading the header finds. It ends after the public blob, and of the section it says where it
--- begins and no more.
-use Prim.Native.Nat.{ℕ}
+-- docs/RULES.md, 4.1 to 4.6, 7.3 and 8.1: what reading the header finds. It ends after the last public blob, and of the section it says
+-- where it begins and no more.
+use Prim.Native.Nat.{ℕ, _+_, _-_}
 use mathlib.Core.Path.{_≡_}
 use mathlib.Core.List.{List}
-use mathlib.Core.Bool.{cond}
+use mathlib.Core.Bool.{Bool, cond}
 use lib.ListN.{length}
 use lib.Dec.{eqb, ltb}
 use Rattle.fields.specs.Bytes.{sameBytes}
@@ -31,13 +31,14 @@ use Rattle.names.specs.declared.KdfName.the-variants as kdf-name
 use Rattle.names.specs.Ciphers.{cipherNamed, kdfNamed}
 use Rattle.format.specs.Format.{magic}
 use Rattle.key_public.specs.declared.Public.{Public}
-use Rattle.key_public.specs.Keys.{onBlob, pointPlace, blobAt}
+use Rattle.key_public.specs.Keys.{pointPlace}
+use Rattle.reader_blobs.specs.declared.BlobField.{BlobField}
+use Rattle.reader_blobs.specs.declared.BlobField.the-variants as blob-field
+use Rattle.reader_blobs.specs.Blobs.{onBlobField, onBlobs, blobFieldAt, blobsAt}
 use Rattle.reader_header.specs.declared.CipherField.{CipherField}
 use Rattle.reader_header.specs.declared.CipherField.the-variants as cipher-field
 use Rattle.reader_header.specs.declared.KdfField.{KdfField}
 use Rattle.reader_header.specs.declared.KdfField.the-variants as kdf-field
-use Rattle.reader_header.specs.declared.BlobField.{BlobField}
-use Rattle.reader_header.specs.declared.BlobField.the-variants as blob-field
 use Rattle.reader_header.specs.declared.Header.{Header}
 use Rattle.reader_header.specs.declared.HeaderRead.{HeaderRead}
 use Rattle.reader_header.specs.declared.HeaderRead.the-variants as header-read
@@ -62,10 +63,6 @@ onCipherField (cipher-field.Cipher k c) refused read = read k c
 abbrev pub onKdfField : {R : Type 0} → KdfField → (Fault → R) → (Kdf → Part → ℕ → Cursor → R) → R
 onKdfField (kdf-field.Refused f) refused read = refused f
 onKdfField (kdf-field.Options k salt rounds c) refused read = read k salt rounds c
-
-abbrev pub onBlobField : {R : Type 0} → BlobField → (Fault → R) → (Algorithm → Part → Public → Cursor → R) → R
-onBlobField (blob-field.Refused f) refused read = refused f
-onBlobField (blob-field.Key a p key c) refused read = read a p key c
 
 abbrev pub onHeaderRead : {R : Type 0} → HeaderRead → (Fault → R) → (Header → R) → R
 onHeaderRead (header-read.Refused f) refused read = refused f
@@ -109,35 +106,43 @@ kdfAt s c =
     onKdf k (noneAt s d) (bcryptAt s d)))
 
 -- 4.5: key count, uint32; not 1: 1.
+abbrev pub keysAllowed : ℕ → Bool
+keysAllowed n = eqb n 1
+
 unfoldable pub countAt : List ℕ → Cursor → Uint32
 countAt s c =
     onUint32 (uint32At s c) uint32.Refused (λ n d.
-    cond (eqb n 1) (uint32.Value n d) (uint32.Refused (fault Length (c .at))))
+    cond (keysAllowed n) (uint32.Value n d) (uint32.Refused (fault Length (c .at))))
 
--- 4.6: public blob, a string; within it name, key fields, end, else 6.
-unfoldable pub blobFieldAt : List ℕ → Cursor → BlobField
-blobFieldAt s c =
-    onField (stringAt s c) blob-field.Refused (λ p d.
-    onBlob (blobAt s (within p)) blob-field.Refused (λ a key.
-    blob-field.Key a p key d))
+-- 4.6: the first public blob, and the place after the others
+unfoldable pub keysAt : List ℕ → Cursor → ℕ → BlobField
+keysAt s c more =
+    onBlobField (blobFieldAt s c) blob-field.Refused (λ a p key d.
+    onBlobs (blobsAt s d more) blob-field.Refused (λ e.
+    blob-field.Key a p key e))
 
 unfoldable pub headerAt : List ℕ → HeaderRead
 headerAt s =
     onCipherField (cipherAt s) header-read.Refused (λ cipher c.
     onKdfField (kdfAt s c) header-read.Refused (λ k salt rounds d.
     onUint32 (countAt s d) header-read.Refused (λ n e.
-    onBlobField (blobFieldAt s e) header-read.Refused (λ a blob key g.
+    onBlobField (keysAt s e (n - 1)) header-read.Refused (λ a blob key g.
     header-read.Header
     (record {
       cipher = cipher;
       kdf = k;
       salt = salt;
       rounds = rounds;
+      count = n;
       algorithm = a;
       blob = blob;
       public = key;
       section = g .at;
     })))))
+
+-- where the second blob begins, if there is one
+abbrev pub secondBlob : List ℕ → Header → Cursor
+secondBlob s h = record { at = h .blob .start + h .blob .length; end = length s }
 
 -- ---- the rules' reply to a header read
 
@@ -149,6 +154,7 @@ noHeader =
       kdf = kdf.None;
       salt = absent;
       rounds = 0;
+      count = 0;
       algorithm = OnCurve Ed25519;
       blob = absent;
       public = pointPlace absent;

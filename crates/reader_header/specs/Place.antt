@@ -1,6 +1,8 @@
 -- The header's parts end where the image does: each place that is handed on has the image's end.
-use Prim.Native.Nat.{ℕ, _≤_}
+use Prim.Native.Nat.{ℕ, _+_, _-_, _≤_, _<_, _^_}
+use native.Mathlib.Omega.{arith}
 use mathlib.Core.Path.{_≡_, refl, sym, _∙_, ap}
+use mathlib.Core.Bool.{true}
 use mathlib.Core.List.{List}
 use borrow.Author.Tests.{ltb-false, eqb-true}
 use lib.Dec.{eqb, ltb}
@@ -25,13 +27,17 @@ use Rattle.names.specs.declared.KdfName.the-variants as kdf-name
 use Rattle.names.specs.Ciphers.{cipherName, kdfName, cipherNamed, kdfNamed, cipher-read, kdf-read}
 use Rattle.format.specs.Format.{magic}
 use Rattle.key_public.specs.declared.Public.{Public}
-use Rattle.key_public.specs.declared.Blob.{Blob}
-use Rattle.key_public.specs.declared.Blob.the-variants as key
-use Rattle.key_public.specs.Keys.{blobAt}
+use Rattle.reader_blobs.specs.declared.BlobField.the-variants as blob-field
+use Rattle.reader_blobs.specs.declared.Blobs.the-variants as blobs
+use Rattle.reader_blobs.specs.Blobs.{blobFieldAt, blobsAt}
+use Rattle.reader_blobs.specs.Read.{by-blob-field, by-blobs, blob-place}
+use Rattle.reader_header.specs.declared.CipherField.{CipherField}
 use Rattle.reader_header.specs.declared.CipherField.the-variants as cipher-field
+use Rattle.reader_header.specs.declared.KdfField.{KdfField}
 use Rattle.reader_header.specs.declared.KdfField.the-variants as kdf-field
-use Rattle.reader_header.specs.declared.BlobField.the-variants as blob-field
-use Rattle.reader_header.specs.Header.{onKdf, magicAt, cipherAt, noneAt, bcryptAt, kdfAt, countAt, blobFieldAt}
+use Rattle.reader_header.specs.declared.Header.{Header}
+use Rattle.reader_header.specs.declared.HeaderRead.the-variants as header-read
+use Rattle.reader_header.specs.Header.{onKdf, magicAt, cipherAt, noneAt, bcryptAt, kdfAt, keysAllowed, countAt, keysAt, headerAt}
 
 -- by cases, with the equation in hand
 pub by-cipher-name : {P : Type 0} (w : CipherName) → (w ≡ cipher-name.Unknown → P) → ((c : Cipher) → w ≡ cipher-name.Known c → P) → P
@@ -42,9 +48,16 @@ pub by-kdf-name : {P : Type 0} (w : KdfName) → (w ≡ kdf-name.Unknown → P) 
 by-kdf-name kdf-name.Unknown unknown known = unknown refl
 by-kdf-name (kdf-name.Known k) unknown known = known k refl
 
-pub by-blob : {P : Type 0} (w : Blob) → ((f : Fault) → w ≡ key.Refused f → P) → ((a : Algorithm) (p : Public) → w ≡ key.Key a p → P) → P
-by-blob (key.Refused f) refused read = refused f refl
-by-blob (key.Key a p) refused read = read a p refl
+pub by-cipher-field :
+    {P : Type 0} (w : CipherField) → ((f : Fault) → w ≡ cipher-field.Refused f → P) → ((k : Cipher) (c : Cursor) → w ≡ cipher-field.Cipher k c → P) → P
+by-cipher-field (cipher-field.Refused f) refused read = refused f refl
+by-cipher-field (cipher-field.Cipher k c) refused read = read k c refl
+
+pub by-kdf-field :
+    {P : Type 0} (w : KdfField) → ((f : Fault) → w ≡ kdf-field.Refused f → P)
+    → ((k : Kdf) (salt : Part) (rounds : ℕ) (c : Cursor) → w ≡ kdf-field.Options k salt rounds c → P) → P
+by-kdf-field (kdf-field.Refused f) refused read = refused f refl
+by-kdf-field (kdf-field.Options k salt rounds c) refused read = read k salt rounds c refl
 
 -- an accepted cipher: the limit, the magic, the name
 pub record CipherPlace (s : List ℕ) (cipher : Cipher) (d : Cursor) : Type 0 where
@@ -210,38 +223,83 @@ kdf-place s c k salt rounds d e =
     }))
 
 -- an accepted key count
-pub count-place : (s : List ℕ) (c : Cursor) (n : ℕ) (d : Cursor) → countAt s c ≡ uint32.Value n d → (uint32At s c ≡ uint32.Value 1 d) × (d .end ≡ c .end)
+pub record CountPlace (s : List ℕ) (c : Cursor) (n : ℕ) (d : Cursor) : Type 0 where
+  pub read : uint32At s c ≡ uint32.Value n d
+  pub allowed : keysAllowed n ≡ true
+  pub end : d .end ≡ c .end
+
+pub count-place : (s : List ℕ) (c : Cursor) (n : ℕ) (d : Cursor) → countAt s c ≡ uint32.Value n d → CountPlace s c n d
 unfolding countAt
 count-place s c n d e =
     by-uint32 (uint32At s c)
     (λ f w. let g : uint32.Refused f ≡ uint32.Value n d = rw w at e in clash cc)
     (λ m x w.
     let g = rw w at e in
-    by-bool (eqb m 1)
+    by-bool (keysAllowed m)
     (λ v.
     let h : uint32.Value m x ≡ uint32.Value n d = rw v at g in
-    let one : m ≡ 1 = eqb-true m 1 v in
-    let o : x ≡ d = cc in
-    let r : uint32At s c ≡ uint32.Value 1 d = rw (one, o) at w in
-    (r, uint32-place s c 1 d r .end))
+    let same : m ≡ n = cc in
+    let r : uint32At s c ≡ uint32.Value n d = w ∙ h in
+    record { read = r; allowed = rw same at v; end = uint32-place s c n d r .end })
     (λ v. let h = rw v at g in clash cc))
 
--- an accepted public blob
-pub blob-place :
-    (s : List ℕ) (c : Cursor) (a : Algorithm) (b : Part) (public : Public) (d : Cursor) → blobFieldAt s c ≡ blob-field.Key a b public d
-    → (stringAt s c ≡ field.Part b d) × (blobAt s (within b) ≡ key.Key a public)
-unfolding blobFieldAt
-blob-place s c a b public d e =
-    by-field (stringAt s c)
+-- there is a key
+pub keys-some : (n : ℕ) → keysAllowed n ≡ true → 0 < n
+keys-some n e = omega (arith, eqb-true n 1 e)
+
+-- and no more than sixteen
+pub keys-most : (n : ℕ) → keysAllowed n ≡ true → n ≤ 16
+keys-most n e = omega (arith, eqb-true n 1 e)
+
+-- accepted blobs: the first, and the others
+pub record KeysPlace (s : List ℕ) (c : Cursor) (more : ℕ) (a : Algorithm) (b : Part) (public : Public) (d : Cursor) : Type 0 where
+  pub after : Cursor
+  pub first : blobFieldAt s c ≡ blob-field.Key a b public after
+  pub others : blobsAt s after more ≡ blobs.After d
+
+pub keys-place :
+    (s : List ℕ) (c : Cursor) (more : ℕ) (a : Algorithm) (b : Part) (public : Public) (d : Cursor) → keysAt s c more ≡ blob-field.Key a b public d
+    → KeysPlace s c more a b public d
+unfolding keysAt
+keys-place s c more a b public d e =
+    by-blob-field (blobFieldAt s c)
     (λ f w. let g : blob-field.Refused f ≡ blob-field.Key a b public d = rw w at e in clash cc)
-    (λ p x w.
+    (λ j p q x w.
     let g = rw w at e in
-    by-blob (blobAt s (within p))
+    by-blobs (blobsAt s x more)
     (λ f v. let h : blob-field.Refused f ≡ blob-field.Key a b public d = rw v at g in clash cc)
-    (λ j q v.
-    let h : blob-field.Key j p q x ≡ blob-field.Key a b public d = rw v at g in
-    let i : j ≡ a = cc in
-    let o : p ≡ b = cc in
-    let l : q ≡ public = cc in
-    let m : x ≡ d = cc in
-    (rw (o, m) at w, rw (o, i, l) at v)))
+    (λ y v.
+    let h : blob-field.Key j p q y ≡ blob-field.Key a b public d = rw v at g in
+    let oj : j ≡ a = cc in
+    let op : p ≡ b = cc in
+    let oq : q ≡ public = cc in
+    let oy : y ≡ d = cc in
+    record { after = x; first = rw (oj, op, oq) at w; others = v ∙ ap blobs.After oy }))
+
+-- an accepted header's first blob lies within the image, and there is a key
+pub header-second : (s : List ℕ) (h : Header) → headerAt s ≡ header-read.Header h → (h .blob .start + h .blob .length ≤ length s) × (0 < h .count)
+unfolding headerAt
+header-second s h e =
+    by-cipher-field (cipherAt s)
+    (λ f w. let g : header-read.Refused f ≡ header-read.Header h = rw w at e in clash cc)
+    (λ cipher c p₁.
+    let g₁ = rw p₁ at e in
+    by-kdf-field (kdfAt s c)
+    (λ f w. let g : header-read.Refused f ≡ header-read.Header h = rw w at g₁ in clash cc)
+    (λ k salt rounds d p₂.
+    let g₂ = rw p₂ at g₁ in
+    by-uint32 (countAt s d)
+    (λ f w. let g : header-read.Refused f ≡ header-read.Header h = rw w at g₂ in clash cc)
+    (λ n i p₃.
+    let g₃ = rw p₃ at g₂ in
+    by-blob-field (keysAt s i (n - 1))
+    (λ f w. let g : header-read.Refused f ≡ header-read.Header h = rw w at g₃ in clash cc)
+    (λ a b public j p₄.
+    let g₄ :
+    header-read.Header
+    (record { cipher = cipher; kdf = k; salt = salt; rounds = rounds; count = n; algorithm = a; blob = b; public = public; section = j .at })
+    ≡ header-read.Header h = rw p₄ at g₃ in
+    let o : record { cipher = cipher; kdf = k; salt = salt; rounds = rounds; count = n; algorithm = a; blob = b; public = public; section = j .at } ≡ h = cc in
+    let first = keys-place s i (n - 1) a b public j p₄ .first in
+    let place = string-place s i b _ (blob-place s i a b public _ first .0) .placed in
+    rw (← o) (omega (arith, place), keys-some n (count-place s d n i p₃ .allowed))))))

@@ -1,6 +1,6 @@
-// The container's header: magic, cipher, KDF with its options, key count, public blob.
+// The container's header: magic, cipher, KDF with its options, key count, public blobs.
 ghost use mathlib.Core.Path.{_≡_};
-ghost use Rattle.reader_header.specs.Header.{magicAt, cipherAt, noneAt, bcryptAt, kdfAt, countAt, blobFieldAt, answersHeader};
+ghost use Rattle.reader_header.specs.Header.{magicAt, cipherAt, noneAt, bcryptAt, kdfAt, countAt, keysAt, answersHeader};
 use fields::Cursor;
 use fields::Ending;
 use fields::Fault;
@@ -8,21 +8,23 @@ use fields::Field;
 use fields::Part;
 use fields::Refusal;
 use fields::Uint32;
-use key_public::Blob;
 use key_public::Public;
 use names::Algorithm;
 use names::Cipher;
 use names::CipherName;
 use names::Kdf;
 use names::KdfName;
+use reader_blobs::BlobField;
+use reader_blobs::Blobs;
 
-// The first half of a record. A salt that the KDF doesn't have is absent, and its rounds are 0. section is
-// the place of the section's length field.
+// The first half of a record. A salt that the KDF doesn't have is absent, and its rounds are 0. algorithm, blob
+// and public are the first key's. section is the place of the section's length field.
 pub struct Header {
     pub cipher: Cipher,
     pub kdf: Kdf,
     pub salt: Part,
     pub rounds: u32,
+    pub count: usize,
     pub algorithm: Algorithm,
     pub blob: Part,
     pub public: Public,
@@ -182,33 +184,25 @@ fn read_count(c: Cursor, image: &[u8]) -> Uint32
     }
 }
 
-pub enum BlobField {
-    Key(Algorithm, Part, Public, Cursor),
-    Refused(Fault),
-}
-
-// The public blob: a string that is a public key and nothing after it.
-fn read_blob_field(c: Cursor, image: &[u8]) -> BlobField
-    ensures { λ r. ⌜ r ≡ blobFieldAt (now (image .entry)) c ⌝ }
+// The first public blob, and the place after the last of those that follow it.
+fn read_keys(c: Cursor, image: &[u8], more: usize) -> BlobField
+    ensures { λ r. ⌜ r ≡ keysAt (now (image .entry)) c more ⌝ }
 {
-    match c.string(image) {
-        Field::Refused(f) => BlobField::Refused(f),
-        Field::Part(p, d) => {
-            let start = p.start;
-            let length = p.length;
-            let inside = Cursor {
-                at: start,
-                end: start + length,
-            };
-            match key_public::read_blob(inside, image) {
-                Blob::Refused(f) => BlobField::Refused(f),
-                Blob::Key(a, public) => BlobField::Key(a, p, public, d),
+    match reader_blobs::read_blob_field(c, image) {
+        BlobField::Refused(f) => BlobField::Refused(f),
+        BlobField::Key(a, p, public, d) => {
+            if more == 0 {
+                return BlobField::Key(a, p, public, d);
+            }
+            match reader_blobs::read_blobs(d, image, more) {
+                Blobs::Refused(f) => BlobField::Refused(f),
+                Blobs::After(e) => BlobField::Key(a, p, public, e),
             }
         }
     }
 }
 
-// The header read: up to and with the public blob. Whether there is a section, and what it holds, isn't
+// The header read: up to and with the last public blob. Whether there is a section, and what it holds, isn't
 // looked at.
 pub fn read_header(image: &[u8]) -> HeaderRead
     ensures { λ r. ⌜ answersHeader (now (image .entry)) r ⌝ }
@@ -219,7 +213,7 @@ pub fn read_header(image: &[u8]) -> HeaderRead
             KdfField::Refused(f) => HeaderRead::Refused(f),
             KdfField::Options(kdf, salt, rounds, d) => match read_count(d, image) {
                 Uint32::Refused(f) => HeaderRead::Refused(f),
-                Uint32::Value(_, e) => match read_blob_field(e, image) {
+                Uint32::Value(n, e) => match read_keys(e, image, n as usize - 1) {
                     BlobField::Refused(f) => HeaderRead::Refused(f),
                     BlobField::Key(a, blob, public, g) => {
                         let section = g.at;
@@ -228,6 +222,7 @@ pub fn read_header(image: &[u8]) -> HeaderRead
                             kdf: kdf,
                             salt: salt,
                             rounds: rounds,
+                            count: n as usize,
                             algorithm: a,
                             blob: blob,
                             public: public,

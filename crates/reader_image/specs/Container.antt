@@ -1,11 +1,11 @@
 -- docs/RULES.md, 4.7, 4.8, 7.2, 8.2 and 8.3: the section that goes on from a header. The full read is the header read followed by the
--- section's, and a section read of its own is handed a half (9.3). 10.9: a scalar is filled with zeros.
-use Prim.Native.Nat.{ℕ, _+_}
+-- section's, and a section read of its own is handed a half (9.3). 9.4: the keys that a record has. 10.9: a scalar is filled with zeros.
+use Prim.Native.Nat.{ℕ, _+_, _-_}
 use mathlib.Core.Path.{_≡_}
-use mathlib.Core.List.{List}
+use mathlib.Core.List.{List, [], _∷_, map}
 use mathlib.Core.Bool.{cond}
-use lib.ListN.{length}
-use Rattle.fields.specs.Fields.{fault, absent}
+use lib.ListN.{length, take}
+use Rattle.fields.specs.Fields.{fault, absent, viewOf}
 use Rattle.fields.specs.Refusals.{numberOf, countOf}
 use Rattle.fields.specs.declared.Refusal.the-variants.{Length, Crypto}
 use Rattle.fields.specs.declared.Fault.{Fault}
@@ -13,11 +13,13 @@ use Rattle.fields.specs.Bytes.{string}
 use Rattle.reader_header.specs.declared.Header.{Header}
 use Rattle.names.specs.declared.Cipher.the-variants as cipher
 use Rattle.names.specs.Ciphers.{isNone, cipherName}
-use Rattle.reader_header.specs.Header.{onKdf, onHeaderRead, headerAt, noHeader}
+use Rattle.reader_header.specs.Header.{onKdf, onHeaderRead, headerAt, secondBlob, noHeader}
 use Rattle.handed_header.specs.Halves.{isHeader}
-use Rattle.format.specs.Format.{PublicBytes, PrivateBytes, filled, magic}
+use Rattle.format.specs.Format.{PublicBytes, PrivateBytes, Key, keyOf, filled, magic}
 use Rattle.key_public.specs.Keys.{publicBytes}
 use Rattle.key_pairs.specs.Pairs.{scalarPlace, privateBytes}
+use Rattle.places.specs.Places.{placesOf, afterFirst}
+use Rattle.reader_entries.specs.Entries.{keyRead}
 use Rattle.reader_section.specs.declared.Kind.the-variants.{Plain}
 use Rattle.reader_section.specs.declared.SectionRead.{SectionRead}
 use Rattle.reader_section.specs.declared.SectionRead.the-variants as section-read
@@ -39,7 +41,7 @@ unfoldable pub sectionAt : List ℕ → Header → SectionRead
 sectionAt s h =
     cond (isNone (h .cipher))
     (onKdf (h .kdf)
-    (plainAt s (record { at = h .section; end = length s }) (h .algorithm) (h .public))
+    (plainAt s (record { at = h .section; end = length s }) (h .algorithm) (h .public) (secondBlob s h) (h .count - 1))
     (section-read.Refused (fault Crypto kdfNamePlace)))
     (encryptedAt s (record { at = h .section; end = length s }) (h .cipher))
 
@@ -55,7 +57,7 @@ readAt s = onHeaderRead (headerAt s) read.Refused (λ h. goOnAt s h)
 unfoldable pub sectionReadAt : List ℕ → Header → ImageRead
 sectionReadAt s half = cond (isHeader s half) (goOnAt s half) (read.Refused (fault Length 0))
 
--- the bytes of a record's key
+-- the bytes of a record's first key
 abbrev pub publicIn : List ℕ → Fields → PublicBytes
 publicIn s f = publicBytes s (f .header .public)
 
@@ -65,6 +67,18 @@ privateIn s f = privateBytes s (f .section .private)
 -- its private bytes as a writer takes them: a scalar is filled with zeros in front to SIZE
 abbrev pub materialIn : List ℕ → Fields → PrivateBytes
 materialIn s f = filled (f .header .algorithm) (privateIn s f)
+
+-- ---- a record's keys
+
+-- the first, by its own fields; the others, by the places at which they begin
+abbrev pub firstIn : List ℕ → Fields → Key
+firstIn s f = keyOf (f .header .algorithm) (publicIn s f) (privateIn s f) (viewOf s (f .section .comment))
+
+abbrev pub otherPlaces : Fields → List ℕ
+otherPlaces f = take (f .header .count - 1) (afterFirst (f .section .places))
+
+unfoldable pub keysIn : List ℕ → Fields → List Key
+keysIn s f = firstIn s f ∷ map (keyRead s) (otherPlaces f)
 
 -- ---- the rules' reply to a read
 
@@ -80,6 +94,7 @@ noFields =
             padding = 0;
             private = scalarPlace absent;
             comment = absent;
+            places = placesOf [];
             ciphertext = absent;
             tag = absent;
           };

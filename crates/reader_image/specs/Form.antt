@@ -3,11 +3,11 @@
 use Prim.Native.Nat.{ℕ}
 use mathlib.Core.Path.{_≡_}
 use mathlib.Core.Bool.{Bool, true, false}
-use mathlib.Core.List.{List}
+use mathlib.Core.List.{List, map}
 use Rattle.fields.specs.Bytes.{sameBytes}
 use Rattle.fields.specs.Fields.{viewOf}
 use Rattle.fields.specs.declared.Fault.{Fault}
-use Rattle.format.specs.Format.{leadingZero, zeroLength, writtenImage, encryptedImage}
+use Rattle.format.specs.Format.{leadingZero, zeroLength, writtenImage, encryptedImage, filledKey}
 use Rattle.fields.specs.declared.Part.{Part}
 use Rattle.names.specs.declared.Algorithm.{Algorithm}
 use Rattle.names.specs.declared.Elliptic.{Elliptic}
@@ -21,7 +21,7 @@ use Rattle.reader_image.specs.declared.FormRead.{FormRead}
 use Rattle.reader_image.specs.declared.FormRead.the-variants as form-read
 use Rattle.reader_image.specs.declared.ImageRead.{ImageRead}
 use Rattle.reader_image.specs.declared.ImageRead.the-variants as read
-use Rattle.reader_image.specs.Container.{publicIn, materialIn, onRead, readAt, sectionReadAt, ToldRead, toldRead}
+use Rattle.reader_image.specs.Container.{keysIn, onRead, readAt, sectionReadAt, ToldRead, toldRead}
 
 abbrev pub onKind : {R : Type 0} → Kind → R → R → R
 onKind Plain plain encrypted = plain
@@ -31,7 +31,7 @@ onKind Encrypted plain encrypted = encrypted
 unfoldable pub rewritten : List ℕ → Fields → List ℕ
 rewritten s f =
     onKind (f .section .kind)
-    (writtenImage (f .section .checkint) (f .header .algorithm) (publicIn s f) (materialIn s f) (viewOf s (f .section .comment)))
+    (writtenImage (f .section .checkint) (map filledKey (keysIn s f)))
     (encryptedImage (f .header .cipher) (f .header .kdf) (viewOf s (f .header .salt)) (f .header .rounds) (viewOf s (f .header .blob))
     (viewOf s (f .section .ciphertext)) (viewOf s (f .section .tag)))
 

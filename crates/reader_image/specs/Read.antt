@@ -1,9 +1,10 @@
 -- Inversion: an accepted image is the join of its fields, its scalar in the form that it had, for plain and for encrypted images.
-use Prim.Native.Nat.{ℕ, _+_, _-_, _≤_, _<_, _^_}
+use Prim.Native.Nat.{ℕ, suc, _+_, _-_, _≤_, _<_, _^_}
 use native.Mathlib.Omega.{arith}
-use mathlib.Core.Path.{_≡_, refl, sym, _∙_, ap}
+use mathlib.Core.Path.{_≡_, refl, sym, _∙_, ap, ap₂}
 use mathlib.Core.Bool.{true, false}
-use mathlib.Core.List.{List, [], _++_, append-nil}
+use mathlib.Core.List.{List, [], _∷_, _++_, map, append-nil}
+use borrow.Author.Tests.{eqb-true}
 use lib.ListN.{length, length-append}
 use lib.Seq.{slice, length-slice}
 use Rattle.fields.specs.Bytes.{string, AllBytes}
@@ -17,24 +18,28 @@ use Rattle.names.specs.declared.Cipher.the-variants as cipher
 use Rattle.names.specs.declared.Kdf.{Kdf}
 use Rattle.names.specs.declared.Kdf.the-variants as kdf
 use Rattle.names.specs.Ciphers.{isNone, none-only}
-use Rattle.format.specs.Format.{blob, keypair, section, header, plainImage, encryptedImage}
+use Rattle.format.specs.Format.{Key, keyBlob, entry, alone, blob, keypair, standingEntries, section, header, plainImage, encryptedImage}
 use Rattle.laws_keys.specs.ReadPair.{IfScalar, Begins}
 use Rattle.reader_header.specs.declared.Header.{Header}
 use Rattle.reader_header.specs.declared.HeaderRead.the-variants as header-read
-use Rattle.reader_header.specs.Header.{onKdf, headerAt}
+use Rattle.reader_blobs.specs.Blobs.{blobBytes}
+use Rattle.reader_header.specs.Header.{onKdf, keysAllowed, headerAt, secondBlob}
+use Rattle.reader_header.specs.Place.{keys-some}
 use Rattle.reader_header.specs.Read.{HeaderText, header-text}
 use Rattle.handed_header.specs.Halves.{by-header}
 use Rattle.reader_section.specs.declared.Kind.the-variants.{Plain, Encrypted}
 use Rattle.reader_section.specs.declared.Section.{Section}
 use Rattle.reader_section.specs.declared.SectionRead.the-variants as section-read
 use Rattle.reader_section.specs.Section.{plainAt, encryptedAt}
-use Rattle.reader_section.specs.Back.{KeyFits}
+use Rattle.places.specs.Places.{within-more}
+use Rattle.reader_entries.specs.Entries.{keyRead}
+use Rattle.reader_entries.specs.Back.{KeyFits, AllFit}
 use Rattle.reader_section.specs.Read.{by-section, beforeComment, PlainRead, plain-read}
 use Rattle.reader_section.specs.ReadEncrypted.{EncryptedRead, encrypted-read}
 use Rattle.reader_image.specs.declared.Fields.{Fields}
 use Rattle.reader_image.specs.declared.ImageRead.the-variants as read
-use Rattle.reader_image.specs.Container.{publicIn, privateIn, kdfNamePlace, sectionAt, readAt}
-use Rattle.reader_image.specs.Back.{SealFits}
+use Rattle.reader_image.specs.Container.{publicIn, privateIn, firstIn, otherPlaces, keysIn, kdfNamePlace, sectionAt, readAt}
+use Rattle.reader_image.specs.Back.{SealFits, others-told}
 
 -- the two reads of an accepted image
 pub halves : (s : List ℕ) (f : Fields) → readAt s ≡ read.Record f → (headerAt s ≡ header-read.Header (f .header)) × (sectionAt s (f .header) ≡ section-read.Section (f .section))
@@ -55,7 +60,7 @@ halves s f e =
 
 -- an accepted section is plain where there is no cipher and no KDF, and encrypted where there is a cipher
 data Sections (s : List ℕ) (h : Header) (x : Section) : Type 0 where
-  plain : cipher.None ≡ h .cipher → kdf.None ≡ h .kdf → plainAt s (record { at = h .section; end = length s }) (h .algorithm) (h .public) ≡ section-read.Section x → Sections s h x
+  plain : cipher.None ≡ h .cipher → kdf.None ≡ h .kdf → plainAt s (record { at = h .section; end = length s }) (h .algorithm) (h .public) (secondBlob s h) (h .count - 1) ≡ section-read.Section x → Sections s h x
   encrypted : isNone (h .cipher) ≡ false → encryptedAt s (record { at = h .section; end = length s }) (h .cipher) ≡ section-read.Section x → Sections s h x
 
 sections : (s : List ℕ) (h : Header) (x : Section) → sectionAt s h ≡ section-read.Section x → Sections s h x
@@ -70,26 +75,75 @@ sections s h x e =
 
     by-kdf :
         (k : Kdf) → k ≡ h .kdf → isNone (h .cipher) ≡ true
-        → onKdf k (plainAt s c (h .algorithm) (h .public)) (section-read.Refused (fault Crypto kdfNamePlace)) ≡ section-read.Section x → Sections s h x
+        → onKdf k (plainAt s c (h .algorithm) (h .public) (secondBlob s h) (h .count - 1)) (section-read.Refused (fault Crypto kdfNamePlace)) ≡ section-read.Section x → Sections s h x
     by-kdf kdf.None q w g = plain (none-only (h .cipher) w) q g
     by-kdf kdf.Bcrypt q w g = clash cc
 
 -- an accepted plain image
+pub record KeysText (s : List ℕ) (f : Fields) : Type 0 where
+  pub zeros : ℕ
+  pub more-zeros : List ℕ
+  pub fits : length s ≤ 65535
+  pub text :
+      s ≡ plainImage (f .section .checkint) (map keyBlob (keysIn s f)) (standingEntries (zeros ∷ more-zeros) (keysIn s f))
+  pub keys-fit : AllFit (zeros ∷ more-zeros) (keysIn s f)
+  pub checkint-fits : f .section .checkint < 2 ^ 32
+  pub begins : IfScalar (f .header .algorithm) (Begins s (f .section .private .scalar) zeros)
+  pub content : viewOf s (f .header .blob) ≡ blob (f .header .algorithm) (publicIn s f)
+  pub allowed : keysAllowed (f .header .count) ≡ true
+  pub section-place : f .header .section ≡ length (header cipher.None kdf.None [] 0 (map keyBlob (keysIn s f)))
+  pub comment-place :
+      f .section .comment .start
+      ≡ f .header .section + 4 + beforeComment (keypair (f .header .algorithm) zeros (publicIn s f) (privateIn s f)) + 4
+
+-- of one key
 pub record PlainText (s : List ℕ) (f : Fields) : Type 0 where
   pub zeros : ℕ
   pub fits : length s ≤ 65535
   pub text :
       s
-      ≡ plainImage (f .section .checkint) (blob (f .header .algorithm) (publicIn s f)) (keypair (f .header .algorithm) zeros (publicIn s f) (privateIn s f))
-      (viewOf s (f .section .comment))
+      ≡ plainImage (f .section .checkint) (alone (blob (f .header .algorithm) (publicIn s f)))
+      (alone (entry (keypair (f .header .algorithm) zeros (publicIn s f) (privateIn s f)) (viewOf s (f .section .comment))))
   pub key-fits : KeyFits (f .header .algorithm) zeros (publicIn s f) (privateIn s f) (viewOf s (f .section .comment))
   pub checkint-fits : f .section .checkint < 2 ^ 32
   pub begins : IfScalar (f .header .algorithm) (Begins s (f .section .private .scalar) zeros)
   pub content : viewOf s (f .header .blob) ≡ blob (f .header .algorithm) (publicIn s f)
-  pub section-place : f .header .section ≡ length (header cipher.None kdf.None [] 0 (blob (f .header .algorithm) (publicIn s f)))
+  pub one-key : keysIn s f ≡ alone (firstIn s f)
+  pub section-place : f .header .section ≡ length (header cipher.None kdf.None [] 0 (alone (blob (f .header .algorithm) (publicIn s f))))
   pub comment-place :
       f .section .comment .start
       ≡ f .header .section + 4 + beforeComment (keypair (f .header .algorithm) zeros (publicIn s f) (privateIn s f)) + 4
+
+-- a record of one key has no others
+pub keys-alone : (s : List ℕ) (f : Fields) → f .header .count ≡ 1 → keysIn s f ≡ alone (firstIn s f)
+unfolding keysIn
+keys-alone s f e =
+    let none : f .header .count - 1 ≡ 0 = omega (arith, e) in
+    rw none
+
+no-more : (zeros : ℕ) (zs : List ℕ) (k : Key) → AllFit (zeros ∷ zs) (alone k) → zs ≡ []
+no-more zeros [] k fits = refl
+no-more zeros (z ∷ zs) k fits = absurd (fits .1)
+
+pub one-text : (s : List ℕ) (f : Fields) → KeysText s f → PlainText s f
+one-text s f p =
+    let one = keys-alone s f (eqb-true (f .header .count) 1 (p .allowed)) in
+    let fits : AllFit (p .zeros ∷ p .more-zeros) (alone (firstIn s f)) = rw one at (p .keys-fit) in
+    let none = no-more (p .zeros) (p .more-zeros) (firstIn s f) fits in
+    record {
+      zeros = p .zeros;
+      fits = p .fits;
+      text =
+          p .text
+          ∙ ap₂ (λ (keys : List Key) (zs : List ℕ). plainImage (f .section .checkint) (map keyBlob keys) (standingEntries (p .zeros ∷ zs) keys)) one none;
+      key-fits = fits .0;
+      checkint-fits = p .checkint-fits;
+      begins = p .begins;
+      content = p .content;
+      one-key = one;
+      section-place = p .section-place ∙ ap (λ (keys : List Key). length (header cipher.None kdf.None [] 0 (map keyBlob keys))) one;
+      comment-place = p .comment-place;
+    }
 
 -- an accepted encrypted image
 pub record EncryptedText (s : List ℕ) (f : Fields) : Type 0 where
@@ -104,10 +158,10 @@ pub record EncryptedText (s : List ℕ) (f : Fields) : Type 0 where
 
 -- a header with neither cipher nor KDF has no options
 header-plain :
-    (c : Cipher) (k : Kdf) (salt : List ℕ) (rounds : ℕ) (key : List ℕ) → cipher.None ≡ c → kdf.None ≡ k
-    → header c k salt rounds key ≡ header cipher.None kdf.None [] 0 key
+    (c : Cipher) (k : Kdf) (salt : List ℕ) (rounds : ℕ) (keys : List (List ℕ)) → cipher.None ≡ c → kdf.None ≡ k
+    → header c k salt rounds keys ≡ header cipher.None kdf.None [] 0 keys
 unfolding header
-header-plain c k salt rounds key nc nk = rw (← nc, ← nk)
+header-plain c k salt rounds keys nc nk = rw (← nc, ← nk)
 
 -- a section begins where the header ends
 section-starts :
@@ -123,41 +177,58 @@ module _ (s : List ℕ) (all : AllBytes s) (f : Fields) (e : readAt s ≡ read.R
 
   plain-joined :
       cipher.None ≡ f .header .cipher → kdf.None ≡ f .header .kdf
-      → PlainRead s all (record { at = f .header .section; end = length s }) (f .header .algorithm) (f .header .public) (f .section) → PlainText s f
-  unfolding plainImage
+      → PlainRead s all (record { at = f .header .section; end = length s }) (f .header .algorithm) (f .header .public) (secondBlob s (f .header))
+      (f .header .count - 1) (f .section) → KeysText s f
+  unfolding plainImage keysIn
   plain-joined nc nk x =
       let h = head in
+      let g = x .found in
       let a = f .header .algorithm in
-      let key = blob a (publicIn s f) in
-      let body = section (f .section .checkint) (keypair a (x .zeros) (publicIn s f) (privateIn s f)) (viewOf s (f .section .comment)) in
-      let front : s ≡ header cipher.None kdf.None [] 0 key ++ rest s (record { at = f .header .section; end = length s }) =
+      let some = keys-some (f .header .count) (h .allowed) in
+      let counted : f .header .count ≡ suc (length (g .others)) = omega (arith, some, g .counted) in
+      let places : otherPlaces f ≡ g .others =
+      others-told (f .header .count) (f .section .places) (x .inside .at + 8) (g .others) (length (g .others)) counted refl (h .allowed) (g .listed)
+      (within-more (length s) 65535 (g .others) (h .fits) (g .inside)) in
+      let others = map (keyRead s) (g .others) in
+      let keys = firstIn s f ∷ others in
+      let blobs = map keyBlob keys in
+      let body = section (f .section .checkint) (standingEntries (g .zeros ∷ g .more-zeros) keys) in
+      let tail = rest s (record { at = f .header .section; end = length s }) in
+      let front : s ≡ header cipher.None kdf.None [] 0 blobs ++ tail =
       h .text
-      ∙ ap (λ (o : List ℕ). o ++ rest s (record { at = f .header .section; end = length s }))
-      (header-plain (f .header .cipher) (f .header .kdf) (viewOf s (f .header .salt)) (f .header .rounds) key nc nk) in
+      ∙ ap (λ (o : List ℕ). o ++ tail)
+      (ap (λ (l : List (List ℕ)). header (f .header .cipher) (f .header .kdf) (viewOf s (f .header .salt)) (f .header .rounds) (blob a (publicIn s f) ∷ l)) (g .blobs)
+      ∙ header-plain (f .header .cipher) (f .header .kdf) (viewOf s (f .header .salt)) (f .header .rounds) blobs nc nk) in
+      let text : s ≡ plainImage (f .section .checkint) blobs (standingEntries (g .zeros ∷ g .more-zeros) keys) =
+      front ∙ ap (λ (t : List ℕ). header cipher.None kdf.None [] 0 blobs ++ t) (x .text ∙ sym (append-nil (string body))) in
       record {
-        zeros = x .zeros;
+        zeros = g .zeros;
+        more-zeros = g .more-zeros;
         fits = h .fits;
-        text = front ∙ ap (λ (t : List ℕ). header cipher.None kdf.None [] 0 key ++ t) (x .text ∙ sym (append-nil (string body)));
-        section-place = section-starts s (f .header .section) (header cipher.None kdf.None [] 0 key) (h .good) front;
-        comment-place = x .place;
-        key-fits = x .fits;
-        checkint-fits = x .checkint;
-        begins = x .begins;
+        text = rw places text;
+        keys-fit = rw places (g .fits);
+        section-place = rw places (section-starts s (f .header .section) (header cipher.None kdf.None [] 0 blobs) (h .good) front);
+        comment-place = g .place ∙ omega (arith, x .starts);
+        checkint-fits = g .checkint;
+        begins = g .begins;
         content = h .content;
+        allowed = h .allowed;
       }
 
   encrypted-joined :
       isNone (f .header .cipher) ≡ false → EncryptedRead s all (record { at = f .header .section; end = length s }) (f .header .cipher) (f .section)
       → EncryptedText s f
-  unfolding encryptedImage
+  unfolding encryptedImage blobBytes
   encrypted-joined w x =
       let h = head in
-      let front = header (f .header .cipher) (f .header .kdf) (viewOf s (f .header .salt)) (f .header .rounds) (viewOf s (f .header .blob)) in
+      let one : f .header .count - 1 ≡ 0 = omega (arith, eqb-true (f .header .count) 1 (h .allowed)) in
+      let front = header (f .header .cipher) (f .header .kdf) (viewOf s (f .header .salt)) (f .header .rounds) (alone (viewOf s (f .header .blob))) in
+      let text : s ≡ front ++ rest s (record { at = f .header .section; end = length s }) = rw (one, ← h .content) at (h .text) in
       let ciphertext = viewOf s (f .section .ciphertext) in
       let tag = viewOf s (f .section .tag) in
       record {
         fits = h .fits;
-        text = rw (← h .content) at (h .text) ∙ ap (λ (t : List ℕ). front ++ t) (x .text ∙ ap (λ (t : List ℕ). string ciphertext ++ t) (sym (append-nil tag)));
+        text = text ∙ ap (λ (t : List ℕ). front ++ t) (x .text ∙ ap (λ (t : List ℕ). string ciphertext ++ t) (sym (append-nil tag)));
         seal-fits =
             record {
               encrypts = w;
@@ -181,5 +252,7 @@ module _ (s : List ℕ) (all : AllBytes s) (f : Fields) (e : readAt s ≡ read.R
       c = record { at = f .header .section; end = length s }
 
       go : Sections s (f .header) (f .section) → ImageText
-      go (plain nc nk g) = let x = plain-read s all c (f .header .algorithm) (f .header .public) (f .section) g in plain-text (x .plain) (plain-joined nc nk x)
+      go (plain nc nk g) =
+          let x = plain-read s all c (f .header .algorithm) (f .header .public) (secondBlob s (f .header)) (f .header .count - 1) (f .section) refl g in
+          plain-text (x .found .plain) (one-text s f (plain-joined nc nk x))
       go (encrypted w g) = let x = encrypted-read s all c (f .header .cipher) (f .section) g in encrypted-text (x .encrypted) (encrypted-joined w x)

@@ -1,7 +1,8 @@
 // An image read whole, and its section read from a header half that is handed in. Both go through one
 // section step. The record's fields are plain data, places in the image among them.
 ghost use mathlib.Core.Path.{_≡_};
-ghost use Prim.Native.Nat.{_<_};
+ghost use Prim.Native.Nat.{_+_, _≤_, _<_};
+ghost use lib.ListN.{length};
 ghost use Rattle.reader_image.specs.Container.{sectionAt, answersRead, answersSection};
 ghost use Rattle.reader_image.specs.Form.{scalarStands, scalarInForm, recordInForm, answersForm, answersSectionForm};
 ghost use Rattle.key_pairs.specs.Pairs.{beginsBefore};
@@ -32,6 +33,7 @@ pub enum ImageRead {
 // The section that goes on from a header. A plain one needs the KDF `none`, whose name begins at 23 after
 // the cipher's.
 fn section_step(image: &[u8], header: Header) -> SectionRead
+    requires { ⌜ (header .blob .start + header .blob .length ≤ length (now image)) × (0 < header .count) ⌝ }
     ensures { λ r. ⌜ r ≡ sectionAt (now (image .entry)) header ⌝ }
 {
     let at = header.section;
@@ -41,9 +43,17 @@ fn section_step(image: &[u8], header: Header) -> SectionRead
     let kdf = header.kdf;
     let algorithm = header.algorithm;
     let public = header.public;
+    let count = header.count;
+    let first = header.blob;
     if cipher.is_none() {
         match kdf {
-            Kdf::None => return reader_section::read_plain(c, image, algorithm, public),
+            Kdf::None => {
+                let second = Cursor {
+                    at: first.start + first.length,
+                    end: end,
+                };
+                return reader_section::read_plain(c, image, algorithm, public, second, count - 1);
+            }
             Kdf::Bcrypt => {
                 return SectionRead::Refused(Fault {
                     why: Refusal::Crypto,

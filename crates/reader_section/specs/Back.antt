@@ -1,41 +1,37 @@
 -- Reading back: a section that ends an image as the format writes it is read, with its fields.
-use Prim.Native.Nat.{ℕ, _+_, _-_, _%_, _<_, _^_}
+use Prim.Native.Nat.{ℕ, _+_, _-_, _%_, _≤_, _<_, _^_}
 use native.Mathlib.Omega.{arith}
 use mathlib.Core.Path.{_≡_, refl, sym, _∙_, ap}
-use mathlib.Core.Bool.{true}
-use mathlib.Core.List.{List, [], _++_, append-nil}
+use mathlib.Core.List.{List, [], _∷_, _++_, map, append-nil}
 use borrow.Author.Tests.{eq-eqb, eqb-true, lt-ltb}
 use lib.Dec.{eqb}
 use lib.ListN.{length, take}
 use lib.Seq.{slice, length-slice}
-use Rattle.fields.specs.Bytes.{uint32, string, same-self, length-zero}
-use Rattle.fields.specs.Fields.{part, absent, within, viewOf}
+use Rattle.fields.specs.Bytes.{uint32, string, join, same-self, length-zero}
+use Rattle.fields.specs.Fields.{part, within, uint32At, viewOf}
 use Rattle.fields.specs.Room.{view-in}
-use Rattle.fields.specs.Place.{by-bool}
+use Rattle.fields.specs.Place.{clash, by-bool, by-uint32, uint32-place, string-place}
 use Rattle.fields.specs.Rest.{rest, Good, rest-within, view-absent}
 use Rattle.fields.specs.Back.{Uint32Back, short-of, bytes-back, string-back, uint32-back, end-back}
 use Rattle.fields.specs.declared.Cursor.{Cursor}
 use Rattle.fields.specs.declared.Part.{Part}
 use Rattle.fields.specs.declared.Ending.the-variants as ending
-use Rattle.names.specs.declared.Algorithm.{Algorithm}
+use Rattle.fields.specs.declared.Uint32.the-variants as uint32-read
 use Rattle.names.specs.declared.Cipher.{Cipher}
-use Rattle.names.specs.Algorithms.{algorithm-self}
 use Rattle.names.specs.Ciphers.{blockSize, tagLength}
-use Rattle.utf8.specs.Utf8.{utf8}
-use Rattle.format.specs.Format.{PublicBytes, PrivateBytes, PublicFits, PrivateFits, MayStand, keypair, content, section, paddingLength, paddingBytes}
+use Rattle.format.specs.Format.{Key, Entry, keyBlob, blobFields, entryFields, standingEntries, content, section, paddingLength, paddingBytes}
 use Rattle.key_public.specs.declared.Public.{Public}
 use Rattle.key_public.specs.Keys.{publicBytes}
-use Rattle.key_pairs.specs.declared.Private.{Private}
 use Rattle.key_pairs.specs.Pairs.{privateBytes}
 use Rattle.format.specs.Laws.{content-then, section-length, padding-length}
-use Rattle.laws_keys.specs.Back.{keypair-back}
-use Rattle.reader_section.specs.declared.Entry.{Entry}
-use Rattle.reader_section.specs.declared.Entry.the-variants as entry
+use Rattle.places.specs.Places.{AllWithin, placesOf}
+use Rattle.reader_entries.specs.Entries.{keyRead}
+use Rattle.reader_entries.specs.Back.{AllFit, keys-back}
 use Rattle.reader_section.specs.declared.Kind.the-variants.{Plain, Encrypted}
 use Rattle.reader_section.specs.declared.Section.{Section}
 use Rattle.reader_section.specs.declared.SectionRead.{SectionRead}
 use Rattle.reader_section.specs.declared.SectionRead.the-variants as section-read
-use Rattle.reader_section.specs.Section.{checkintsAt, sameKey, entryAt, paddingAt, contentAt, plainAt, encryptedOf, presentOf, encryptedAt}
+use Rattle.reader_section.specs.Section.{checkintsAt, paddingAt, plainOf, closedAt, contentAt, endedAt, plainAt, encryptedOf, presentOf, encryptedAt}
 
 pub checkints-back : (s : List ℕ) (c : Cursor) → Good s c → (n : ℕ) (t : List ℕ) → n < 2 ^ 32 → rest s c ≡ uint32 n ++ (uint32 n ++ t) → Uint32Back s (checkintsAt s c) n t
 unfolding checkintsAt
@@ -48,6 +44,24 @@ checkints-back s c good n t fits e =
       good = b .good;
       more = b .more;
     }
+
+checkints-end : (s : List ℕ) (c : Cursor) (n : ℕ) (d : Cursor) → checkintsAt s c ≡ uint32-read.Value n d → d .end ≡ c .end
+unfolding checkintsAt
+checkints-end s c n d e =
+    by-uint32 (uint32At s c)
+    (λ f w. let g : uint32-read.Refused f ≡ uint32-read.Value n d = rw w at e in clash cc)
+    (λ a b w.
+    let g = rw w at e in
+    by-uint32 (uint32At s b)
+    (λ f v. let h : uint32-read.Refused f ≡ uint32-read.Value n d = rw v at g in clash cc)
+    (λ m x v.
+    let h = rw v at g in
+    by-bool (eqb m a)
+    (λ u.
+    let i : uint32-read.Value a x ≡ uint32-read.Value n d = rw u at h in
+    let last : x ≡ d = cc in
+    ap (λ (y : Cursor). y .end) (sym last) ∙ uint32-place s b m x v .end ∙ uint32-place s c a b w .end)
+    (λ u. let i = rw u at h in clash cc)))
 
 -- what is left, as the padding's part
 pub rest-padding : (s : List ℕ) (c : Cursor) → Good s c → viewOf s (part (c .at) (c .end - c .at)) ≡ rest s c
@@ -63,129 +77,89 @@ padding-back s c good n e =
     let seen : viewOf s (part (c .at) (c .end - c .at)) ≡ take (paddingLength n) paddingBytes = rest-padding s c good ∙ e in
     (rw (seen, left, lt-ltb (paddingLength n) 8 (omega arith), same-self (take (paddingLength n) paddingBytes)), left)
 
--- a key that fits the format, a scalar in a form that it may have, and a comment that is UTF-8
-pub record KeyFits (a : Algorithm) (zeros : ℕ) (key : PublicBytes) (x : PrivateBytes) (comment : List ℕ) : Type 0 where
-  pub public : PublicFits a key
-  pub private : PrivateFits a key x
-  pub may : MayStand a zeros x
-  pub text : utf8 comment ≡ true
-
-record EntryBack (s : List ℕ) (w : Entry) (x : PrivateBytes) (comment t : List ℕ) : Type 0 where
-  pub private : Private
-  pub place : Part
-  pub next : Cursor
-  pub read : w ≡ entry.Key private place next
-  pub kept : privateBytes s private ≡ x
-  pub seen : viewOf s place ≡ comment
-  pub size : place .length ≡ length comment
-  pub good : Good s next
-  pub more : rest s next ≡ t
-
--- places with the same bytes are the same key
-key-self : (s : List ℕ) (a : Algorithm) (p q : Public) → publicBytes s p ≡ publicBytes s q → sameKey s a p a q ≡ true
-unfolding sameKey publicBytes
-key-self s a p q e =
-    let point : viewOf s (p .point) ≡ viewOf s (q .point) = ap (λ (k : PublicBytes). k .point) e in
-    let modulus : viewOf s (p .modulus) ≡ viewOf s (q .modulus) = ap (λ (k : PublicBytes). k .modulus) e in
-    let exponent : viewOf s (p .exponent) ≡ viewOf s (q .exponent) = ap (λ (k : PublicBytes). k .exponent) e in
-    rw (
-      algorithm-self a,
-      point,
-      modulus,
-      exponent,
-      same-self (viewOf s (q .point)),
-      same-self (viewOf s (q .modulus)),
-      same-self (viewOf s (q .exponent)),
-    )
-
-entry-back :
-    (s : List ℕ) (c : Cursor) → Good s c → length s < 2 ^ 32 → (a : Algorithm) (q : Public) (zeros : ℕ) (x : PrivateBytes) (comment t : List ℕ)
-    → KeyFits a zeros (publicBytes s q) x comment → rest s c ≡ keypair a zeros (publicBytes s q) x ++ (string comment ++ t)
-    → EntryBack s (entryAt s c a q) x comment t
-unfolding entryAt
-entry-back s c good small a q zeros x comment t fits e =
-    let p = keypair-back s c good small a zeros (publicBytes s q) x (string comment ++ t) (fits .public) (fits .private) (fits .may) e in
-    let m = string-back s (p .next) (p .good) comment t (short-of s (p .next) (p .good) small comment t (p .more)) (p .more) in
-    record {
-      private = p .private;
-      place = m .place;
-      next = m .next;
-      read = rw (p .read, key-self s a (p .place) q (p .seen), m .read, m .seen, fits .text);
-      kept = p .kept;
-      seen = m .seen;
-      size = m .size;
-      good = m .good;
-      more = m .more;
-    }
-
--- what a plain section gives back
-pub record PlainBack (s : List ℕ) (w : SectionRead) (n : ℕ) (x : PrivateBytes) (comment : List ℕ) (padding : ℕ) : Type 0 where
+-- what a plain section gives back: the first key's fields, and where the others begin
+pub record PlainBack (s : List ℕ) (w : SectionRead) (n : ℕ) (k : Key) (others : List Key) (padding : ℕ) : Type 0 where
   pub fields : Section
+  pub first : ℕ
+  pub places : List ℕ
   pub read : w ≡ section-read.Section fields
   pub plain : fields .kind ≡ Plain
   pub same-checkint : fields .checkint ≡ n
-  pub same-private : privateBytes s (fields .private) ≡ x
-  pub same-comment : viewOf s (fields .comment) ≡ comment
-  pub comment-size : fields .comment .length ≡ length comment
+  pub same-private : privateBytes s (fields .private) ≡ k .private
+  pub same-comment : viewOf s (fields .comment) ≡ k .comment
+  pub comment-size : fields .comment .length ≡ length (k .comment)
   pub same-padding : fields .padding ≡ padding
+  pub listed : fields .places ≡ placesOf (first ∷ places)
+  pub there : map (keyRead s) places ≡ others
+  pub inside : AllWithin (length s) places
+  pub counted : length places ≡ length others
 
-content-back :
-    (s : List ℕ) (c : Cursor) → Good s c → length s < 2 ^ 32 → (a : Algorithm) (q : Public) (zeros : ℕ) (n : ℕ) (x : PrivateBytes) (comment : List ℕ)
-    → n < 2 ^ 32 → KeyFits a zeros (publicBytes s q) x comment
-    → rest s c ≡ section n (keypair a zeros (publicBytes s q) x) comment
-    → PlainBack s (contentAt s c a q) n x comment (paddingLength (length (content n (keypair a zeros (publicBytes s q) x) comment)))
-unfolding contentAt section
-content-back s c good small a q zeros n x comment fit fits e =
-    let pair = keypair a zeros (publicBytes s q) x in
-    let size = length (content n pair comment) in
-    let padding = take (paddingLength size) paddingBytes in
-    let long : c .end - c .at ≡ size + paddingLength size =
-    sym (length-slice (c .at) (c .end) s (good .1)) ∙ ap length e ∙ section-length n pair comment in
-    let k = checkints-back s c good n (pair ++ (string comment ++ padding)) fit (e ∙ content-then n pair comment padding) in
-    let m = entry-back s (k .next) (k .good) small a q zeros x comment padding fits (k .more) in
-    let p = padding-back s (m .next) (m .good) size (m .more) in
-    let whole : (c .end - c .at) % 8 ≡ 0 = omega arith in
-    record {
-      fields =
-          record {
-            kind = Plain;
-            checkint = n;
-            padding = m .next .end - m .next .at;
-            private = m .private;
-            comment = m .place;
-            ciphertext = absent;
-            tag = absent;
-          };
-      read = rw (eq-eqb ((c .end - c .at) % 8) 0 whole, k .read, m .read, p .0);
-      plain = refl;
-      same-checkint = refl;
-      same-private = m .kept;
-      same-comment = m .seen;
-      comment-size = m .size;
-      same-padding = p .1;
-    }
+module _
+    (s : List ℕ) (small : length s ≤ 65535) (q : Public) (k : Key) (others : List Key) (zeros : ℕ) (zs : List ℕ) (n : ℕ) (public : publicBytes s q ≡ k .public)
+    (fit : n < 2 ^ 32) (fits : AllFit (zeros ∷ zs) (k ∷ others)) (b : Cursor) (goodb : Good s b) (endb : b .end ≡ length s) (u : List ℕ)
+    (eb : rest s b ≡ join (blobFields (map keyBlob others)) ++ u) where
+  abbrev entries : List Entry
+  entries = standingEntries (zeros ∷ zs) (k ∷ others)
 
-pub plain-back :
-    (s : List ℕ) (c : Cursor) → Good s c → length s < 2 ^ 32 → (a : Algorithm) (q : Public) (zeros : ℕ) (n : ℕ) (x : PrivateBytes) (comment : List ℕ)
-    → n < 2 ^ 32 → KeyFits a zeros (publicBytes s q) x comment
-    → rest s c ≡ string (section n (keypair a zeros (publicBytes s q) x) comment)
-    → PlainBack s (plainAt s c a q) n x comment (paddingLength (length (content n (keypair a zeros (publicBytes s q) x) comment)))
-unfolding plainAt
-plain-back s c good small a q zeros n x comment fit fits e =
-    let b = section n (keypair a zeros (publicBytes s q) x) comment in
-    let e′ = e ∙ sym (append-nil (string b)) in
-    let p = string-back s c good b [] (short-of s c good small b [] e′) e′ in
-    let k = content-back s (within (p .place)) (omega (arith, p .inside)) small a q zeros n x comment fit fits (rest-within s (p .place) (p .inside) ∙ p .seen) in
-    record {
-      fields = k .fields;
-      read = rw (p .read, k .read, end-back s (p .next) (p .good) (p .more));
-      plain = k .plain;
-      same-checkint = k .same-checkint;
-      same-private = k .same-private;
-      same-comment = k .same-comment;
-      comment-size = k .comment-size;
-      same-padding = k .same-padding;
-    }
+  content-back :
+      (c : Cursor) → Good s c → c .end ≡ length s → rest s c ≡ section n entries
+      → PlainBack s (contentAt s c (k .algorithm) q b (length others)) n k others (paddingLength (length (content n entries)))
+  unfolding contentAt closedAt section
+  content-back c good end e =
+      let size = length (content n entries) in
+      let padding = take (paddingLength size) paddingBytes in
+      let long : c .end - c .at ≡ size + paddingLength size =
+      sym (length-slice (c .at) (c .end) s (good .1)) ∙ ap length e ∙ section-length n entries in
+      let m = checkints-back s c good n (join (entryFields entries) ++ padding) fit (e ∙ content-then n entries padding) in
+      let after : m .next .end ≡ length s = checkints-end s c n (m .next) (m .read) ∙ end in
+      let r = keys-back s (m .next) b (m .good) after goodb endb small q k others zeros zs padding u public fits (m .more) eb in
+      let p = padding-back s (r .next) (r .good) size (r .more) in
+      let whole : (c .end - c .at) % 8 ≡ 0 = omega arith in
+      record {
+        fields = plainOf n (r .next .end - r .next .at) (r .private) (r .place) (placesOf (m .next .at ∷ r .places));
+        first = m .next .at;
+        places = r .places;
+        read = rw (eq-eqb ((c .end - c .at) % 8) 0 whole, m .read, r .read, p .0);
+        plain = refl;
+        same-checkint = refl;
+        same-private = r .kept;
+        same-comment = r .seen;
+        comment-size = r .size;
+        same-padding = p .1;
+        listed = refl;
+        there = r .there;
+        inside = r .inside;
+        counted = r .counted;
+      }
+
+  pub plain-back :
+      (c : Cursor) → Good s c → c .end ≡ length s → rest s c ≡ string (section n entries)
+      → PlainBack s (plainAt s c (k .algorithm) q b (length others)) n k others (paddingLength (length (content n entries)))
+  unfolding plainAt endedAt
+  plain-back c good end e =
+      let body = section n entries in
+      let e′ = e ∙ sym (append-nil (string body)) in
+      let p = string-back s c good body [] (short-of s c good (omega arith) body [] e′) e′ in
+      let place = string-place s c (p .place) (p .next) (p .read) .placed in
+      let left : p .next .end - p .next .at ≡ 0 = sym (length-slice (p .next .at) (p .next .end) s (p .good .1)) ∙ ap length (p .more) in
+      let last : p .place .start + p .place .length ≡ length s = omega (arith, place, left, p .good, end) in
+      let m = content-back (within (p .place)) (omega (arith, p .inside)) last (rest-within s (p .place) (p .inside) ∙ p .seen) in
+      record {
+        fields = m .fields;
+        first = m .first;
+        places = m .places;
+        read = rw (p .read, m .read, end-back s (p .next) (p .good) (p .more));
+        plain = m .plain;
+        same-checkint = m .same-checkint;
+        same-private = m .same-private;
+        same-comment = m .same-comment;
+        comment-size = m .comment-size;
+        same-padding = m .same-padding;
+        listed = m .listed;
+        there = m .there;
+        inside = m .inside;
+        counted = m .counted;
+      }
 
 -- an absent tag has the bytes that a tag of none has
 pub present-seen : (s : List ℕ) (p : Part) (b : List ℕ) → viewOf s p ≡ b → p .length ≡ length b → viewOf s (presentOf p) ≡ b

@@ -1,7 +1,8 @@
--- docs/RULES.md, 4.7, 4.8 and 5, and of the places 7.2 and 7.3: what reading the section finds. RSA keys are compared by n and e.
+-- docs/RULES.md, 4.7, 4.8, 5.1, 5.2 and 5.6, and of the places 7.2 and 7.3: what reading the section finds.
 use Prim.Native.Nat.{ℕ, _-_, _%_}
-use mathlib.Core.List.{List}
-use mathlib.Core.Bool.{Bool, cond, _&&_}
+use mathlib.Core.Path.{_≡_, refl}
+use mathlib.Core.List.{List, []}
+use mathlib.Core.Bool.{cond}
 use lib.ListN.{take}
 use lib.Dec.{eqb, ltb}
 use Rattle.fields.specs.Bytes.{sameBytes}
@@ -13,28 +14,23 @@ use Rattle.fields.specs.declared.Ending.{Ending}
 use Rattle.fields.specs.declared.Ending.the-variants as ending
 use Rattle.fields.specs.declared.Uint32.{Uint32}
 use Rattle.fields.specs.declared.Uint32.the-variants as uint32
-use Rattle.fields.specs.declared.Refusal.the-variants.{Length, FormatEncoding, Crypto, PublicKey, CharacterEncoding}
+use Rattle.fields.specs.declared.Refusal.the-variants.{Length, FormatEncoding, Crypto}
 use Rattle.names.specs.declared.Algorithm.{Algorithm}
 use Rattle.names.specs.declared.Cipher.{Cipher}
-use Rattle.names.specs.Algorithms.{sameAlgorithm}
 use Rattle.names.specs.Ciphers.{blockSize, tagLength}
-use Rattle.utf8.specs.Utf8.{utf8}
 use Rattle.format.specs.Format.{paddingBytes}
 use Rattle.key_public.specs.declared.Public.{Public}
 use Rattle.key_pairs.specs.declared.Private.{Private}
-use Rattle.key_pairs.specs.Pairs.{onKeypair, scalarPlace, keypairAt}
-use Rattle.reader_section.specs.declared.Entry.{Entry}
-use Rattle.reader_section.specs.declared.Entry.the-variants as entry
+use Rattle.key_pairs.specs.Pairs.{scalarPlace}
+use Rattle.places.specs.declared.Places.{Places}
+use Rattle.places.specs.Places.{placesOf, pushed}
+use Rattle.reader_entries.specs.Entries.{Keys, Keys-are, Keys-not, onKeys, before, keysAt}
 use Rattle.reader_section.specs.declared.Kind.the-variants.{Plain, Encrypted}
 use Rattle.reader_section.specs.declared.Section.{Section}
 use Rattle.reader_section.specs.declared.SectionRead.{SectionRead}
 use Rattle.reader_section.specs.declared.SectionRead.the-variants as section-read
 
 -- by what was read
-abbrev pub onEntry : {R : Type 0} → Entry → (Fault → R) → (Private → Part → Cursor → R) → R
-onEntry (entry.Refused f) refused key = refused f
-onEntry (entry.Key private comment c) refused key = key private comment c
-
 abbrev pub onSectionRead : {R : Type 0} → SectionRead → (Fault → R) → (Section → R) → R
 onSectionRead (section-read.Refused f) refused read = refused f
 onSectionRead (section-read.Section x) refused read = read x
@@ -46,23 +42,6 @@ checkintsAt s c =
     onUint32 (uint32At s d) uint32.Refused (λ second e.
     cond (eqb second first) (uint32.Value first e) (uint32.Refused (fault Crypto (d .at)))))
 
--- the same public key, kind included: what a kind lacks has no bytes
-unfoldable pub sameKey : List ℕ → Algorithm → Public → Algorithm → Public → Bool
-sameKey s a p b q =
-    sameAlgorithm a b
-    && sameBytes (viewOf s (p .point)) (viewOf s (q .point))
-    && sameBytes (viewOf s (p .modulus)) (viewOf s (q .modulus))
-    && sameBytes (viewOf s (p .exponent)) (viewOf s (q .exponent))
-
--- keypair; public key unlike the header's: 5, at the keypair's name; comment string; not UTF-8: 7
-unfoldable pub entryAt : List ℕ → Cursor → Algorithm → Public → Entry
-entryAt s c algorithm public =
-    onKeypair (keypairAt s c) entry.Refused (λ a p private d.
-    cond (sameKey s a p algorithm public)
-    (onField (stringAt s d) entry.Refused (λ comment e.
-    cond (utf8 (viewOf s comment)) (entry.Key private comment e) (entry.Refused (fault CharacterEncoding (d .at)))))
-    (entry.Refused (fault PublicKey (c .at))))
-
 -- padding is what remains: 8 or more: 1; not the bytes 1, 2, 3 and so on: 2; both at its first byte
 unfoldable pub paddingAt : List ℕ → Cursor → Ending
 paddingAt s c =
@@ -71,32 +50,46 @@ paddingAt s c =
     (ending.Refused (fault FormatEncoding (c .at))))
     (ending.Refused (fault Length (c .at)))
 
--- length not a multiple of 8: 1, at the first byte of the content; checkints; key and comment; padding
-unfoldable pub contentAt : List ℕ → Cursor → Algorithm → Public → SectionRead
-contentAt s c algorithm public =
-    cond (eqb ((c .end - c .at) % 8) 0)
-    (onUint32 (checkintsAt s c) section-read.Refused (λ checkint d.
-    onEntry (entryAt s d algorithm public) section-read.Refused (λ private comment e.
-    onEnding (paddingAt s e) section-read.Refused
-    (section-read.Section
-    (record {
+abbrev pub plainOf : ℕ → ℕ → Private → Part → Places → Section
+plainOf checkint padding private comment places =
+    record {
       kind = Plain;
       checkint = checkint;
-      padding = e .end - e .at;
+      padding = padding;
       private = private;
       comment = comment;
+      places = places;
       ciphertext = absent;
       tag = absent;
-    })))))
+    }
+
+-- after the keys one padding
+unfoldable pub closedAt : List ℕ → ℕ → Keys → SectionRead
+closedAt s checkint keys =
+    onKeys keys section-read.Refused (λ private comment places e.
+    onEnding (paddingAt s e) section-read.Refused
+    (section-read.Section (plainOf checkint (e .end - e .at) private comment places)))
+
+-- length not a multiple of 8: 1, at the first byte of the content; checkints; each key and its comment, in order; the padding
+unfoldable pub contentAt : List ℕ → Cursor → Algorithm → Public → Cursor → ℕ → SectionRead
+contentAt s c algorithm public b more =
+    cond (eqb ((c .end - c .at) % 8) 0)
+    (onUint32 (checkintsAt s c) section-read.Refused (λ checkint d.
+    closedAt s checkint (keysAt s d algorithm public b more)))
     (section-read.Refused (fault Length (c .at)))
 
--- 4.8: (cipher `none`) the section string, then end of image, else 6. Errors inside the section come before this 6.
-unfoldable pub plainAt : List ℕ → Cursor → Algorithm → Public → SectionRead
-plainAt s c algorithm public =
+-- after the section the image ends, else 6; errors inside the section come before this 6
+unfoldable pub endedAt : Cursor → SectionRead → SectionRead
+endedAt c section =
+    onSectionRead section section-read.Refused (λ x.
+    onEnding (endAt c) section-read.Refused
+    (section-read.Section x))
+
+-- 4.8: (cipher `none`) the section string, then end of image
+unfoldable pub plainAt : List ℕ → Cursor → Algorithm → Public → Cursor → ℕ → SectionRead
+plainAt s c algorithm public b more =
     onField (stringAt s c) section-read.Refused (λ p d.
-    onSectionRead (contentAt s (within p) algorithm public) section-read.Refused (λ x.
-    onEnding (endAt d) section-read.Refused
-    (section-read.Section x)))
+    endedAt d (contentAt s (within p) algorithm public b more))
 
 abbrev pub encryptedOf : Part → Part → Section
 encryptedOf ciphertext tag =
@@ -106,6 +99,7 @@ encryptedOf ciphertext tag =
       padding = 0;
       private = scalarPlace absent;
       comment = absent;
+      places = placesOf [];
       ciphertext = ciphertext;
       tag = tag;
     }
@@ -124,3 +118,58 @@ encryptedAt s c cipher =
     onEnding (endAt e) section-read.Refused
     (section-read.Section (encryptedOf p (presentOf tag)))))
     (section-read.Refused (fault Crypto (c .at))))
+
+-- ---- as the code goes on from key to key, to the image's end
+
+-- after the last key, which began at a place
+unfoldable pub lastAt : List ℕ → Cursor → ℕ → ℕ → Private → Part → Cursor → SectionRead
+lastAt s c checkint at private comment past =
+    onEnding (paddingAt s c) section-read.Refused
+    (onEnding (endAt past) section-read.Refused
+    (section-read.Section (plainOf checkint (c .end - c .at) private comment (pushed at (placesOf [])))))
+
+-- a key before those that follow it
+unfoldable pub beforeOthers : ℕ → Private → Part → SectionRead → SectionRead
+beforeOthers at private comment others =
+    onSectionRead others section-read.Refused (λ x.
+    section-read.Section (plainOf (x .checkint) (x .padding) private comment (pushed at (x .places))))
+
+pub closed-last :
+    (s : List ℕ) (checkint : ℕ) (at : ℕ) (private : Private) (comment : Part) (c past : Cursor)
+    → endedAt past (closedAt s checkint (Keys-are private comment (pushed at (placesOf [])) c)) ≡ lastAt s c checkint at private comment past
+unfolding closedAt endedAt lastAt
+closed-last s checkint at private comment c past = by (paddingAt s c)
+  where
+    section : Section
+    section = plainOf checkint (c .end - c .at) private comment (pushed at (placesOf []))
+
+    by :
+        (r : Ending)
+        → onSectionRead (onEnding r section-read.Refused (section-read.Section section)) section-read.Refused
+        (λ x. onEnding (endAt past) section-read.Refused (section-read.Section x))
+        ≡ onEnding r section-read.Refused (onEnding (endAt past) section-read.Refused (section-read.Section section))
+    by (ending.Refused f) = refl
+    by ending.Clean = refl
+
+pub closed-before :
+    (s : List ℕ) (checkint : ℕ) (at : ℕ) (private : Private) (comment : Part) (keys : Keys) (past : Cursor)
+    → endedAt past (closedAt s checkint (before at private comment keys)) ≡ beforeOthers at private comment (endedAt past (closedAt s checkint keys))
+unfolding closedAt endedAt beforeOthers
+closed-before s checkint at private comment (Keys-not f) past = refl
+closed-before s checkint at private comment (Keys-are x m places c) past = by (paddingAt s c) (endAt past)
+  where
+    by :
+        (r e : Ending)
+        → onSectionRead (onEnding r section-read.Refused (section-read.Section (plainOf checkint (c .end - c .at) private comment (pushed at places)))) section-read.Refused
+        (λ y. onEnding e section-read.Refused (section-read.Section y))
+        ≡ onSectionRead
+        (onSectionRead (onEnding r section-read.Refused (section-read.Section (plainOf checkint (c .end - c .at) x m places))) section-read.Refused
+        (λ y. onEnding e section-read.Refused (section-read.Section y))) section-read.Refused
+        (λ y. section-read.Section (plainOf (y .checkint) (y .padding) private comment (pushed at (y .places))))
+    by (ending.Refused f) e = refl
+    by ending.Clean (ending.Refused f) = refl
+    by ending.Clean ending.Clean = refl
+
+pub closed-refused : (s : List ℕ) (checkint : ℕ) (f : Fault) (past : Cursor) → endedAt past (closedAt s checkint (Keys-not f)) ≡ section-read.Refused f
+unfolding closedAt endedAt
+closed-refused s checkint f past = refl

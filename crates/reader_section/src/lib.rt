@@ -1,11 +1,11 @@
-// The container's section: plain, with its keypair, comment and padding, or encrypted, with its tag.
+// The container's section: plain, with its keys and padding, or encrypted, with its tag.
 ghost use mathlib.Core.Path.{_≡_};
 ghost use Prim.Native.Nat.{_<_};
 ghost use lib.ListN.{take};
 ghost use Rattle.fields.specs.Bytes.{sameBytes};
-ghost use Rattle.fields.specs.Fields.{viewOf};
 ghost use Rattle.format.specs.Format.{paddingBytes};
-ghost use Rattle.reader_section.specs.Section.{checkintsAt, sameKey, entryAt, paddingAt, contentAt, plainAt, encryptedOf, presentOf, encryptedAt};
+ghost use Rattle.reader_entries.specs.Entries.{keysAt};
+ghost use Rattle.reader_section.specs.Section.{checkintsAt, paddingAt, plainOf, closedAt, lastAt, beforeOthers, contentAt, endedAt, plainAt, encryptedOf, presentOf, encryptedAt};
 use fields::Cursor;
 use fields::Ending;
 use fields::Fault;
@@ -13,25 +13,29 @@ use fields::Field;
 use fields::Part;
 use fields::Refusal;
 use fields::Uint32;
-use key_pairs::Keypair;
 use key_pairs::Private;
 use key_public::Public;
 use names::Algorithm;
 use names::Cipher;
+use places::Places;
+use reader_blobs::BlobField;
+use reader_entries::Entry;
 
 pub enum Kind {
     Plain,
     Encrypted,
 }
 
-// What the section adds to a header. A field that its kind doesn't have is absent, a number 0. A scalar's
-// place is that of its bytes without leading zeros; for Ed25519 the seed's.
+// What the section adds to a header. A field that its kind doesn't have is absent, a number 0. private and
+// comment are the first key's, and places says where each key begins. A scalar's place is that of its bytes
+// without leading zeros; for Ed25519 the seed's.
 pub struct Section {
     pub kind: Kind,
     pub checkint: u32,
     pub padding: usize,
     pub private: Private,
     pub comment: Part,
+    pub places: Places,
     pub ciphertext: Part,
     pub tag: Part,
 }
@@ -61,72 +65,6 @@ fn read_checkints(c: Cursor, image: &[u8]) -> Uint32
                     })
                 }
             }
-        }
-    }
-}
-
-// Are the bytes of two parts the same? Two that have none are, and nothing is looked at.
-fn same_bytes(image: &[u8], p: Part, q: Part) -> bool
-    ensures { λ r. ⌜ r ≡ sameBytes (viewOf (now (image .entry)) p) (viewOf (now (image .entry)) q) ⌝ }
-{
-    let length = p.length;
-    if length == 0 {
-        let other = q.length;
-        if other == 0 {
-            return true;
-        }
-    }
-    fields::same(fields::view(image, p), fields::view(image, q))
-}
-
-// Is it the same public key, kind included?
-fn same_key(image: &[u8], a: Algorithm, p: Public, b: Algorithm, q: Public) -> bool
-    ensures { λ r. ⌜ r ≡ sameKey (now (image .entry)) a p b q ⌝ }
-{
-    if a.code() != b.code() {
-        return false;
-    }
-    if !same_bytes(image, p.point, q.point) {
-        return false;
-    }
-    if !same_bytes(image, p.modulus, q.modulus) {
-        return false;
-    }
-    same_bytes(image, p.exponent, q.exponent)
-}
-
-pub enum Entry {
-    Key(Private, Part, Cursor),
-    Refused(Fault),
-}
-
-// One key of a section, its keypair and comment, held to the public key of its blob.
-fn read_entry(c: Cursor, image: &[u8], algorithm: Algorithm, public: Public) -> Entry
-    ensures { λ r. ⌜ r ≡ entryAt (now (image .entry)) c algorithm public ⌝ }
-{
-    let at = c.at;
-    match key_pairs::read_keypair(c, image) {
-        Keypair::Refused(f) => Entry::Refused(f),
-        Keypair::Pair(a, p, private, d) => {
-            if same_key(image, a, p, algorithm, public) {
-                let from = d.at;
-                match d.string(image) {
-                    Field::Refused(f) => return Entry::Refused(f),
-                    Field::Part(comment, e) => {
-                        if utf8::is_utf8(fields::view(image, comment)) {
-                            return Entry::Key(private, comment, e);
-                        }
-                        return Entry::Refused(Fault {
-                            why: Refusal::CharacterEncoding,
-                            at: from,
-                        });
-                    }
-                }
-            }
-            Entry::Refused(Fault {
-                why: Refusal::PublicKey,
-                at: at,
-            })
         }
     }
 }
@@ -174,9 +112,114 @@ fn read_padding(c: Cursor, image: &[u8]) -> Ending
     })
 }
 
-// The inside of a plain section, of which c is the whole.
-fn read_content(c: Cursor, image: &[u8], algorithm: Algorithm, public: Public) -> SectionRead
-    ensures { λ r. ⌜ r ≡ contentAt (now (image .entry)) c algorithm public ⌝ }
+fn plain(checkint: u32, padding: usize, private: Private, comment: Part, places: Places) -> Section
+    ensures { λ r. ⌜ r ≡ plainOf checkint padding private comment places ⌝ }
+{
+    Section {
+        kind: Kind::Plain,
+        checkint: checkint,
+        padding: padding,
+        private: private,
+        comment: comment,
+        places: places,
+        ciphertext: Part {
+            start: 0,
+            length: 0,
+        },
+        tag: Part {
+            start: 0,
+            length: 0,
+        },
+    }
+}
+
+// What is left after the last key, which began at a place, is padding; past the section the image ends.
+fn read_last(
+    c: Cursor,
+    image: &[u8],
+    checkint: u32,
+    at: usize,
+    private: Private,
+    comment: Part,
+    past: Cursor,
+) -> SectionRead
+    ensures { λ r. ⌜ r ≡ lastAt (now (image .entry)) c checkint at private comment past ⌝ }
+{
+    match read_padding(c, image) {
+        Ending::Refused(f) => SectionRead::Refused(f),
+        Ending::Clean => match past.finish() {
+            Ending::Refused(f) => SectionRead::Refused(f),
+            Ending::Clean => {
+                let places = Places::none();
+                SectionRead::Section(plain(
+                    checkint,
+                    c.remaining(),
+                    private,
+                    comment,
+                    places.push(at),
+                ))
+            }
+        },
+    }
+}
+
+// A key before those that follow it.
+fn before(at: usize, private: Private, comment: Part, others: SectionRead) -> SectionRead
+    ensures { λ r. ⌜ r ≡ beforeOthers at private comment others ⌝ }
+{
+    match others {
+        SectionRead::Refused(f) => SectionRead::Refused(f),
+        SectionRead::Section(x) => {
+            let places = x.places;
+            SectionRead::Section(plain(x.checkint, x.padding, private, comment, places.push(at)))
+        }
+    }
+}
+
+// The keys from c on, the padding after the last and the image's end: one key of this algorithm and public key, and
+// so many more, their blobs from b on.
+fn read_keys(
+    c: Cursor,
+    image: &[u8],
+    algorithm: Algorithm,
+    public: Public,
+    b: Cursor,
+    more: usize,
+    checkint: u32,
+    past: Cursor,
+) -> SectionRead
+    ensures { λ r. ⌜ r ≡ endedAt past (closedAt (now (image .entry)) checkint (keysAt (now (image .entry)) c algorithm public b more)) ⌝ }
+{
+    let at = c.at;
+    match reader_entries::read_entry(c, image, algorithm, public) {
+        Entry::Refused(f) => SectionRead::Refused(f),
+        Entry::Key(private, comment, d) => {
+            if more == 0 {
+                return read_last(d, image, checkint, at, private, comment, past);
+            }
+            match reader_blobs::read_blob_field(b, image) {
+                BlobField::Refused(f) => SectionRead::Refused(f),
+                BlobField::Key(a, _, q, e) => {
+                    let others = read_keys(d, image, a, q, e, more - 1, checkint, past);
+                    before(at, private, comment, others)
+                }
+            }
+        }
+    }
+}
+
+// The inside of a plain section, of which c is the whole, and the image's end. The first key is of this algorithm
+// and public key; so many more have their blobs from b on.
+fn read_content(
+    c: Cursor,
+    image: &[u8],
+    algorithm: Algorithm,
+    public: Public,
+    b: Cursor,
+    more: usize,
+    past: Cursor,
+) -> SectionRead
+    ensures { λ r. ⌜ r ≡ endedAt past (contentAt (now (image .entry)) c algorithm public b more) ⌝ }
 {
     let at = c.at;
     if c.remaining() % 8 != 0 {
@@ -187,36 +230,20 @@ fn read_content(c: Cursor, image: &[u8], algorithm: Algorithm, public: Public) -
     }
     match read_checkints(c, image) {
         Uint32::Refused(f) => SectionRead::Refused(f),
-        Uint32::Value(checkint, d) => match read_entry(d, image, algorithm, public) {
-            Entry::Refused(f) => SectionRead::Refused(f),
-            Entry::Key(private, comment, e) => {
-                let padding = e.remaining();
-                match read_padding(e, image) {
-                    Ending::Refused(f) => SectionRead::Refused(f),
-                    Ending::Clean => SectionRead::Section(Section {
-                        kind: Kind::Plain,
-                        checkint: checkint,
-                        padding: padding,
-                        private: private,
-                        comment: comment,
-                        ciphertext: Part {
-                            start: 0,
-                            length: 0,
-                        },
-                        tag: Part {
-                            start: 0,
-                            length: 0,
-                        },
-                    }),
-                }
-            }
-        },
+        Uint32::Value(n, d) => read_keys(d, image, algorithm, public, b, more, n, past),
     }
 }
 
 // A plain section and the image's end; what is wrong within the section comes first.
-pub fn read_plain(c: Cursor, image: &[u8], algorithm: Algorithm, public: Public) -> SectionRead
-    ensures { λ r. ⌜ r ≡ plainAt (now (image .entry)) c algorithm public ⌝ }
+pub fn read_plain(
+    c: Cursor,
+    image: &[u8],
+    algorithm: Algorithm,
+    public: Public,
+    b: Cursor,
+    more: usize,
+) -> SectionRead
+    ensures { λ r. ⌜ r ≡ plainAt (now (image .entry)) c algorithm public b more ⌝ }
 {
     match c.string(image) {
         Field::Refused(f) => SectionRead::Refused(f),
@@ -227,13 +254,7 @@ pub fn read_plain(c: Cursor, image: &[u8], algorithm: Algorithm, public: Public)
                 at: start,
                 end: start + length,
             };
-            match read_content(inside, image, algorithm, public) {
-                SectionRead::Refused(f) => SectionRead::Refused(f),
-                SectionRead::Section(x) => match d.finish() {
-                    Ending::Refused(f) => SectionRead::Refused(f),
-                    Ending::Clean => SectionRead::Section(x),
-                },
-            }
+            read_content(inside, image, algorithm, public, b, more, d)
         }
     }
 }
@@ -253,6 +274,7 @@ fn encrypted(ciphertext: Part, tag: Part) -> Section
             start: 0,
             length: 0,
         },
+        places: Places::none(),
         ciphertext: ciphertext,
         tag: tag,
     }

@@ -10,6 +10,7 @@ use names::Algorithm;
 use names::Cipher;
 use names::Elliptic;
 use names::Kdf;
+use places::Places;
 use reader_header::Header;
 use reader_header::HeaderRead;
 use reader_image::Fields;
@@ -51,6 +52,7 @@ fn no_header() -> Header
         kdf: Kdf::None,
         salt: nowhere(),
         rounds: 0,
+        count: 0,
         algorithm: Algorithm::Elliptic(Elliptic::Ed25519),
         blob: nowhere(),
         public: key_public::at_point(nowhere()),
@@ -68,6 +70,7 @@ fn no_fields() -> Fields
         padding: 0,
         private: key_pairs::at_scalar(nowhere()),
         comment: nowhere(),
+        places: Places::none(),
         ciphertext: nowhere(),
         tag: nowhere(),
     };

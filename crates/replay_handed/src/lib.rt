@@ -3,14 +3,15 @@
 // `replay_saying` says of the record.
 //
 // Every number in the file is big-endian. A vector is the image's length and the lent buffer's, four bytes
-// each, the record's 35 numbers, eight bytes each, and the image. The numbers are kind (1 plain, 2
+// each, the record's 52 numbers, eight bytes each, and the image. The numbers are kind (1 plain, 2
 // encrypted), algorithm, cipher, KDF, rounds, checkint, padding and section, then start and length of
-// blob, point, scalar, comment, salt, ciphertext and tag, and then RSA's: bits, and start and length of
-// modulus, exponent, d, iqmp, p and q.
+// blob, point, scalar, comment, salt, ciphertext and tag, then RSA's: bits, and start and length of
+// modulus, exponent, d, iqmp, p and q; and then the key count and the sixteen places.
 ghost use mathlib.Core.Path.{_≡_};
 use fields::Part;
 use key_pairs::Private;
 use key_public::Public;
+use places::Places;
 use reader_header::Header;
 use reader_image::Fields;
 use reader_section::Kind;
@@ -65,12 +66,39 @@ fn private_of(head: &[u8]) -> Private {
     }
 }
 
+// The lowest 16 bits of the i-th number.
+fn short(head: &[u8], i: u8) -> u16 {
+    (lower(head, i) % 65536) as u16
+}
+
+fn places_of(head: &[u8]) -> Places {
+    Places {
+        p1: short(head, 36),
+        p2: short(head, 37),
+        p3: short(head, 38),
+        p4: short(head, 39),
+        p5: short(head, 40),
+        p6: short(head, 41),
+        p7: short(head, 42),
+        p8: short(head, 43),
+        p9: short(head, 44),
+        p10: short(head, 45),
+        p11: short(head, 46),
+        p12: short(head, 47),
+        p13: short(head, 48),
+        p14: short(head, 49),
+        p15: short(head, 50),
+        p16: short(head, 51),
+    }
+}
+
 fn header_of(head: &[u8]) -> Header {
     Header {
         cipher: replay_telling::cipher_of(lower(head, 2)),
         kdf: replay_telling::kdf_of(lower(head, 3)),
         salt: place(head, 16, 17),
         rounds: lower(head, 4),
+        count: number(head, 35),
         algorithm: replay_telling::algorithm_of(lower(head, 1)),
         blob: place(head, 8, 9),
         public: public_of(head),
@@ -85,6 +113,7 @@ fn section_of(head: &[u8]) -> Section {
         padding: number(head, 6),
         private: private_of(head),
         comment: place(head, 14, 15),
+        places: places_of(head),
         ciphertext: place(head, 18, 19),
         tag: place(head, 20, 21),
     }
@@ -153,9 +182,9 @@ fn vector(fd: i32, head: &[u8]) {
 
 // One vector; whether there was one.
 fn one(fd: i32) -> bool {
-    let mut head = [0u8; 288];
+    let mut head = [0u8; 424];
     let got = io::read_full(fd, &mut head);
-    if got < 288 {
+    if got < 424 {
         return false;
     }
     vector(fd, &head);

@@ -53,7 +53,7 @@ fn say_numbers(f: Fields) {
     say_number(header.section);
 }
 
-// The places of its fields.
+// The places of its fields, the key count, and where the keypairs begin.
 fn say_places(f: Fields) {
     let header = f.header;
     let section = f.section;
@@ -66,6 +66,8 @@ fn say_places(f: Fields) {
     place(header.salt);
     place(section.ciphertext);
     place(section.tag);
+    say_number(header.count);
+    replay_telling::say_places(section.places);
 }
 
 fn wide(x: u8) -> usize {
@@ -188,6 +190,7 @@ fn say_half(half: Header) {
     place(half.blob);
     place(public.point);
     place(half.salt);
+    say_number(half.count);
     word(b"\n");
     say_header_rsa(public);
 }

@@ -104,6 +104,7 @@ fn say_section(section: Section) {
     say_place(section.comment);
     say_place(section.ciphertext);
     say_place(section.tag);
+    replay_telling::say_places(section.places);
     word(b"\n");
     say_rsa(private);
 }

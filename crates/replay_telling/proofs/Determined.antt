@@ -21,6 +21,8 @@ use Rattle.replay_telling.proofs.say_reply.Reads as say-reply
 use Rattle.replay_telling.proofs.say_reply.Kinds as say-reply-kinds
 use Rattle.replay_telling.proofs.say_written.Reads as say-written
 use Rattle.replay_telling.proofs.say_written.Kinds as say-written-kinds
+use Rattle.replay_telling.proofs.say_places.Reads as say-places
+use Rattle.replay_telling.proofs.say_places.Kinds as say-places-kinds
 use Rattle.replay_telling.proofs.say_buffer.Reads as say-buffer
 use Rattle.replay_telling.proofs.say_buffer.Kinds as say-buffer-kinds
 
@@ -53,6 +55,9 @@ say-reply-determined κs a r₁ r₂ s₁ s₂ p q = cc
 
 pub say-written-determined : Determined 0 say-written-kinds.ps say-written-kinds.r say-written.Post
 say-written-determined κs a r₁ r₂ s₁ s₂ p q = cc
+
+pub say-places-determined : Determined 0 say-places-kinds.ps say-places-kinds.r say-places.Post
+say-places-determined κs a r₁ r₂ s₁ s₂ p q = cc
 
 pub say-buffer-determined : Determined 1 say-buffer-kinds.ps say-buffer-kinds.r say-buffer.Post
 say-buffer-determined κs a r₁ r₂ s₁ s₂ p q = cc

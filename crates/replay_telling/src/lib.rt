@@ -13,6 +13,7 @@ use names::CipherName;
 use names::Elliptic;
 use names::Kdf;
 use names::KdfName;
+use places::Places;
 use writer_reply::Written;
 
 // ---- numbers that were read
@@ -106,6 +107,25 @@ pub fn say_written(written: Written)
             say_reply(why.number(), why.count(), f.at, 0);
         }
         Written::Length(length) => say_reply(0, 0, 0, length),
+    }
+}
+
+fn say_others(places: Places) {
+    let mut i: usize = 1;
+    while i < 16 {
+        say_number(places.get(i) as usize);
+        i += 1;
+    }
+}
+
+// Where the keypairs begin: the first key's, and the others' only where one of these isn't 0.
+pub fn say_places(places: Places)
+    ensures { λ r. ⌜ r ≡ tt ⌝ }
+{
+    let first = places.p1 as usize;
+    say_number(first);
+    if !places.same(Places::none().push(first)) {
+        say_others(places);
     }
 }
 

@@ -3,8 +3,8 @@
 use denote.Ref.{now}
 use Rattle.fields.specs.Determined.{Determined}
 use Rattle.buffer.specs.Determined.{DeterminedBuffer}
-use Rattle.saltorchard.proofs.saltorchard_interface_7.Reads as saltorchard-interface-7
-use Rattle.saltorchard.proofs.saltorchard_interface_7.Kinds as saltorchard-interface-7-kinds
+use Rattle.saltorchard.proofs.saltorchard_interface_8.Reads as saltorchard-interface-8
+use Rattle.saltorchard.proofs.saltorchard_interface_8.Kinds as saltorchard-interface-8-kinds
 use Rattle.saltorchard.proofs.saltorchard_read.Reads as saltorchard-read
 use Rattle.saltorchard.proofs.saltorchard_read.Kinds as saltorchard-read-kinds
 use Rattle.saltorchard.proofs.saltorchard_read_header.Reads as saltorchard-read-header
@@ -26,8 +26,8 @@ use Rattle.saltorchard.proofs.saltorchard_rewrite.Kinds as saltorchard-
 use Rattle.saltorchard.proofs.saltorchard_change_comment.Reads as saltorchard-change-comment
 use Rattle.saltorchard.proofs.saltorchard_change_comment.Kinds as saltorchard-change-comment-kinds
 
-pub saltorchard-interface-7-determined : Determined 0 saltorchard-interface-7-kinds.ps saltorchard-interface-7-kinds.r saltorchard-interface-7.Post
-saltorchard-interface-7-determined κs a r₁ r₂ s₁ s₂ p q = cc
+pub saltorchard-interface-8-determined : Determined 0 saltorchard-interface-8-kinds.ps saltorchard-interface-8-kinds.r saltorchard-interface-8.Post
+saltorchard-interface-8-determined κs a r₁ r₂ s₁ s₂ p q = cc
 
 pub saltorchard-read-determined : Determined 1 saltorchard-read-kinds.ps saltorchard-read-kinds.r saltorchard-read.Post
 saltorchard-read-determined κs a r₁ r₂ s₁ s₂ p q = cc

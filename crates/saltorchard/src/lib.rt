@@ -58,10 +58,10 @@ fn checkint_of(derive: u8, given: u32, private: &[u8]) -> u32
 
 // Its name is what counts: header and Rust crate refer to it, so that they link only with an archive of their own number.
 #[no_mangle]
-pub extern "C" fn saltorchard_interface_7() -> u64
-    ensures { λ r. ⌜ r ≡ 7 ⌝ }
+pub extern "C" fn saltorchard_interface_8() -> u64
+    ensures { λ r. ⌜ r ≡ 8 ⌝ }
 {
-    7
+    8
 }
 
 #[no_mangle]

@@ -16,12 +16,13 @@ use Rattle.fields.specs.Room.{view-out}
 use Rattle.fields.specs.declared.Part.{Part}
 use Rattle.names.specs.declared.Kdf.{Kdf}
 use Rattle.names.specs.declared.Kdf.the-variants as kdf
-use Rattle.format.specs.Format.{OptionsFit, writtenImage, encryptedImage}
+use Rattle.format.specs.Format.{OptionsFit, writtenImage, encryptedImage, alone, keyOf}
 use Rattle.laws_keys.specs.Back.{blob-back}
 use Rattle.reader_image.specs.declared.Fields.{Fields}
 use Rattle.reader_image.specs.declared.ImageRead.the-variants as read
 use Rattle.reader_image.specs.Container.{publicIn, privateIn, materialIn, readAt}
 use Rattle.reader_image.specs.Form.{rewritten, formOf}
+use Rattle.reader_image.specs.FormLaws.{rewritten-one, rewritten-encrypted}
 use Rattle.reader_image.specs.Read.{PlainText, EncryptedText, ImageText, plain-text, encrypted-text, image-text}
 use Rattle.writer_reply.specs.declared.Written.{Written}
 use Rattle.writer_reply.specs.Reply.{left, sized, isSized, answered}
@@ -45,7 +46,7 @@ options-told kdf.Bcrypt salt rounds h = refl
 
 module _ (s : List ℕ) (all : AllBytes s) (f : Fields) (e : readAt s ≡ read.Record f) where
   plain-again : PlainText s f → (room : ℕ)
-      → plainAgain s f room ≡ sized (writtenImage (f .section .checkint) (f .header .algorithm) (publicIn s f) (materialIn s f) (viewOf s (f .section .comment))) room
+      → plainAgain s f room ≡ sized (writtenImage (f .section .checkint) (alone (keyOf (f .header .algorithm) (publicIn s f) (materialIn s f) (viewOf s (f .section .comment))))) room
   unfolding plainAgain plainReply
   plain-again p room =
       rw (p .key-fits .text) (checks-pass (f .header .algorithm) (publicIn s f) (privateIn s f) _ (p .key-fits .public) (p .key-fits .private))
@@ -64,20 +65,20 @@ module _ (s : List ℕ) (all : AllBytes s) (f : Fields) (e : readAt s ≡ read.R
       rw (fits .encrypts, options-told (f .header .kdf) (viewOf s (f .header .salt)) (f .header .rounds) (fits .options-fit), b .read, eq-eqb _ _ (fits .blocks), eq-eqb _ _ (fits .tag-long))
 
   pub record-sized : (room : ℕ) → recordReply s f room ≡ sized (rewritten s f) room
-  unfolding recordReply rewritten plainAgain
+  unfolding recordReply plainAgain
   record-sized room = go (image-text s all f e)
     where
       go : ImageText s all f e → recordReply s f room ≡ sized (rewritten s f) room
-      go (plain-text kind p) = rw kind (plain-again p room)
-      go (encrypted-text kind p) = rw kind (encrypted-again p room)
+      go (plain-text kind p) = rw (rewritten-one s f p kind) (rw kind (plain-again p room))
+      go (encrypted-text kind p) = rw (rewritten-encrypted s f kind) (rw kind (encrypted-again p room))
 
   pub record-left : (old : List ℕ) → recordLeft s f old ≡ left (sized (rewritten s f) (length old)) (rewritten s f) old
-  unfolding recordLeft rewritten plainAgain plainAgainLeft plainLeft encryptedLeft
+  unfolding recordLeft plainAgain plainAgainLeft plainLeft encryptedLeft
   record-left old = go (image-text s all f e)
     where
       go : ImageText s all f e → recordLeft s f old ≡ left (sized (rewritten s f) (length old)) (rewritten s f) old
-      go (plain-text kind p) = rw (kind, plain-again p (length old))
-      go (encrypted-text kind p) = rw (kind, encrypted-again p (length old))
+      go (plain-text kind p) = rw (rewritten-one s f p kind) (rw (kind, plain-again p (length old)))
+      go (encrypted-text kind p) = rw (rewritten-encrypted s f kind) (rw (kind, encrypted-again p (length old)))
 
   pub image-small : length s ≤ 65535
   image-small = go (image-text s all f e)

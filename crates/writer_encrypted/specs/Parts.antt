@@ -3,7 +3,7 @@ use Prim.Native.Nat.{ℕ, _≤_}
 use native.Mathlib.Omega.{arith}
 use mathlib.Core.Path.{_≡_}
 use mathlib.Core.Bool.{true}
-use mathlib.Core.List.{List, [], _∷_, _++_, append-assoc}
+use mathlib.Core.List.{List, [], _∷_, _++_, append-assoc, append-nil}
 use borrow.Author.Tests.{eqb-true}
 use lib.ListN.{length, length-append}
 use Rattle.fields.specs.Bytes.{uint32, string, join, both-true}
@@ -12,7 +12,7 @@ use Rattle.names.specs.declared.Cipher.{Cipher}
 use Rattle.names.specs.declared.Kdf.{Kdf}
 use Rattle.names.specs.declared.Kdf.the-variants as kdf
 use Rattle.names.specs.Ciphers.{cipherName, kdfName}
-use Rattle.format.specs.Format.{magic, options, header, encryptedImage}
+use Rattle.format.specs.Format.{alone, magic, options, header, encryptedImage}
 use Rattle.writer_encrypted.specs.Encrypted.{optionsFit}
 
 -- up to and with the blob's length
@@ -27,9 +27,9 @@ encryptedFields c k salt rounds key ciphertext tag = front c k salt rounds (leng
 -- the front and the blob are the header
 front-joined :
     (c : Cipher) (k : Kdf) (salt : List ℕ) (rounds : ℕ) (key t : List ℕ)
-    → front c k salt rounds (length key) ++ (key ++ t) ≡ header c k salt rounds key ++ t
+    → front c k salt rounds (length key) ++ (key ++ t) ≡ header c k salt rounds (alone key) ++ t
 unfolding front string header
-front-joined c k salt rounds key t = simp append-assoc
+front-joined c k salt rounds key t = simp (append-assoc, append-nil)
 
 pub encrypted-joined :
     (c : Cipher) (k : Kdf) (salt : List ℕ) (rounds : ℕ) (key ciphertext tag : List ℕ)

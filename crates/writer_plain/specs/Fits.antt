@@ -1,15 +1,17 @@
 -- The plain writer's tests of a key, and what fits the format: a key that fits passes them, and RSA's numbers that pass them fit.
-use mathlib.Core.Path.{_≡_}
+use mathlib.Core.Path.{_≡_, refl, _∙_}
 use mathlib.Core.Bool.{true}
+use mathlib.Core.List.{List, [], _∷_, map}
 use borrow.Author.Tests.{eq-eqb}
 use Rattle.fields.specs.Bytes.{both-true}
 use Rattle.names.specs.declared.Algorithm.{Algorithm}
 use Rattle.names.specs.declared.Algorithm.the-variants.{Elliptic as OnCurve, Rsa}
 use Rattle.mpint.specs.Mpint.{isMpint, modulusFits, atMost}
-use Rattle.format.specs.Format.{PublicBytes, PrivateBytes, filled, ModulusFits, NumbersFit, PublicFits, PrivateFits}
+use Rattle.utf8.specs.Utf8.{utf8}
+use Rattle.format.specs.Format.{PublicBytes, PrivateBytes, Key, filled, ModulusFits, NumbersFit, PublicFits, PrivateFits, filledKey}
 use Rattle.format.specs.Scalars.{filled-private, filled-zero, fits-allowed, fits-some}
 use Rattle.writer_reply.specs.declared.Written.{Written}
-use Rattle.writer_plain.specs.Plain.{allMpints, sizesFit, keyChecked}
+use Rattle.writer_plain.specs.Plain.{allMpints, sizesFit, keyChecked, keysChecked}
 
 -- a key that fits passes the plain writer's first tests, its scalar filled
 pub checks-pass :
@@ -41,6 +43,22 @@ checks-pass Rsa key x next fits fit =
       m .size-p,
       m .size-q,
     )
+
+-- keys that fit, with comments that are UTF-8
+abbrev pub AllFit : List Key → Type 0
+AllFit [] = Unit {0}
+AllFit (k ∷ keys) =
+    PublicFits (k .algorithm) (k .public)
+    × PrivateFits (k .algorithm) (k .public) (k .private)
+    × (utf8 (k .comment) ≡ true)
+    × AllFit keys
+
+-- they all pass, their scalars filled
+pub keys-pass : (keys : List Key) (next : Written) → AllFit keys → keysChecked (map filledKey keys) next ≡ next
+unfolding keysChecked
+keys-pass [] next fit = refl
+keys-pass (k ∷ keys) next fit =
+    checks-pass (k .algorithm) (k .public) (k .private) _ (fit .0) (fit .1) ∙ rw (fit .2) (keys-pass keys next (fit .3))
 
 -- six numbers that pass them fit
 pub numbers-fit : (key : PublicBytes) (x : PrivateBytes) → allMpints key x ≡ true → sizesFit key x ≡ true → ModulusFits (key .modulus) (key .exponent) × NumbersFit (key .modulus) (x .d) (x .iqmp) (x .p) (x .q)

@@ -1,3 +1,2 @@
 pub mod Plain
-pub mod Parts
 pub mod Fits

@@ -47,12 +47,15 @@ abbrev pub left : Written → List ℕ → List ℕ → List ℕ
 left (written.Refused f) image old = old
 left (written.Length n) image old = splice old 0 image
 
--- size 11; room 9
+-- size 11; room 9; by the image's length
+abbrev pub sizedBy : ℕ → ℕ → Written
+sizedBy size room =
+    unless (leb size 65535) Size
+    (unless (leb size room) Room
+    (written.Length size))
+
 unfoldable pub sized : List ℕ → ℕ → Written
-sized image room =
-    unless (leb (length image) 65535) Size
-    (unless (leb (length image) room) Room
-    (written.Length (length image)))
+sized image room = sizedBy (length image) room
 
 -- the promise of every writer: it answers w, which is this in the rules' numbers, and leaves this in the buffer
 abbrev pub answers : Written → List ℕ → Written → List ℕ → Type 0

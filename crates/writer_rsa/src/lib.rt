@@ -2,124 +2,19 @@
 // before it changes a byte.
 ghost use mathlib.Core.Path.{_≡_};
 ghost use Prim.Native.Nat.{_<_};
-ghost use lib.ListN.{length};
-ghost use Rattle.fields.specs.Bytes.{string};
 ghost use Rattle.names.specs.declared.Algorithm.the-variants.{Rsa};
-ghost use Rattle.names.specs.Algorithms.{algorithmName};
-ghost use Rattle.mpint.specs.Mpint.{atMost, modulusSize};
-ghost use Rattle.mpint.specs.declared.Size.the-variants.{Bits};
-ghost use Rattle.format.specs.Format.{ofModulus, ofNumbers, blob, keypair, paddingLength, section, writtenImage};
-ghost use Rattle.format.specs.Lengths.{contentLength};
-ghost use Rattle.buffer.specs.Puts.{isPut};
+ghost use Rattle.format.specs.Format.{ofModulus, ofNumbers, entry, keyOf, alone, writtenPair, writtenImage};
+ghost use Rattle.format.specs.Lengths.{entriesLength};
 ghost use Rattle.buffer.specs.Runs.{isRun};
 ghost use Rattle.key_material.specs.Material.{checkintOf};
 ghost use Rattle.writer_reply.specs.Reply.{isSized};
-ghost use Rattle.writer_plain.specs.Plain.{allMpints, sizesFit, isPlain};
-ghost use Rattle.writer_rsa.specs.Short.{Short};
+ghost use Rattle.writer_plain.specs.Plain.{isPlain};
 use fields::Refusal;
 use key_material::Checkint;
-use mpint::Size;
-use mpint::is_mpint;
+use writer_parts::added;
 use writer_reply::Written;
 
-// Are all six positive and minimal?
-fn all_mpints(n: &[u8], e: &[u8], d: &[u8], iqmp: &[u8], p: &[u8], q: &[u8]) -> bool
-    ensures { λ r. ⌜ r ≡ allMpints (ofModulus (now (n .entry)) (now (e .entry))) (ofNumbers (now (d .entry)) (now (iqmp .entry)) (now (p .entry)) (now (q .entry))) ⌝ }
-{
-    is_mpint(n) & is_mpint(e) & is_mpint(d) & is_mpint(iqmp) & is_mpint(p) & is_mpint(q)
-}
-
-// Has a number at most as many bits as the modulus n has? One that has no more bytes than these bits fill is
-// not looked at.
-fn fits(n: &[u8], bits: usize, number: &[u8]) -> bool
-    requires { ⌜ modulusSize (now n) ≡ Bits bits ⌝ }
-    ensures { λ r. ⌜ r ≡ atMost (now (number .entry)) (now (n .entry)) ⌝ }
-{
-    if number.len() <= bits / 8 {
-        return true;
-    }
-    mpint::at_most(number, n)
-}
-
-// Has the modulus its size, and no other number more bits?
-fn sizes_fit(n: &[u8], e: &[u8], d: &[u8], iqmp: &[u8], p: &[u8], q: &[u8]) -> bool
-    ensures { λ r. ⌜ r ≡ sizesFit (ofModulus (now (n .entry)) (now (e .entry))) (ofNumbers (now (d .entry)) (now (iqmp .entry)) (now (p .entry)) (now (q .entry))) ⌝ }
-{
-    match mpint::modulus_size(n) {
-        Size::Outside => false,
-        Size::Bits(bits) => {
-            fits(n, bits, e)
-                & fits(n, bits, d)
-                & fits(n, bits, iqmp)
-                & fits(n, bits, p)
-                & fits(n, bits, q)
-        }
-    }
-}
-
-// The algorithm's name, as a string.
-fn put_algorithm(out: &mut [u8], at: usize) -> usize
-    ensures { λ r. ⌜ isPut (now (out .entry)) at (string (algorithmName Rsa)) r (now (out .exit)) ⌝ }
-{
-    buffer::put(out, at, b"\0\0\0\x07ssh-rsa")
-}
-
-// A public key: the name, e and n.
-fn put_key(out: &mut [u8], at: usize, n: &[u8], e: &[u8]) -> usize
-    ensures { λ r. ⌜ isRun (now (out .entry)) at (blob Rsa (ofModulus (now (n .entry)) (now (e .entry)))) r (now (out .exit)) ⌝ }
-{
-    let a = put_algorithm(out, at);
-    let b = buffer::put_string(out, a, e);
-    buffer::put_string(out, b, n)
-}
-
-// A keypair: the name and the six numbers.
-fn put_pair(
-    out: &mut [u8],
-    at: usize,
-    n: &[u8],
-    e: &[u8],
-    d: &[u8],
-    iqmp: &[u8],
-    p: &[u8],
-    q: &[u8],
-) -> usize
-    ensures { λ r. ⌜ isRun (now (out .entry)) at (keypair Rsa 0 (ofModulus (now (n .entry)) (now (e .entry))) (ofNumbers (now (d .entry)) (now (iqmp .entry)) (now (p .entry)) (now (q .entry)))) r (now (out .exit)) ⌝ }
-{
-    let at_n = put_algorithm(out, at);
-    let at_e = buffer::put_string(out, at_n, n);
-    let at_d = buffer::put_string(out, at_e, e);
-    let at_iqmp = buffer::put_string(out, at_d, d);
-    let at_p = buffer::put_string(out, at_iqmp, iqmp);
-    let at_q = buffer::put_string(out, at_p, p);
-    buffer::put_string(out, at_q, q)
-}
-
-// Puts every field of a section. The caller has seen to lengths and room.
-fn put_section(
-    out: &mut [u8],
-    at: usize,
-    n: &[u8],
-    e: &[u8],
-    d: &[u8],
-    iqmp: &[u8],
-    p: &[u8],
-    q: &[u8],
-    checkint: u32,
-    comment: &[u8],
-    padding: usize,
-) -> usize
-    requires { ⌜ padding ≡ paddingLength (contentLength Rsa (ofModulus (now n) (now e)) (ofNumbers (now d) (now iqmp) (now p) (now q)) (length (now comment))) ⌝ }
-    ensures { λ r. ⌜ isRun (now (out .entry)) at (section checkint (keypair Rsa 0 (ofModulus (now (n .entry)) (now (e .entry))) (ofNumbers (now (d .entry)) (now (iqmp .entry)) (now (p .entry)) (now (q .entry)))) (now (comment .entry))) r (now (out .exit)) ⌝ }
-{
-    let first = buffer::put_uint32(out, at, checkint as usize);
-    let second = buffer::put_uint32(out, first, checkint as usize);
-    let third = put_pair(out, second, n, e, d, iqmp, p, q);
-    let fourth = buffer::put_string(out, third, comment);
-    buffer::put_padding(out, fourth, padding)
-}
-
-// Puts every field of a plain image. The caller has seen to lengths and room.
+// Puts every field of a plain image. The caller has seen to the section's length and to room.
 fn put_plain(
     out: &mut [u8],
     n: &[u8],
@@ -130,22 +25,25 @@ fn put_plain(
     q: &[u8],
     checkint: u32,
     comment: &[u8],
-    content: usize,
+    entries: usize,
 ) -> usize
-    requires { ⌜ (length (now n) < 1026) × (length (now e) < 1026) ⌝ }
-    requires { ⌜ (content ≡ contentLength Rsa (ofModulus (now n) (now e)) (ofNumbers (now d) (now iqmp) (now p) (now q)) (length (now comment))) × (content < 65536) ⌝ }
-    ensures { λ r. ⌜ isRun (now (out .entry)) 0 (writtenImage checkint Rsa (ofModulus (now (n .entry)) (now (e .entry))) (ofNumbers (now (d .entry)) (now (iqmp .entry)) (now (p .entry)) (now (q .entry))) (now (comment .entry))) r (now (out .exit)) ⌝ }
+    requires { ⌜ (entries ≡ entriesLength (alone (entry (writtenPair Rsa (ofModulus (now n) (now e)) (ofNumbers (now d) (now iqmp) (now p) (now q))) (now comment)))) × (entries < 65536) ⌝ }
+    ensures { λ r. ⌜ isRun (now (out .entry)) 0 (writtenImage checkint (alone (keyOf Rsa (ofModulus (now (n .entry)) (now (e .entry))) (ofNumbers (now (d .entry)) (now (iqmp .entry)) (now (p .entry)) (now (q .entry))) (now (comment .entry))))) r (now (out .exit)) ⌝ }
 {
+    let content = 8 + entries;
     let padding = buffer::padding(content);
     let front = b"openssh-key-v1\0\0\0\0\x04none\0\0\0\x04none\0\0\0\0\0\0\0\x01";
     let first = buffer::put(out, 0, front);
-    let second = buffer::put_uint32(out, first, 19 + e.len() + n.len());
-    let third = put_key(out, second, n, e);
-    let fourth = buffer::put_uint32(out, third, content + padding);
-    put_section(out, fourth, n, e, d, iqmp, p, q, checkint, comment, padding)
+    let second = writer_numbers::put_blob(out, first, n, e);
+    let third = buffer::put_uint32(out, second, content + padding);
+    let fourth = buffer::put_uint32(out, third, checkint as usize);
+    let fifth = buffer::put_uint32(out, fourth, checkint as usize);
+    let sixth = writer_numbers::put_pair(out, fifth, n, e, d, iqmp, p, q);
+    let seventh = buffer::put_string(out, sixth, comment);
+    buffer::put_padding(out, seventh, padding)
 }
 
-// A plain image of numbers whose sizes fit, if its size and the room allow.
+// A plain image of numbers that were checked, if its size and the room allow.
 fn write_sized(
     n: &[u8],
     e: &[u8],
@@ -157,23 +55,19 @@ fn write_sized(
     comment: &[u8],
     out: &mut [u8],
 ) -> Written
-    requires { ⌜ Short (ofModulus (now n) (now e)) (ofNumbers (now d) (now iqmp) (now p) (now q)) ⌝ }
-    ensures { λ r. ⌜ isSized (writtenImage checkint Rsa (ofModulus (now (n .entry)) (now (e .entry))) (ofNumbers (now (d .entry)) (now (iqmp .entry)) (now (p .entry)) (now (q .entry))) (now (comment .entry))) (now (out .entry)) r (now (out .exit)) ⌝ }
+    ensures { λ r. ⌜ isSized (writtenImage checkint (alone (keyOf Rsa (ofModulus (now (n .entry)) (now (e .entry))) (ofNumbers (now (d .entry)) (now (iqmp .entry)) (now (p .entry)) (now (q .entry))) (now (comment .entry))))) (now (out .entry)) r (now (out .exit)) ⌝ }
 {
-    if 65535 < comment.len() {
-        return writer_reply::refused(Refusal::Size);
-    }
-    let key = 19 + e.len() + n.len();
-    let pair = 35 + n.len() + e.len() + d.len() + iqmp.len() + p.len() + q.len();
-    let content = 8 + pair + (4 + comment.len());
-    let size = 47 + key + (content + buffer::padding(content));
+    let key = writer_numbers::blob_length(n, e);
+    let pair = writer_numbers::pair_length(n, e, d, iqmp, p, q);
+    let entries = added(added(4, pair), comment.len());
+    let size = writer_parts::image_length(added(4, key), entries);
     if 65535 < size {
         return writer_reply::refused(Refusal::Size);
     }
     if out.len() < size {
         return writer_reply::refused(Refusal::Room);
     }
-    Written::Length(put_plain(out, n, e, d, iqmp, p, q, checkint, comment, content))
+    Written::Length(put_plain(out, n, e, d, iqmp, p, q, checkint, comment, entries))
 }
 
 // A plain image of six lent mpints.
@@ -190,16 +84,15 @@ pub fn write_parts(
 ) -> Written
     ensures { λ r. ⌜ isPlain Rsa (ofModulus (now (n .entry)) (now (e .entry))) (ofNumbers (now (d .entry)) (now (iqmp .entry)) (now (p .entry)) (now (q .entry))) checkint (now (comment .entry)) (now (out .entry)) r (now (out .exit)) ⌝ }
 {
-    if !all_mpints(n, e, d, iqmp, p, q) {
-        return writer_reply::refused(Refusal::FormatEncoding);
+    match writer_numbers::check(n, e, d, iqmp, p, q) {
+        Written::Refused(f) => Written::Refused(f),
+        Written::Length(_) => {
+            if !utf8::is_utf8(comment) {
+                return writer_reply::refused(Refusal::CharacterEncoding);
+            }
+            write_sized(n, e, d, iqmp, p, q, checkint, comment, out)
+        }
     }
-    if !sizes_fit(n, e, d, iqmp, p, q) {
-        return writer_reply::refused(Refusal::Length);
-    }
-    if !utf8::is_utf8(comment) {
-        return writer_reply::refused(Refusal::CharacterEncoding);
-    }
-    write_sized(n, e, d, iqmp, p, q, checkint, comment, out)
 }
 
 fn checkint_of(given: Checkint, d: &[u8]) -> u32

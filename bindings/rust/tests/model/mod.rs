@@ -113,19 +113,22 @@ pub struct Record {
     pub iqmp: Part,
     pub p: Part,
     pub q: Part,
+    /// The key count.
+    pub keys: u64,
 }
 
 /// Everything that a read answers, in the C interface's order.
-pub type Numbers = [u64; 39];
+pub type Numbers = [u64; 40];
 
 /// The places of the parts among these.
 const FIRST_PARTS: usize = 11;
 const SECTION: usize = 25;
 const BITS: usize = 26;
 const RSA_PARTS: usize = 27;
+const KEYS: usize = 39;
 
 pub fn numbers(read: &Result<Record, Refusal>) -> Numbers {
-    let mut numbers = [0; 39];
+    let mut numbers = [0; 40];
     match read {
         Err(refusal) => numbers[..3].copy_from_slice(&[refusal.number, refusal.count, refusal.at]),
         Ok(record) => {
@@ -138,6 +141,7 @@ pub fn numbers(read: &Result<Record, Refusal>) -> Numbers {
             numbers[BITS] = record.bits;
             let Record { modulus, exponent, d, iqmp, p, q, .. } = record;
             put_places(&mut numbers[RSA_PARTS..], &[modulus, exponent, d, iqmp, p, q]);
+            numbers[KEYS] = record.keys;
         }
     }
     numbers
@@ -501,7 +505,8 @@ pub fn read_header(image: &[u8]) -> Result<Record, Refusal> {
     record.cipher = reader.name(CIPHERS.iter().map(|row| row.0), "the cipher name's string")? as u8;
     read_kdf(&mut reader, &mut record)?;
     let count = reader.at;
-    if reader.uint32("the key count")? != 1 {
+    record.keys = u64::from(reader.uint32("the key count")?);
+    if record.keys != 1 {
         return refuse(1, count, "the key count");
     }
     let mut blob = reader.string("the blob's string")?;

@@ -11,12 +11,12 @@ use saltorchard::raw;
 use saltorchard::{Algorithm, Checkint, Cipher, EcdsaCurve, EncryptedKey, Error, Header, Image, KdfAlg};
 use saltorchard::{PlainKey, RsaKey};
 
-const FIELDS: [&str; 39] = [
+const FIELDS: [&str; 40] = [
     "number", "count", "at", "kind", "algorithm", "cipher", "kdf", "rounds", "checkint", "padding", "form",
     "blob start", "blob length", "point start", "point length", "scalar start", "scalar length", "comment start",
     "comment length", "salt start", "salt length", "ciphertext start", "ciphertext length", "tag start", "tag length",
     "section", "bits", "modulus start", "modulus length", "exponent start", "exponent length", "d start", "d length",
-    "iqmp start", "iqmp length", "p start", "p length", "q start", "q length",
+    "iqmp start", "iqmp length", "p start", "p length", "q start", "q length", "keys",
 ];
 
 pub const ALGORITHMS: [Algorithm; 5] = [
@@ -146,7 +146,7 @@ pub fn numbers_of(image: &raw::Image) -> Numbers {
         image.salt.start, image.salt.length, image.ciphertext.start, image.ciphertext.length, image.tag.start,
         image.tag.length, image.section, image.bits, image.modulus.start, image.modulus.length, image.exponent.start,
         image.exponent.length, image.d.start, image.d.length, image.iqmp.start, image.iqmp.length, image.p.start,
-        image.p.length, image.q.start, image.q.length,
+        image.p.length, image.q.start, image.q.length, image.keys,
     ]
 }
 
@@ -180,6 +180,7 @@ pub fn raw_of(numbers: Numbers) -> raw::Image {
         iqmp: part(33),
         p: part(35),
         q: part(37),
+        keys: numbers[39],
     }
 }
 

@@ -45,7 +45,22 @@ same-place-requires-13 c κs = search needs
 
 returns : tie.Need-returns
 unfolding sameImage
-returns c = rw (← c .before .before .before .before .before .before .before .before .before .before .before .before .before .before .before .before .same-place .ensures, ← c .before .before .before .before .before .before .before .before .before .before .before .before .before .before .before .same-place2 .ensures, ← c .before .before .before .before .before .before .before .before .before .before .before .before .before .before .same-place3 .ensures, ← c .before .before .before .before .before .before .before .before .before .before .before .before .before .same-place4 .ensures, ← c .before .before .before .before .before .before .before .before .before .before .before .before .same-place5 .ensures, ← c .before .before .before .before .before .before .before .before .before .before .before .same-place6 .ensures, ← c .before .before .before .before .before .before .before .before .before .before .same-place7 .ensures, ← c .before .before .before .before .before .same-place8 .ensures, ← c .before .before .before .before .same-place9 .ensures, ← c .before .before .before .same-place10 .ensures, ← c .before .before .same-place11 .ensures, ← c .before .same-place12 .ensures, ← c .same-place13 .ensures)
+returns c =
+    rw (
+      ← c .before .before .before .before .before .before .before .before .before .before .before .before .before .before .before .before .before .before .same-place .ensures,
+      ← c .before .before .before .before .before .before .before .before .before .before .before .before .before .before .before .before .before .same-place2 .ensures,
+      ← c .before .before .before .before .before .before .before .before .before .before .before .before .before .before .before .before .same-place3 .ensures,
+      ← c .before .before .before .before .before .before .before .before .before .before .before .before .before .before .before .same-place4 .ensures,
+      ← c .before .before .before .before .before .before .before .before .before .before .before .before .before .before .same-place5 .ensures,
+      ← c .before .before .before .before .before .before .before .before .before .before .before .before .before .same-place6 .ensures,
+      ← c .before .before .before .before .before .before .before .before .before .before .before .before .same-place7 .ensures,
+      ← c .before .before .before .before .before .before .before .same-place8 .ensures,
+      ← c .before .before .before .before .before .before .same-place9 .ensures,
+      ← c .before .before .before .before .before .same-place10 .ensures,
+      ← c .before .before .before .before .same-place11 .ensures,
+      ← c .before .before .before .same-place12 .ensures,
+      ← c .before .before .same-place13 .ensures,
+    )
 
 pub same-image-spec : {M : Type 1} → statement M
 same-image-spec =

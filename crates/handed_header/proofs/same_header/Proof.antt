@@ -33,7 +33,18 @@ same-public-requires c κs = search needs
 
 returns : tie.Need-returns
 unfolding sameHeader
-returns c = rw (← c .before .before .before .before .before .before .before .before .before .before .before .before .cipher-code .ensures, ← c .before .before .before .before .before .before .before .before .before .before .before .cipher-code2 .ensures, ← c .before .before .before .before .before .before .before .before .before .before .kdf-code .ensures, ← c .before .before .before .before .before .before .before .before .before .kdf-code2 .ensures, ← c .before .before .before .before .before .before .before .before .same-part .ensures, ← c .before .before .before .before .before .code .ensures, ← c .before .before .before .before .code2 .ensures, ← c .before .before .before .same-part2 .ensures, ← c .before .before .same-public .ensures)
+returns c =
+    rw (
+      ← c .before .before .before .before .before .before .before .before .before .before .before .before .before .before .cipher-code .ensures,
+      ← c .before .before .before .before .before .before .before .before .before .before .before .before .before .cipher-code2 .ensures,
+      ← c .before .before .before .before .before .before .before .before .before .before .before .before .kdf-code .ensures,
+      ← c .before .before .before .before .before .before .before .before .before .before .before .kdf-code2 .ensures,
+      ← c .before .before .before .before .before .before .before .before .before .before .same-part .ensures,
+      ← c .before .before .before .before .before .code .ensures,
+      ← c .before .before .before .before .code2 .ensures,
+      ← c .before .before .before .same-part2 .ensures,
+      ← c .before .before .same-public .ensures,
+    )
 
 pub same-header-spec : {M : Type 1} → statement M
 same-header-spec =

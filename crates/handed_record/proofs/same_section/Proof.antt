@@ -16,6 +16,9 @@ same-private-requires c κs = search needs
 same-part-requires : tie.Need-same-part-requires
 same-part-requires c κs = search needs
 
+same-requires : tie.Need-same-requires
+same-requires c κs = search needs
+
 same-part-requires-2 : tie.Need-same-part-requires-2
 same-part-requires-2 c κs = search needs
 
@@ -24,7 +27,16 @@ same-part-requires-3 c κs = search needs
 
 returns : tie.Need-returns
 unfolding sameSection
-returns c = rw (← c .before .before .before .before .before .before .before .before .before .kind-code .ensures, ← c .before .before .before .before .before .before .before .before .kind-code2 .ensures, ← c .before .before .before .same-private .ensures, ← c .before .before .same-part .ensures, ← c .before .same-part2 .ensures, ← c .same-part3 .ensures)
+returns c =
+    rw (
+      ← c .before .before .before .before .before .before .before .before .before .before .kind-code .ensures,
+      ← c .before .before .before .before .before .before .before .before .before .kind-code2 .ensures,
+      ← c .before .before .before .before .same-private .ensures,
+      ← c .before .before .before .same-part .ensures,
+      ← c .before .before .same .ensures,
+      ← c .before .same-part2 .ensures,
+      ← c .same-part3 .ensures,
+    )
 
 pub same-section-spec : {M : Type 1} → statement M
 same-section-spec =
@@ -34,6 +46,7 @@ same-section-spec =
     kind-code-requires-2
     same-private-requires
     same-part-requires
+    same-requires
     same-part-requires-2
     same-part-requires-3
     returns)

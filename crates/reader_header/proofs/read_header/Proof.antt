@@ -1,6 +1,8 @@
--- `reader_header::read_header` meets its contract: each return is the case of `headerAt` that the four answers pick. Assumes nothing.
-use mathlib.Core.Path.{refl}
+-- `reader_header::read_header` meets its contract: each return is the case of `headerAt` that the four answers pick; there is a key (`keys-some`). Rests on the callees' contracts.
+use native.Mathlib.Omega.{arith}
+use mathlib.Core.Path.{refl, sym, _∙_}
 use Rattle.reader_header.specs.Header.{headerAt}
+use Rattle.reader_header.specs.Place.{count-place, keys-some}
 use borrow.Author.Needs.{needs}
 use Rattle.reader_header.proofs.read_header.Statement.{statement}
 use Rattle.reader_header.proofs.read_header.Tie as tie
@@ -29,17 +31,28 @@ read-count-requires c κs = search needs
 enum-known-f-3 : tie.Need-enum-known-f-3
 enum-known-f-3 c = search needs
 
-enum-known-e : tie.Need-enum-known-e
-enum-known-e c = search needs
+enum-known-n : tie.Need-enum-known-n
+enum-known-n c = search needs
 
-read-blob-field-requires : tie.Need-read-blob-field-requires
-read-blob-field-requires c κs = search needs
+cast-read-keys : tie.Need-cast-read-keys
+cast-read-keys c = search needs
+
+sub-read-keys : tie.Need-sub-read-keys
+sub-read-keys c =
+    let place = count-place _ _ _ _ (sym (c .before .before .before .read-count .ensures) ∙ c .before .n .given .1) in
+    omega (arith, keys-some (c .before .n .given .0 .0) (place .allowed))
+
+read-keys-requires : tie.Need-read-keys-requires
+read-keys-requires c κs = search needs
 
 enum-known-f-4 : tie.Need-enum-known-f-4
 enum-known-f-4 c = search needs
 
 enum-known-a : tie.Need-enum-known-a
 enum-known-a c = search needs
+
+cast-t29 : tie.Need-cast-t29
+cast-t29 c = search needs
 
 returns : tie.Need-returns
 unfolding headerAt
@@ -55,11 +68,11 @@ returns-3 c = rw (← c .before .before .before .before .before .before .before 
 
 returns-4 : tie.Need-returns-4
 unfolding headerAt
-returns-4 c = rw (← c .before .before .before .before .before .before .before .before .before .before .before .before .before .before .before .read-cipher .ensures, c .before .before .before .before .before .before .before .before .before .before .before .before .before .cipher .given .1, ← c .before .before .before .before .before .before .before .before .before .before .before .read-kdf .ensures, c .before .before .before .before .before .before .before .before .before .kdf .given .1, ← c .before .before .before .before .before .before .before .read-count .ensures, c .before .before .before .before .before .e .given .1, ← c .before .before .before .read-blob-field .ensures, c .before .f4 .given .1) (refl, refl)
+returns-4 c = rw (← c .before .before .before .before .before .before .before .before .before .before .before .before .before .before .before .read-cipher .ensures, c .before .before .before .before .before .before .before .before .before .before .before .before .before .cipher .given .1, ← c .before .before .before .before .before .before .before .before .before .before .before .read-kdf .ensures, c .before .before .before .before .before .before .before .before .before .kdf .given .1, ← c .before .before .before .before .before .before .before .read-count .ensures, c .before .before .before .before .before .n .given .1, ← c .before .before .before .read-keys .ensures, c .before .f4 .given .1) (refl, refl)
 
 returns-5 : tie.Need-returns-5
 unfolding headerAt
-returns-5 c = rw (← c .before .before .before .before .before .before .before .before .before .before .before .before .before .before .before .read-cipher .ensures, c .before .before .before .before .before .before .before .before .before .before .before .before .before .cipher .given .1, ← c .before .before .before .before .before .before .before .before .before .before .before .read-kdf .ensures, c .before .before .before .before .before .before .before .before .before .kdf .given .1, ← c .before .before .before .before .before .before .before .read-count .ensures, c .before .before .before .before .before .e .given .1, ← c .before .before .before .read-blob-field .ensures, c .before .a .given .1) (refl, refl)
+returns-5 c = rw (← c .before .before .before .before .before .before .before .before .before .before .before .before .before .before .before .read-cipher .ensures, c .before .before .before .before .before .before .before .before .before .before .before .before .before .cipher .given .1, ← c .before .before .before .before .before .before .before .before .before .before .before .read-kdf .ensures, c .before .before .before .before .before .before .before .before .before .kdf .given .1, ← c .before .before .before .before .before .before .before .read-count .ensures, c .before .before .before .before .before .n .given .1, ← c .before .before .before .read-keys .ensures, c .before .a .given .1) (refl, refl)
 
 pub read-header-spec : {M : Type 1} → statement M
 read-header-spec =
@@ -73,10 +86,13 @@ read-header-spec =
     enum-known-kdf
     read-count-requires
     enum-known-f-3
-    enum-known-e
-    read-blob-field-requires
+    enum-known-n
+    cast-read-keys
+    sub-read-keys
+    read-keys-requires
     enum-known-f-4
     enum-known-a
+    cast-t29
     returns
     returns-2
     returns-3

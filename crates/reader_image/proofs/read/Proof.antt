@@ -1,5 +1,6 @@
 -- `reader_image::read` meets its contract: what the header read and the section step answered picks the case of `readAt`. Assumes nothing.
-use mathlib.Core.Path.{refl}
+use mathlib.Core.Path.{refl, sym, _∙_}
+use Rattle.reader_header.specs.Place.{header-second}
 use Rattle.reader_image.specs.Container.{readAt}
 use borrow.Author.Needs.{needs}
 use Rattle.reader_image.proofs.read.Statement.{statement}
@@ -15,7 +16,7 @@ enum-known-h : tie.Need-enum-known-h
 enum-known-h c = search needs
 
 section-step-requires : tie.Need-section-step-requires
-section-step-requires c κs = search needs
+section-step-requires c κs = header-second _ _ (sym (c .before .before .before .read-header .ensures .0) ∙ c .before .h .given .1)
 
 enum-known-f-2 : tie.Need-enum-known-f-2
 enum-known-f-2 c = search needs

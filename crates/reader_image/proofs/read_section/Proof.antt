@@ -1,6 +1,8 @@
 -- `reader_image::read_section` meets its contract: the judgement and what the section step answered pick the case of `sectionReadAt`.
 -- Assumes nothing.
-use mathlib.Core.Path.{refl}
+use mathlib.Core.Path.{refl, sym, _∙_}
+use Rattle.reader_header.specs.Place.{header-second}
+use Rattle.handed_header.specs.Halves.{passes-header}
 use Rattle.reader_image.specs.Container.{sectionReadAt}
 use borrow.Author.Needs.{needs}
 use Rattle.reader_image.proofs.read_section.Statement.{statement}
@@ -10,7 +12,7 @@ is-header-requires : tie.Need-is-header-requires
 is-header-requires c κs = search needs
 
 section-step-requires : tie.Need-section-step-requires
-section-step-requires c κs = search needs
+section-step-requires c κs = header-second _ _ (passes-header _ _ (sym (c .before .is-header .ensures) ∙ c .if1 .taken))
 
 enum-known-f : tie.Need-enum-known-f
 enum-known-f c = search needs

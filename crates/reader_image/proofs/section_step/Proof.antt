@@ -12,12 +12,18 @@ is-none-requires c κs = search needs
 enum-told : tie.Need-enum-told
 enum-told c = search needs
 
+add-read-plain : tie.Need-add-read-plain
+add-read-plain c = search needs
+
+sub-read-plain : tie.Need-sub-read-plain
+sub-read-plain c = search needs
+
 read-plain-requires : tie.Need-read-plain-requires
 read-plain-requires c κs = search needs
 
 returns : tie.Need-returns
 unfolding sectionAt
-returns c = rw (← c .before .before .before .before .is-none .ensures, c .before .before .before .if1 .taken, c .before .enum-told .given .1) (c .read-plain .ensures)
+returns c = rw (← c .before .before .before .before .before .is-none .ensures, c .before .before .before .before .if1 .taken, c .before .before .enum-told .given .1) (c .read-plain .ensures)
 
 enum-told-2 : tie.Need-enum-told-2
 enum-told-2 c = search needs
@@ -39,6 +45,8 @@ section-step-spec =
     (tie.spec
     is-none-requires
     enum-told
+    add-read-plain
+    sub-read-plain
     read-plain-requires
     returns
     enum-told-2

@@ -1,0 +1,3 @@
+pub mod Blobs
+pub mod Back
+pub mod Read

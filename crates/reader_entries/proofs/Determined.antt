@@ -1,0 +1,8 @@
+-- Any two replies that meet a public function's own contract are equal.
+-- Rests on the contracts being equations.
+use Rattle.fields.specs.Determined.{Determined}
+use Rattle.reader_entries.proofs.read_entry.Reads as read-entry
+use Rattle.reader_entries.proofs.read_entry.Kinds as read-entry-kinds
+
+pub read-entry-determined : Determined 1 read-entry-kinds.ps read-entry-kinds.r read-entry.Post
+read-entry-determined κs a r₁ r₂ s₁ s₂ p q = cc

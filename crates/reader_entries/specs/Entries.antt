@@ -1,0 +1,161 @@
+-- docs/RULES.md, 5.3 to 5.5, and of the places 7.3: what reading the keys of a plain section finds, in order. RSA keys are compared by n and e.
+use Prim.Native.Nat.{ℕ, zero, suc, _-_}
+use native.Mathlib.Omega.{arith}
+use mathlib.Core.Path.{_≡_, refl}
+use mathlib.Core.List.{List, [], _∷_}
+use mathlib.Core.Bool.{Bool, cond, _&&_}
+use lib.ListN.{length}
+use Rattle.fields.specs.Bytes.{sameBytes}
+use Rattle.fields.specs.Fields.{fault, onField, stringAt, viewOf}
+use Rattle.fields.specs.declared.Cursor.{Cursor}
+use Rattle.fields.specs.declared.Fault.{Fault}
+use Rattle.fields.specs.declared.Part.{Part}
+use Rattle.fields.specs.declared.Refusal.the-variants.{PublicKey, CharacterEncoding}
+use Rattle.names.specs.declared.Algorithm.{Algorithm}
+use Rattle.names.specs.declared.Algorithm.the-variants.{Elliptic as OnCurve}
+use Rattle.names.specs.declared.Elliptic.the-variants.{Ed25519}
+use Rattle.names.specs.Algorithms.{sameAlgorithm}
+use Rattle.utf8.specs.Utf8.{utf8}
+use Rattle.format.specs.Format.{Key, keyOf, ofPoint, ofScalar}
+use Rattle.key_public.specs.declared.Public.{Public}
+use Rattle.key_public.specs.Keys.{publicBytes}
+use Rattle.key_pairs.specs.declared.Private.{Private}
+use Rattle.key_pairs.specs.Pairs.{onKeypair, privateBytes, keypairAt}
+use Rattle.places.specs.declared.Places.{Places}
+use Rattle.places.specs.Places.{placesOf, pushed}
+use Rattle.reader_blobs.specs.declared.BlobField.the-variants as blob-field
+use Rattle.reader_blobs.specs.Blobs.{onBlobField, blobFieldAt}
+use Rattle.reader_entries.specs.declared.Entry.{Entry}
+use Rattle.reader_entries.specs.declared.Entry.the-variants as entry
+
+-- by what was read
+abbrev pub onEntry : {R : Type 0} → Entry → (Fault → R) → (Private → Part → Cursor → R) → R
+onEntry (entry.Refused f) refused key = refused f
+onEntry (entry.Key private comment c) refused key = key private comment c
+
+-- the same public key, kind included: what a kind lacks has no bytes
+unfoldable pub sameKey : List ℕ → Algorithm → Public → Algorithm → Public → Bool
+sameKey s a p b q =
+    sameAlgorithm a b
+    && sameBytes (viewOf s (p .point)) (viewOf s (q .point))
+    && sameBytes (viewOf s (p .modulus)) (viewOf s (q .modulus))
+    && sameBytes (viewOf s (p .exponent)) (viewOf s (q .exponent))
+
+-- keypair; public key unlike the header's: 5, at the keypair's name; comment string; not UTF-8: 7
+unfoldable pub entryAt : List ℕ → Cursor → Algorithm → Public → Entry
+entryAt s c algorithm public =
+    onKeypair (keypairAt s c) entry.Refused (λ a p private d.
+    cond (sameKey s a p algorithm public)
+    (onField (stringAt s d) entry.Refused (λ comment e.
+    cond (utf8 (viewOf s comment)) (entry.Key private comment e) (entry.Refused (fault CharacterEncoding (d .at)))))
+    (entry.Refused (fault PublicKey (c .at))))
+
+-- a key, compared with the blob of its number: the places after both
+pub data Next : Type 0 where
+  Next-key : Cursor → Cursor → Next
+  Next-not : Fault → Next
+
+abbrev pub onNext : {R : Type 0} → Next → (Fault → R) → (Cursor → Cursor → R) → R
+onNext (Next-not f) refused key = refused f
+onNext (Next-key d e) refused key = key d e
+
+unfoldable pub nextAt : List ℕ → Cursor → Cursor → Next
+nextAt s c b =
+    onBlobField (blobFieldAt s b) Next-not (λ algorithm p public e.
+    onEntry (entryAt s c algorithm public) Next-not (λ private comment d.
+    Next-key d e))
+
+-- where each of so many keys begins, and the place after the last; or the first refusal
+pub data Listed : Type 0 where
+  Are : List ℕ → Cursor → Listed
+  Not : Fault → Listed
+
+abbrev pub onListed : {R : Type 0} → Listed → (Fault → R) → (List ℕ → Cursor → R) → R
+onListed (Not f) refused listed = refused f
+onListed (Are l c) refused listed = listed l c
+
+unfoldable pub moreAt : List ℕ → Cursor → Cursor → ℕ → Listed
+moreAt s c b zero = Are [] c
+moreAt s c b (suc n) =
+    onNext (nextAt s c b) Not (λ d e.
+    onListed (moreAt s d e n) Not (λ l g.
+    Are (c .at ∷ l) g))
+
+-- a section's keys: the first, compared with its own blob, and so many more, their blobs from b on
+pub data Keys : Type 0 where
+  Keys-are : Private → Part → Places → Cursor → Keys
+  Keys-not : Fault → Keys
+
+abbrev pub onKeys : {R : Type 0} → Keys → (Fault → R) → (Private → Part → Places → Cursor → R) → R
+onKeys (Keys-not f) refused read = refused f
+onKeys (Keys-are private comment places c) refused read = read private comment places c
+
+unfoldable pub keysAt : List ℕ → Cursor → Algorithm → Public → Cursor → ℕ → Keys
+keysAt s c algorithm public b more =
+    onEntry (entryAt s c algorithm public) Keys-not (λ private comment d.
+    onListed (moreAt s d b more) Keys-not (λ l e.
+    Keys-are private comment (placesOf (c .at ∷ l)) e))
+
+-- ---- the key at a place
+
+-- a place without one gives a key without bytes
+abbrev pub noKey : Key
+noKey = keyOf (OnCurve Ed25519) (ofPoint []) (ofScalar []) []
+
+-- a keypair and a comment, up to the image's end
+unfoldable pub keyRead : List ℕ → ℕ → Key
+keyRead s at =
+    onKeypair (keypairAt s (record { at = at; end = length s })) (λ f. noKey) (λ a public private d.
+    onField (stringAt s d) (λ f. noKey) (λ comment e.
+    keyOf a (publicBytes s public) (privateBytes s private) (viewOf s comment)))
+
+-- ---- laws: by the number that is left to read, as the code counts it
+
+-- the first key before those that follow it
+abbrev pub before : ℕ → Private → Part → Keys → Keys
+before at private comment (Keys-not f) = Keys-not f
+before at private comment (Keys-are x m places c) = Keys-are private comment (pushed at places) c
+
+-- one key
+pub keys-last :
+    (s : List ℕ) (c : Cursor) (algorithm : Algorithm) (public : Public) (b : Cursor) (private : Private) (comment : Part) (d : Cursor)
+    → entryAt s c algorithm public ≡ entry.Key private comment d
+    → keysAt s c algorithm public b 0 ≡ Keys-are private comment (pushed (c .at) (placesOf [])) d
+unfolding keysAt moreAt
+keys-last s c algorithm public b private comment d e = rw e
+
+-- another, and its blob
+pub keys-next :
+    (s : List ℕ) (c : Cursor) (algorithm : Algorithm) (public : Public) (b : Cursor) (n : ℕ) (private : Private) (comment : Part) (d : Cursor) (a : Algorithm)
+    (p : Part) (q : Public) (e : Cursor) → (n ≡ 0 → ⊥) → entryAt s c algorithm public ≡ entry.Key private comment d → blobFieldAt s b ≡ blob-field.Key a p q e
+    → keysAt s c algorithm public b n ≡ before (c .at) private comment (keysAt s d a q e (n - 1))
+unfolding keysAt moreAt nextAt
+keys-next s c algorithm public b zero private comment d a p q e h w v = absurd (h refl)
+keys-next s c algorithm public b (suc n) private comment d a p q e h w v =
+    let less : suc n - 1 ≡ n = omega arith in
+    rw (w, v, less) (go (entryAt s d a q))
+  where
+    go :
+        (r : Entry)
+        → onListed (onNext (onEntry r Next-not (λ x m g. Next-key g e)) Not (λ g o. onListed (moreAt s g o n) Not (λ l k. Are (d .at ∷ l) k))) Keys-not
+        (λ l k. Keys-are private comment (placesOf (c .at ∷ l)) k)
+        ≡ before (c .at) private comment
+        (onEntry r Keys-not (λ x m g. onListed (moreAt s g e n) Keys-not (λ l k. Keys-are x m (placesOf (d .at ∷ l)) k)))
+    go (entry.Refused f) = refl
+    go (entry.Key x m g) = told x m (moreAt s g e n)
+      where
+        told :
+            (x : Private) (m : Part) (r : Listed)
+            → onListed (onListed r Not (λ l k. Are (d .at ∷ l) k)) Keys-not (λ l k. Keys-are private comment (placesOf (c .at ∷ l)) k)
+            ≡ before (c .at) private comment (onListed r Keys-not (λ l k. Keys-are x m (placesOf (d .at ∷ l)) k))
+        told x m (Not f) = refl
+        told x m (Are l k) = refl
+
+-- a blob that is refused
+pub keys-blob :
+    (s : List ℕ) (c : Cursor) (algorithm : Algorithm) (public : Public) (b : Cursor) (n : ℕ) (private : Private) (comment : Part) (d : Cursor) (f : Fault)
+    → (n ≡ 0 → ⊥) → entryAt s c algorithm public ≡ entry.Key private comment d → blobFieldAt s b ≡ blob-field.Refused f
+    → keysAt s c algorithm public b n ≡ Keys-not f
+unfolding keysAt moreAt nextAt
+keys-blob s c algorithm public b zero private comment d f h w v = absurd (h refl)
+keys-blob s c algorithm public b (suc n) private comment d f h w v = rw (w, v)

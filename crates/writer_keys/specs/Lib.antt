@@ -1,0 +1,3 @@
+pub mod Named
+pub mod Checked
+pub mod Passes
