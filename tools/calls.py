@@ -1,4 +1,4 @@
-"""Calls of the writers and of the comment change, in rows: each row has a lent buffer and the calls that are made on it one
+"""Calls of the writers and of the edits, in rows: each row has a lent buffer and the calls that are made on it one
 after another. How they are stored for crates/replay_writing, and what it must print.
 
 In the file of calls every number is 4 bytes, big-endian. A row is how many calls it has, the buffer that is lent to them, the
@@ -10,6 +10,13 @@ fewer are named:
   3 change     0 for the length that the last accepted call answered, the lent image's until one was, or 1 for the number
                that follows, its upper half and its lower half; comment
   4 rsa        0, 1 to derive the checkint or 0, checkint; n, e, d, iqmp, p, q, comment
+and, once rule 4.5 opens, of several keys, where the edits have the three numbers of a change, and k and each number of a table are 8
+bytes, big-endian:
+  5 write_keys         0, 1 to derive the checkint or 0, checkint; the table, its text
+  6 change_comment_of  k, comment
+  7 add_key            the algorithm as a byte, public, private, comment
+  8 add_rsa            n, e, d, iqmp, p, q, comment
+  9 remove_key         k
 A text is how many pieces it has, and each piece is the length of a unit, the length of the piece, and the unit, which is
 repeated over the piece. So 65,301 times one byte take 13 bytes.
 
@@ -20,12 +27,14 @@ is divided by a prime just below 2**56. A change of any single byte always shows
 import re
 from typing import NamedTuple
 
+import model_edits
 import model_writing
 from images import point_of, scalar_of
 from model_writing import Reply
 from rsa import NUMBERS
 
-CODES = {"plain": 0, "encrypted": 1, "rewrite": 2, "change": 3, "rsa": 4}
+WRITERS = {"plain": 0, "encrypted": 1, "rewrite": 2, "rsa": 4, "write_keys": 5}
+EDITS = {"change": 3, "change_comment_of": 6, "add_key": 7, "add_rsa": 8, "remove_key": 9}  # their first argument is n
 PRIME = 2**56 - 5
 SHORT = 256
 LARGE = 66000  # the longest buffer that the program takes: it has room for an image above the limit
@@ -93,8 +102,30 @@ def rewrite(image, reply=None, after=None):
 
 
 def change(comment, reply=None, n=None, after=None):
-    """A comment change; without an n it is given the length that the last accepted call answered."""
+    """A comment change; without an n it is given the length that the last accepted call answered, and so are the other edits."""
     return Call("change", (n, comment), reply, after)
+
+
+def write_keys(table, text, checkint=0x01020304, reply=None, after=None):
+    """A call of the writer of several keys, each of which is a row of the table. The checkint None is the derived one."""
+    return Call("write_keys", (tuple(table), text, checkint), reply, after)
+
+
+def change_of(k, comment, reply=None, n=None, after=None):
+    return Call("change_comment_of", (n, k, comment), reply, after)
+
+
+def add(algorithm, public, private, comment, reply=None, n=None, after=None):
+    return Call("add_key", (n, algorithm, public, private, comment), reply, after)
+
+
+def add_rsa(numbers, comment, reply=None, n=None, after=None):
+    """The numbers are n, e, d, iqmp, p and q."""
+    return Call("add_rsa", (n, *numbers, comment), reply, after)
+
+
+def remove(k, reply=None, n=None, after=None):
+    return Call("remove_key", (n, k), reply, after)
 
 
 # ---- what the model says
@@ -104,10 +135,10 @@ def answers(row):
     """Each call of a row with its reply and the buffer after it."""
     buffer, n = row.buffer, row.n
     for call in row.calls:
-        arguments = call.arguments
-        if call.entry == "change" and arguments[0] is None:
-            arguments = (n, arguments[1])
-        reply, buffer = getattr(model_writing, call.entry)(*arguments, buffer=buffer)
+        arguments, rules = call.arguments, model_edits if call.entry in EDITS else model_writing
+        if call.entry in EDITS and arguments[0] is None:
+            arguments = (n, *arguments[1:])
+        reply, buffer = getattr(rules, call.entry)(*arguments, buffer=buffer)
         n = reply.length if reply.number == 0 else n
         yield call, reply, buffer
 
@@ -157,15 +188,28 @@ def stored_arguments(entry, arguments):
         return numbers(cipher, kdf, rounds), [salt, *texts]
     if entry == "rewrite":
         return numbers(0, 0, 0), [*arguments]
-    n, comment = arguments
-    return numbers(n is not None, *divmod(n or 0, 2**32)), [comment]
+    if entry == "write_keys":
+        table, whole, checkint = arguments
+        return numbers(0, checkint is None, checkint or 0), [b"".join(map(wide, table)), whole]
+    n, *rest = arguments
+    return numbers(n is not None, *divmod(n or 0, 2**32)), stored_rest(entry, rest)
+
+
+def wide(number):
+    return number.to_bytes(8, "big")
+
+
+def stored_rest(entry, rest):
+    """The texts of an edit, of whose arguments the first may be a number."""
+    first_of = {"change_comment_of": wide, "remove_key": wide, "add_key": lambda code: bytes([code])}
+    return [first_of[entry](rest[0]), *rest[1:]] if entry in first_of else rest
 
 
 def stored_call(call):
     head, texts = stored_arguments(call.entry, call.arguments)
     assert sum(map(len, texts)) <= TEXTS
     texts += [b""] * (MOST_TEXTS - len(texts))
-    return numbers(CODES[call.entry]) + head + b"".join(map(text, texts))
+    return numbers({**WRITERS, **EDITS}[call.entry]) + head + b"".join(map(text, texts))
 
 
 def stored(row):

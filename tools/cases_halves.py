@@ -9,7 +9,7 @@ from cases_header import ciphertext_cases, none_options_cases
 from cases_marked import encrypted_of_size
 from cases_section import section_cases
 from damage import truncations
-from fields import ABSENT, ALGORITHMS, CIPHER_NAMES, CIPHERS, ED25519, KDFS, LIMIT, NONE
+from fields import ABSENT, ALGORITHMS, CIPHER_NAMES, CIPHERS, ED25519, KDFS, LIMIT, NONE, uint32
 from images import GOOD, Case, accepted, bcrypt_options, changed, encrypted, inner, join, keypair_fields, longer
 from images import padded, place, plain, point_of, put, put_all, put_length, refused, scalar_of, spot, spots, stream
 
@@ -237,7 +237,7 @@ def damaged_headers(base):
         yield refused("magic", put(fields, "magic", b"openssh-key-v2\0"), 2, "magic")
         yield refused("cipher", put(fields, "cipher", b"aes512-ctr"), 4, "cipher")
         yield refused("kdf", put(fields, "kdf", b"scrypt"), 4, "kdf")
-        yield refused("count", put(fields, "count", b"\0\0\0\2"), 1, "count")
+        yield refused("count", put(fields, "count", uint32(model.MOST_KEYS + 1)), 1, "count")
         yield refused("blob name", put(fields, "blob.name", b"ssh-dss"), 4, "blob.name")
         yield refused("blob left over", longer(fields, "blob", b"\0\0"), 6, "blob.extra", 0, 2)
         if base.half.kdf == NONE:

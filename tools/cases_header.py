@@ -1,4 +1,5 @@
 """One image or more for each sentence of docs/RULES.md, 4, with the reply meant for it."""
+import model
 from fields import ALGORITHMS, CIPHER_NAMES, CIPHERS, CURVES, ED25519, KDFS, SIZES
 from images import Case, Field, accepted, bcrypt_options, curve_name, encrypted, join, longer, place, plain
 from images import other_curves, other_kinds, point_of, public_fields, put, put_all, put_length, refused, stream
@@ -78,8 +79,8 @@ def bcrypt_options_cases():
 
 
 def key_count_cases():
-    for fields in (plain(1), encrypted(ED25519, b"aes256-ctr")):
-        for count in (0, 2, 256, 2**24, 2**31 + 1, 2**32 - 1):
+    for fields, most in ((plain(1), model.MOST_KEYS), (encrypted(ED25519, b"aes256-ctr"), 1)):
+        for count in (0, most + 1, 256, 2**24, 2**31 + 1, 2**32 - 1):
             yield refused(f"key count {count}", put(fields, "count", count.to_bytes(4, "big")), 1, "count")
         bad = put_all(fields, {"count": bytes(4), "blob.name": b"ssh-dss"})
         yield refused("key count before the blob", bad, 1, "count")

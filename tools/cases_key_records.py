@@ -7,10 +7,10 @@ from cases_records import READ, UNLIKE, Base, put
 from fields import ED25519, uint32
 from images import encrypted, plain, scalar_of
 from images_rsa import rsa_encrypted, rsa_plain
-from model import MOST_KEYS, places_of
+from model import KEY_ROOM, places_of
 from records import KEYS, PLACES, numbers_of, record_of
 
-WRONG_COUNTS = [0, 2, MOST_KEYS, MOST_KEYS + 1, 2**63]
+WRONG_COUNTS = [0, 2, KEY_ROOM, KEY_ROOM + 1, 2**63]
 STEPS = [1, -1, 2**15]
 PLACE_LIMIT = 2**16  # a record's place has 16 bits
 CLOSELY = ["plain 0", "bcrypt aes256-gcm", "RSA plain"]  # each single place of these is changed by each step
@@ -60,11 +60,11 @@ def misplaced_cases(base):
         value = 0 if numbers_of(base.record)[i] == first else first
         yield base.handed(put(base.record, i, value), f"place {i - KEYS} is {value}", 0 if i % 2 else None)
     for title, places in [
-        ("all where the first is", [first] * MOST_KEYS),
+        ("all where the first is", [first] * KEY_ROOM),
         ("the first is the second", places_of([0, first])),
-        ("each key a byte on", range(first, first + MOST_KEYS)),
-        ("each at the section's length", [base.record.section] * MOST_KEYS),
-        ("each at the image's end", [len(base.image)] * MOST_KEYS),
+        ("each key a byte on", range(first, first + KEY_ROOM)),
+        ("each at the section's length", [base.record.section] * KEY_ROOM),
+        ("each at the image's end", [len(base.image)] * KEY_ROOM),
     ]:
         yield base.handed(placed(base.record, places), title)
 
@@ -72,7 +72,7 @@ def misplaced_cases(base):
 def together_cases(base):
     """A count and places that fit each other, and not the image."""
     first = first_keypair(base)
-    for count, places in [(2, [first, first]), (2, [first, len(base.image)]), (MOST_KEYS, [first] * MOST_KEYS)]:
+    for count, places in [(2, [first, first]), (2, [first, len(base.image)]), (KEY_ROOM, [first] * KEY_ROOM)]:
         wrong = placed(put(base.record, KEYS, count), places_of(places))
         yield base.handed(wrong, f"{count} keys and as many places")
     if base.record.kind == model.PLAIN:
@@ -87,7 +87,7 @@ def counted(base, count):
 
 def counted_cases(base):
     """An image with a wrong key count is refused, so the record and the half that have that count are no accepted read's of it."""
-    for count in (0, 2, MOST_KEYS, MOST_KEYS + 1):
+    for count in (0, 2, KEY_ROOM, KEY_ROOM + 1):
         image, record = counted(base, count), put(base.record, KEYS, count)
         yield handed(f"{base.title}: {count} keys, in the image too", image, record, UNLIKE)
         yield handed(f"{base.title}: {count} keys, in the image alone", image, base.record, UNLIKE)

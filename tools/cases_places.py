@@ -15,8 +15,9 @@ import itertools
 import sys
 from typing import NamedTuple
 
+import model
 from cases_rsa import form_and_size
-from fields import ALGORITHMS, ED25519, LIMIT, MAGIC
+from fields import ALGORITHMS, ED25519, LIMIT, MAGIC, uint32
 from images import Case, Field, bcrypt_options, changed, curve_name, encrypted, inner, keypair_fields, longer, padded, plain
 from images import point_of, put, put_all, put_length, refused, scalar_of, spot, stream
 from images_rsa import in_blob, in_section, number, rsa_plain
@@ -95,7 +96,8 @@ def count_rows():
     fields = plain(ED25519)
     last = put(fields[:5], "count", bytes(3))  # nothing after it
     yield row("the key count is cut", "the key count", last, 1, "count")
-    yield row("the key count isn't 1", "the key count", put(fields, "count", b"\0\0\0\2"), 1, "count")
+    condition = "the key count is 0, above 16, or other than 1 with a cipher"
+    yield row(condition, "the key count", put(fields, "count", uint32(model.MOST_KEYS + 1)), 1, "count")
 
 
 def blob_rows():

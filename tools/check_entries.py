@@ -10,11 +10,7 @@ THEOREMS = "crates/claims/specs/Entries.antt"
 # A struct that holds a reference: the checker makes no plain form of the contract, which cites the definition that the line has.
 BY_HAND = {"recorded-rewrite": (("record_writing", "rewrite"), "isHanded")}
 # Their functions put bytes where they fit and answer a place: they refuse nothing.
-PUTS = ("buffer", "names_spelling", "writer_curve", "writer_numbers", "writer_rows")
-
-# What an edit of several keys and their writer are made of: no entry calls them yet, and each has its own contract and theorem.
-# They come into the list with the entries that call them.
-BENEATH = ("buffer_moves", "edit_shells", "edit_change", "edit_remove", "edit_add", "writer_keys")
+PUTS = ("buffer", "names_spelling", "writer_curve", "writer_numbers", "writer_rows", "edit_shells")
 
 LENT = re.compile(r"&(?:'\w+ )?mut \[u8[\];]")
 FUNCTION = re.compile(r'\bpub (?:extern "C" )?fn (\w+)(?:<[^>]*>)?\(([^)]*)\)(?:\s*->\s*(\w+))?(?:\s*ensures \{ λ \w+\. ⌜ (\w+))?')
@@ -38,7 +34,8 @@ def lent_functions():
 
 
 def is_put(function, answer):
-    return function[0] in PUTS and function[1].startswith("put") and answer == "usize"
+    """It answers nothing, or where what was put ends."""
+    return not answer or function[0] in PUTS and function[1].startswith("put") and answer == "usize"
 
 
 def lines():
@@ -64,8 +61,7 @@ def cited_faults(functions):
 
 
 def faults():
-    entries = ((f, answer, definition) for f, answer, definition in lent_functions() if f[0] not in BENEATH)
-    functions = {function: definition for function, answer, definition in entries if not is_put(function, answer)}
+    functions = {function: definition for function, answer, definition in lent_functions() if not is_put(function, answer)}
     ties = {**dict(tied()), **{line: function for line, (function, _) in BY_HAND.items()}}
     named, listed = set(ties.values()), set(lines())
     return [

@@ -29,6 +29,8 @@ from fetch_corpus import CORPUS, PASSPHRASE
 from fields import ED25519, LIMIT, SIZES
 from images import Field, bcrypt_options, changed, encrypted, join, keypair_fields, padded, plain, put
 from images import put_all, put_length, scalar_of, spot, stream
+from images_several import ring
+from model_writing import Given
 from stored_answers import answers, sum_of
 
 DOCUMENT = pathlib.Path(__file__).resolve().parent.parent / "docs" / "DIFFERENCES.md"
@@ -112,7 +114,8 @@ def ecdsa(scalar, written=None, algorithm=P256):
     return with_key(algorithm, point_for(algorithm, scalar), scalar if written is None else written)
 
 
-def two_keys():
+def two_keys_in_the_section():
+    """Two keys by the count and in the section, and one blob."""
     fields = put(ed25519(), "count", b"\0\0\0\2")
     *first, padding = spot(fields, "section").field.content
     second = [*keypair_fields(ED25519, PUBLIC, SEED), Field("comment", b"oven-13")]
@@ -151,7 +154,7 @@ def crate_differences():
     wrong_seed = put(fields, "section.scalar", bytes(32) + PUBLIC)
     yield "seed that doesn't yield the public key", wrong_seed, "read", "reads"
     yield "a byte after the section", [*fields, Field("left", b"\0", counted=False)], "6, count 1, at 242", "refuses"
-    yield "two keys", two_keys(), "1 at 35", "refuses"
+    yield "key count 2 and one blob", two_keys_in_the_section(), "1 at 98", "refuses"
     low, high = scalar_of(P256, 0x7F), scalar_of(P256, 0x80)
     yield "needless zero", ecdsa(low, b"\0" + low), "read, form no", "reads"
     yield "missing zero", ecdsa(high), "read, form no", "refuses"
@@ -207,6 +210,23 @@ def strange_differences():
     yield "blob's length far too many", put_length(fields, "blob", 0xFFFF), "1 at 39", "refuses"
 
 
+def several_differences():
+    low = scalar_of(P256, 0x7F)
+    pair = [Given(ED25519, PUBLIC, SEED, b"oven-12"), Given(P256, point_for(P256, low), low, b"oven-13")]
+    yield "two keys", ring(pair), "read", "refuses"
+    yield "one key twice", ring(pair[:1] * 2), "read", "refuses"
+    yield "16 keys", ring(pair * 8), "read", "refuses"
+    yield "17 keys", ring([*pair * 8, pair[0]]), "1 at 35", "refuses"
+    yield "two keys, their keypairs in the other order", ring(pair[::-1], blobs=pair), "5 at 214", "refuses"
+    yield "two keys, one with a needless zero", ring_with_zero(pair), "read, form no", "refuses"
+    sealed = put(encrypted(ED25519, b"aes256-ctr"), "count", b"\0\0\0\2")
+    yield "two keys beside a cipher", sealed, "1 at 67", "refuses", PASSPHRASE
+
+
+def ring_with_zero(keys):
+    return padded(put(ring(keys), "section.scalar2", b"\0" + keys[1].private))
+
+
 def renamed(fields, name):
     return changed(fields, {"blob.name": name, "section.name": name})
 
@@ -242,7 +262,7 @@ def encryption_differences():
 
 def differences():
     groups = [crate_differences(), scalar_differences(), section_differences(), encryption_differences(), rsa_differences()]
-    groups += [short_scalar_differences(), strange_differences()]
+    groups += [short_scalar_differences(), strange_differences(), several_differences()]
     rows = [row for group in groups for row in group]
     for number, (title, fields, *rest) in enumerate(rows, 1):
         image = fields if isinstance(fields, bytes) else join(fields)

@@ -7,8 +7,8 @@ more, each with its place and its field.
     python3 tools/make_vectors.py --check    only compares them with what would be written; exit status 1 if they differ
 
 It comes out the same each time: the images are made here or stored in tools/corpus, and the answers are those of model.py,
-model_writing.py and model_armour.py. Of the calls of the writers and of the comment change calls.py says how they are stored and
-printed, of the records handed in records.py, of export and import armoured.py.
+model_writing.py, model_edits.py and model_armour.py. Of the calls of the writers and of the edits calls.py says how they are stored
+and printed, of the records handed in records.py, of export and import armoured.py.
 In the file of images each is its length, 4 bytes big-endian, and its bytes. For each image there are in stdout
   - `read` and 27 numbers: number, count, at, kind, algorithm, cipher, KDF, rounds, checkint, padding, section (where
     its length, or the ciphertext's, begins), then start and length of blob, point, scalar, comment, salt, ciphertext
@@ -21,6 +21,8 @@ In the file of images each is its length, 4 bytes big-endian, and its bytes. For
     then start and length of blob, point and salt, and the key count; where the header is refused only number, count, at and 0,
   - `header-rsa` and 5 numbers: its bits, start and length of modulus and exponent; only where one of them isn't 0,
   - the inspection program's lines.
+The cases of several keys (cases_several.py, cases_several_damage.py, cases_several_records.py, cases_keys_writing.py, cases_edits.py)
+aren't stored: the model is held to them here, and the library to the model by bindings/python/test_several.py.
 """
 import binascii
 import collections
@@ -36,11 +38,13 @@ import records
 from against_ssh_keygen import armour
 from cases_armour import armour_cases
 from cases_change import change_rows
+from cases_edits import edit_rows
 from cases_encrypted import encrypted_rows
 from cases_half_records import half_record_cases
 from cases_halves import half_cases
 from cases_header import header_cases
 from cases_key_records import key_half_cases, key_record_cases
+from cases_keys_writing import keys_writing_rows
 from cases_marked import marked_cases
 from cases_plain import plain_rows
 from cases_records import record_cases
@@ -53,10 +57,14 @@ from cases_rsa_writing import rsa_rows
 from cases_scalar import scalar_image_cases
 from cases_scalar_writing import scalar_rows
 from cases_section import section_cases, slipped_cases
+from cases_several import good_rings, sealed_ones, several_cases
+from cases_several_damage import several_damage_cases
+from cases_several_records import several_record_cases
 from damage import damages
 from fetch_corpus import armour_off
 from fields import content
-from images import corpus
+from images import corpus, join
+from images_several import keys_meant, record_meant
 
 ROOT = pathlib.Path(__file__).resolve().parent.parent
 CRATES = ROOT / "crates"
@@ -79,6 +87,15 @@ MUST_OCCUR = {
     "export": [0, 9, 11],
     "import": [0, 2, 9, 11],
 }
+SEVERAL_MUST_OCCUR = {
+    "key": [0, 1, 2, 3, 4, 5, 6, 7, 11],
+    "write_keys": [0, 1, 2, 4, 7, 9, 11],
+    "change_comment_of": list(range(12)),
+    "add_key": list(range(12)),
+    "add_rsa": list(range(12)),
+    "remove_key": [0, 1, 2, 3, 4, 5, 6, 7, 8, 10, 11],
+}
+KEY_PARTS = ["blob", "point", "scalar", "comment", "modulus", "exponent", "d", "iqmp", "p", "q"]
 
 
 # ---- images
@@ -115,10 +132,10 @@ def hold(case):
         sys.exit(f"{case.title}: the form was meant to be {case.form}")
 
 
-def images():
+def images(cases):
     """Every image once, in the order in which they were made."""
     once = {}
-    for case in all_cases():
+    for case in cases:
         hold(case)
         once.setdefault(case.image)
     return list(once)
@@ -180,10 +197,10 @@ def hold_call(title, meant, reply, before, after):
         sys.exit(f"{title}: what was written isn't read back as in the form")
 
 
-def rows():
+def rows(made_rows):
     """Every row once with its answers, in the order in which they were made."""
     once = {}
-    for row in all_rows():
+    for row in made_rows:
         answers = list(calls.answers(row))
         befores = [row.buffer, *(after for _, _, after in answers)]
         for before, (call, reply, after) in zip(befores, answers):
@@ -237,7 +254,50 @@ def armour_calls():
         yield stored, case.entry, reply, after
 
 
+# ---- several keys
+
+
+def hold_rings():
+    """All that a read finds in a good image of several keys must be what its maker meant, and so must each key of any image."""
+    for ring in good_rings():
+        if model.read(join(ring.fields)) != record_meant(ring.fields, ring.keys):
+            sys.exit(f"{ring.title}: another record than was meant")
+    for ring in [*good_rings(), *sealed_ones()]:
+        image, meant = join(ring.fields), keys_meant(ring.fields, ring.keys)
+        if [model.read_key(image, k) for k in range(1, len(meant) + 1)] != meant:
+            sys.exit(f"{ring.title}: other keys than were meant")
+        for k in (0, len(meant) + 1, 17, 2**32 + 1, 2**64 - 1):
+            hold_reply(f"{ring.title}, key {k}", (1, 0, 0), image, model.read_key(image, k))
+
+
+def key_answers(image):
+    """Each key, and one more than there are; of a refused image the first."""
+    answer = model.read(image)
+    numbers = range(1, answer.keys + 2)
+    for k in numbers:
+        key = model.read_key(image, k)
+        if answer.number != 0:
+            hold_reply(f"key {k}", (answer.number, answer.count, answer.at), image, key)
+        yield k, key
+
+
+def several_held():
+    """The images of several keys, and how often each entry gives each reply number."""
+    hold_rings()
+    vectors = images(itertools.chain(several_cases(), several_damage_cases()))
+    written = rows(itertools.chain(keys_writing_rows(), edit_rows()))
+    by_hand = handed(several_record_cases())
+    answers = [(call.entry, reply, after) for row in written.values() for call, reply, after in row]
+    count = counted(vectors, answers, by_hand.values())
+    count.update(("key", key.number) for image in vectors for _, key in key_answers(image))
+    return count, vectors
+
+
 # ---- all of them
+
+
+def stored_images(vectors):
+    return b"".join(len(image).to_bytes(4, "big") + image for image in vectors)
 
 
 def counted(vectors, answers, by_hand):
@@ -252,18 +312,17 @@ def counted(vectors, answers, by_hand):
 
 def made():
     """The files by their paths, and how often each entry gives each reply number."""
-    vectors, written = images(), rows()
+    vectors, written = images(all_cases()), rows(all_rows())
     by_hand = {
         RECORDS: handed(itertools.chain(record_cases(), key_record_cases())),
         HALVES: handed(itertools.chain(half_record_cases(), rsa_record_cases(), key_half_cases())),
     }
-    data = b"".join(len(image).to_bytes(4, "big") + image for image in vectors)
     text = "".join(expected(image) for image in vectors)
     answers = [(call.entry, reply, after) for row in written.values() for call, reply, after in row]
     stored, armours = zip(*((stored, answer) for stored, *answer in armour_calls()))
     count = counted(vectors, [*answers, *armours], [case for once in by_hand.values() for case in once.values()])
     files = {
-        REPLAY / "data" / "vectors": data,
+        REPLAY / "data" / "vectors": stored_images(vectors),
         REPLAY / "stdout": text.encode(),
         WRITING / "data" / "calls": b"".join(written),
         WRITING / "stdout": "".join(itertools.starmap(calls.line, answers)).encode(),
@@ -276,8 +335,15 @@ def made():
     return files, count, vectors
 
 
-def summary(files, count, vectors):
-    for entry, must_occur in MUST_OCCUR.items():
+def all_made():
+    """The same with what several keys are answered, and the reply numbers that must occur."""
+    files, count, vectors = made()
+    more_count, more_vectors = several_held()
+    return files, count + more_count, vectors + more_vectors, MUST_OCCUR | SEVERAL_MUST_OCCUR
+
+
+def summary(files, count, vectors, must_occurs):
+    for entry, must_occur in must_occurs.items():
         found = {number: times for (of, number), times in sorted(count.items()) if of == entry}
         replies = ", ".join(f"{number}: {times}" for number, times in found.items())
         print(f"{entry}: {sum(found.values())} (reply {replies})")
@@ -304,8 +370,8 @@ def store(files):
 
 
 def main():
-    files, count, vectors = made()
-    summary(files, count, vectors)
+    files, *said = all_made()
+    summary(files, *said)
     return check(files) if "--check" in sys.argv[1:] else store(files)
 
 

@@ -7,6 +7,7 @@ that the two can be held against each other (make_vectors.py stores its answers)
     read(image)                  the reply and, where it is accepted, the record: an Answer
     read_header(image)           the same of the header alone, up to and with the public blob: a Half
     read_section(image, half)    the full read's Answer, from a half that is handed in and judged first
+    read_key(image, k)           the reply and what is found of key k, which count from 1: a Key
     write_plain(...)             a plain image by the writer's rules; write_rsa(...) of an RSA key
     form(image)                  whether writing the record again, with its own checkint, gives the image back
     report(image)                what the inspection program prints
@@ -15,15 +16,15 @@ The full read is the header read and then the section read. The rules on keys ar
 
 It holds nothing back, compares in no constant time, and is for test keys only.
 """
-from dataclasses import dataclass
+from dataclasses import dataclass, replace
 
 from fields import ABSENT, ALGORITHMS, CIPHER_NAMES, CIPHERS, KDFS, LIMIT, MAGIC, NONE, RSA
 from fields import Reader, Refused, content, string, uint32
-from model_keys import RSA_PARTS, compared, filled_scalar, private_field, public_fields, read_blob, read_keypair, read_name
-from model_keys import rsa_blob, rsa_keypair
+from model_keys import RSA_PARTS, compared, curve_key, filled_scalar, read_blob, read_keypair, read_name, rsa_key
 
 PLAIN, ENCRYPTED = 1, 2
-MOST_KEYS = 16  # a record has room for so many places
+MOST_KEYS = 16  # so many keys rule 4.5 lets a plain image have
+KEY_ROOM = 16  # a record has room for so many places, and a writer takes so many keys
 
 
 @dataclass(frozen=True)
@@ -62,10 +63,31 @@ class Answer(Half):
     iqmp: tuple = ABSENT
     p: tuple = ABSENT
     q: tuple = ABSENT
-    places: tuple = (0,) * MOST_KEYS  # where each key's keypair begins in the image; 0 where there is none, or it is encrypted
+    places: tuple = (0,) * KEY_ROOM  # where each key's keypair begins in the image; 0 where there is none, or it is encrypted
 
 
-# ---- the three reads
+@dataclass(frozen=True)
+class Key:
+    """The reply, and one key of an image."""
+
+    number: int = 0
+    count: int = 0
+    at: int = 0
+    algorithm: int = 0
+    bits: int = 0
+    blob: tuple = ABSENT
+    point: tuple = ABSENT
+    scalar: tuple = ABSENT
+    comment: tuple = ABSENT
+    modulus: tuple = ABSENT
+    exponent: tuple = ABSENT
+    d: tuple = ABSENT
+    iqmp: tuple = ABSENT
+    p: tuple = ABSENT
+    q: tuple = ABSENT
+
+
+# ---- the reads
 
 
 def read(image):
@@ -83,6 +105,11 @@ def read_section(image, half):
     return answer_of(Answer, record_from, image, half)
 
 
+def read_key(image, k):
+    """The reader's refusal; 1 at 0 where the image has no key k; else that key, of an encrypted image what its header has."""
+    return answer_of(Key, key_of_image, image, k)
+
+
 def answer_of(answer, reading, *arguments):
     """What the reading gives, or an answer that has only its refusal."""
     try:
@@ -96,6 +123,13 @@ def read_image(image):
     return record_from(image, half_of_image(image))
 
 
+def key_of_image(image, k):
+    keys = keys_of(image, read_image(image))
+    if not 1 <= k <= len(keys):
+        raise Refused(1, 0)
+    return keys[k - 1]
+
+
 # ---- the header, rules 4.2 to 4.6
 
 
@@ -107,11 +141,9 @@ def half_of_image(image):
     cipher = read_name(reader, CIPHER_NAMES)  # 4.3
     kdf = read_name(reader, KDFS)  # 4.4
     salt, rounds = read_options(reader, kdf)
-    keys = read_key_count(reader)  # 4.5
-    blob = reader.string()  # 4.6
-    algorithm, public = read_blob(reader.inside(blob))
-    names = dict(algorithm=algorithm, cipher=cipher, kdf=kdf, rounds=rounds, keys=keys)
-    return Half(**names, section=reader.place, blob=blob, salt=salt, **public)
+    keys = read_blobs(reader, read_key_count(reader, cipher))  # 4.5, 4.6
+    first = {name: getattr(keys[0], name) for name in ("algorithm", "bits", "blob", "point", "modulus", "exponent")}
+    return Half(cipher=cipher, kdf=kdf, rounds=rounds, section=reader.place, salt=salt, keys=len(keys), **first)
 
 
 def read_magic(reader):
@@ -137,17 +169,28 @@ def read_options(reader, kdf):
     return salt, rounds
 
 
-def read_key_count(reader):
+def read_key_count(reader, cipher):
     field = reader.place
     keys = reader.uint32()
-    if keys != 1:
+    if not 1 <= keys <= (MOST_KEYS if cipher == NONE else 1):
         raise Refused(1, field)
     return keys
 
 
+def read_blobs(reader, count):
+    """So many blobs, each whole, its end too, before the next. Answers the public half of each key."""
+    return [read_public(reader) for _ in range(count)]
+
+
+def read_public(reader):
+    blob = reader.string()
+    algorithm, public = read_blob(reader.inside(blob))
+    return Key(algorithm=algorithm, blob=blob, **public)
+
+
 def places_of(begins):
     """Where the keypairs begin, the rest filled up with 0."""
-    return (*begins, *[0] * (MOST_KEYS - len(begins)))
+    return (*begins, *[0] * (KEY_ROOM - len(begins)))
 
 
 # ---- the section, rules 4.7 and 4.8
@@ -163,9 +206,23 @@ def record_from(image, half):
         return Answer(**vars(half), kind=ENCRYPTED, **read_ciphertext(reader, half.cipher))
     if half.kdf != NONE:  # 4.8
         raise Refused(3, len(MAGIC + string(b"none")))  # where the KDF's name begins
-    rest = read_plain_section(reader.inside(reader.string()), half.algorithm, compared(image, half))
+    rest = read_plain_section(reader.inside(reader.string()), publics_of(image, half))
     reader.finish()
     return Answer(**vars(half), kind=PLAIN, **rest)
+
+
+def publics_of(image, half):
+    """The public half of each key once more: the blobs stand one after another, and the half has the first one's place."""
+    return read_blobs(Reader(image, half.blob[0] - 4, len(image)), half.keys)
+
+
+def keys_of(image, record):
+    """Every key of a record's image; of a plain one each is looked up at its place."""
+    publics = publics_of(image, record)
+    if record.kind == ENCRYPTED:
+        return publics
+    found = [read_entry(Reader(image, place, len(image)), public) for place, public in zip(record.places, publics)]
+    return [replace(public, **private) for public, private in zip(publics, found)]
 
 
 def read_ciphertext(reader, cipher):
@@ -188,18 +245,26 @@ def read_ciphertext(reader, cipher):
 # ---- the plain section
 
 
-def read_plain_section(reader, algorithm, public):
-    """The plain section; algorithm and public key are the header's."""
+def read_plain_section(reader, publics):
+    """The plain section; the public keys are the header's. Of the keys the record has the first, and the others' places."""
     if reader.left() % 8 != 0:
         raise Refused(1, reader.place)
     checkint = read_checkints(reader)
+    begins, found = [], []
+    for public in publics:
+        begins.append(reader.place)
+        found.append(read_entry(reader, public))
+    padding = read_padding(reader)
+    return dict(checkint=checkint, padding=padding, places=places_of(begins), **found[0])
+
+
+def read_entry(reader, public):
+    """A keypair, which is read whole and then held to the blob of its number, and its comment. Answers the private half."""
     key_name = reader.place
     own_algorithm, own_public, private = read_keypair(reader)
-    if own_algorithm != algorithm or own_public != public:
+    if own_algorithm != public.algorithm or own_public != compared(reader.image, public):
         raise Refused(5, key_name)
-    comment = read_comment(reader)
-    padding = read_padding(reader)
-    return dict(checkint=checkint, comment=comment, padding=padding, places=places_of([key_name]), **private)
+    return dict(comment=read_comment(reader), **private)
 
 
 def read_checkints(reader):
@@ -235,33 +300,43 @@ def read_padding(reader):
 def write_plain(algorithm, point, scalar, checkint, comment):
     """The plain image of these fields, of whatever size. Point and scalar have the lengths of the algorithm, which isn't RSA,
     and an ECDSA scalar isn't zeros alone."""
-    public = public_fields(algorithm, point)
-    return plain_image(public, public + private_field(algorithm, point, scalar), checkint, comment)
+    return plain_image([(*curve_key(algorithm, point, scalar), comment)], checkint)
 
 
 def write_rsa(numbers, checkint, comment):
     """The plain image of n, e, d, iqmp, p and q, of whatever size."""
-    return plain_image(rsa_blob(*numbers[:2]), rsa_keypair(numbers), checkint, comment)
+    return plain_image([(*rsa_key(numbers), comment)], checkint)
 
 
-def plain_image(blob, keypair, checkint, comment):
-    section = uint32(checkint) * 2 + keypair + string(comment)
+def plain_image(keys, checkint):
+    """The plain image of keys that are handed in as blob, keypair and comment, of whatever size."""
+    section = uint32(checkint) * 2 + b"".join(keypair + string(comment) for _, keypair, comment in keys)
     padding = bytes(range(1, -len(section) % 8 + 1))
-    header = MAGIC + string(b"none") + string(b"none") + string(b"") + uint32(1) + string(blob)
-    return header + string(section, padding)
+    header = MAGIC + string(b"none") + string(b"none") + string(b"") + uint32(len(keys))
+    return header + b"".join(string(blob) for blob, _, _ in keys) + string(section, padding)
 
 
-def numbers_of(image, record):
-    """The six numbers of an RSA record."""
-    return [content(image, getattr(record, part)) for part in RSA_PARTS.values()]
+def numbers_of(image, key):
+    """The six numbers of an RSA key, or of a record's first."""
+    return [content(image, getattr(key, part)) for part in RSA_PARTS.values()]
+
+
+def fields_of(image, key):
+    """The blob and the keypair of a plain image's key as the writer makes them."""
+    if key.algorithm == RSA:
+        return rsa_key(numbers_of(image, key))
+    return curve_key(key.algorithm, content(image, key.point), filled_scalar(image, key))
 
 
 def write_key(image, record, checkint, comment):
-    """The plain image of a plain record's key with this checkint and comment."""
-    if record.algorithm == RSA:
-        return write_rsa(numbers_of(image, record), checkint, comment)
-    point = content(image, record.point)
-    return write_plain(record.algorithm, point, filled_scalar(image, record), checkint, comment)
+    """The plain image of a plain record's first key alone with this checkint and comment."""
+    return plain_image([(*fields_of(image, record), comment)], checkint)
+
+
+def write_again(image, record):
+    """The plain image of all keys of a plain record, with their own comments and its checkint."""
+    keys = [(*fields_of(image, key), content(image, key.comment)) for key in keys_of(image, record)]
+    return plain_image(keys, record.checkint)
 
 
 def form(image):
@@ -269,7 +344,7 @@ def form(image):
     answer = read(image)
     if answer.kind != PLAIN:
         return answer.kind == ENCRYPTED
-    return write_key(image, answer, answer.checkint, content(image, answer.comment)) == image
+    return write_again(image, answer) == image
 
 
 # ---- the inspection program

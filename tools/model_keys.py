@@ -77,9 +77,9 @@ def read_rsa_pair(reader):
     return public, {name: parts[name] for name in ("d", "iqmp", "p", "q")}
 
 
-def compared(image, half):
-    """Of a header's public key, the bytes that the section's must have too."""
-    parts = (half.modulus, half.exponent) if half.algorithm == RSA else (half.point,)
+def compared(image, key):
+    """Of a blob's public key, the bytes that the section's must have too."""
+    parts = (key.modulus, key.exponent) if key.algorithm == RSA else (key.point,)
     return tuple(content(image, part) for part in parts)
 
 
@@ -128,9 +128,9 @@ def without_zeros(scalar):
     return scalar.lstrip(b"\0")
 
 
-def filled_scalar(image, record):
-    """A record's seed, or its scalar with zeros filled in front to SIZE bytes: what a writer is handed."""
-    return content(image, record.scalar).rjust(SIZES.get(record.algorithm, 32), b"\0")
+def filled_scalar(image, key):
+    """A key's seed, or its scalar with zeros filled in front to SIZE bytes: what a writer is handed."""
+    return content(image, key.scalar).rjust(SIZES.get(key.algorithm, 32), b"\0")
 
 
 # ---- what is written: the key fields of the blob, and those of the section
@@ -153,10 +153,14 @@ def private_field(algorithm, point, scalar):
     return string(sign, number)
 
 
-def rsa_blob(n, e):
-    return string(ALGORITHMS[RSA]) + string(e) + string(n)
+def curve_key(algorithm, point, scalar):
+    """Blob and keypair of a key that isn't RSA's."""
+    public = public_fields(algorithm, point)
+    return public, public + private_field(algorithm, point, scalar)
 
 
-def rsa_keypair(numbers):
-    """The six numbers in the section's order, after the name."""
-    return string(ALGORITHMS[RSA]) + b"".join(map(string, numbers))
+def rsa_key(numbers):
+    """Blob and keypair of n, e, d, iqmp, p and q; the blob has e and n, in this order."""
+    n, e, *_ = numbers
+    name = string(ALGORITHMS[RSA])
+    return name + string(e) + string(n), name + b"".join(map(string, numbers))

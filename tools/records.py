@@ -25,7 +25,7 @@ import model
 import model_writing
 from calls import LARGE, PRIME, filled
 from fields import ALGORITHMS, CIPHERS, KDFS
-from model import MOST_KEYS, Answer, Half
+from model import KEY_ROOM, Answer, Half
 from model_writing import Reply
 
 PARTS = ["blob", "point", "scalar", "comment", "salt", "ciphertext", "tag"]
@@ -41,7 +41,7 @@ SECTION_RSA_PARTS = ["d", "iqmp", "p", "q"]
 CODES = [range(1, 3), range(len(ALGORITHMS)), range(len(CIPHERS)), range(len(KDFS))]  # what the first four may be
 OTHERS = len(NAMES) + 2 * len(PARTS)  # so many numbers stand before RSA's
 KEYS = OTHERS + len(RSA_NAMES) + 2 * len(RSA_PARTS)  # and so many before the key count
-PLACES = range(KEYS + 1, KEYS + 1 + MOST_KEYS)
+PLACES = range(KEYS + 1, KEYS + 1 + KEY_ROOM)
 WIDTHS = [2**32, 2**32] + [2**64] * (PLACES.stop - len(CODES) - 2)  # what all but the first four are below
 
 

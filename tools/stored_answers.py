@@ -10,6 +10,7 @@ import sys
 from typing import NamedTuple
 
 import model
+import model_edits
 import model_writing
 from fetch_corpus import CORPUS
 from fields import LIMIT
@@ -71,7 +72,7 @@ def by_model(image):
         count = f"+{answer.count}" if answer.count else ""
         return [f"{answer.number}{count}@{answer.at}"]
     again = model_writing.rewrite(image, buffer=bytes(LIMIT))
-    changed = model_writing.change(len(image), COMMENT, buffer=image.ljust(LIMIT, b"\0"))
+    changed = model_edits.change(len(image), COMMENT, buffer=image.ljust(LIMIT, b"\0"))
     new = model_writing.anew(image, answer, COMMENT) if answer.kind == model.PLAIN else b""
     return ["read", written(*again), written(*changed), sum_of(new)]
 

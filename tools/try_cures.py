@@ -19,7 +19,7 @@ import tempfile
 import cases_places
 import model
 import model_armour
-import model_writing
+import model_edits
 from cases_cures import IMAGE, WRONG, blob_in, trials, unmended
 from check_places import REFUSALS, rows_of
 from differences import has_openssh
@@ -49,7 +49,7 @@ def reply_to(given, row):
     if image is None:
         return 2, 0, 0
     changing = row in ("W30", "W31")
-    reply = model_writing.change(len(image), b"oven 7", buffer=image.ljust(LIMIT))[0] if changing else model.read(image)
+    reply = model_edits.change(len(image), b"oven 7", buffer=image.ljust(LIMIT))[0] if changing else model.read(image)
     return reply.number, reply.count, reply.at
 
 

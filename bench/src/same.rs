@@ -50,6 +50,9 @@ fn byte_by_byte(random: &mut Random, compared: &mut Compared, image: &[u8]) -> R
 }
 
 fn one(random: &mut Random, compared: &mut Compared, image: &[u8]) -> Result<(), String> {
+    if yardstick::has_several(image) {
+        return Ok(());
+    }
     compared.inputs += 1;
     compared.accepted += usize::from(reads(image)?);
     halves(image)?;

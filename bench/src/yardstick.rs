@@ -392,6 +392,13 @@ fn rsa_pair(part: &[u8], at: usize, record: &mut Image) -> Step<Pair> {
 
 // ---- the container
 
+/// Whether an image says that it has 2 to 16 plain keys: the yardstick reads files of one.
+pub fn has_several(image: &[u8]) -> bool {
+    let mut record = NOTHING;
+    let count = names(image, &mut record).and_then(|options| uint32(image, options));
+    image.len() <= LIMIT && record.cipher == 0 && matches!(count, Ok(2..=16))
+}
+
 /// The blob's key and where the blob ends.
 #[inline(always)]
 fn header(image: &[u8], record: &mut Image) -> Step<(Public, usize)> {

@@ -1,5 +1,6 @@
 /* Makes an Ed25519 image, reads it, prints its comment, changes it in place, has a change refused, and puts the image through its text
- * form. Then makes an RSA image and has its header say the size. The keys' bytes are made up. */
+ * form. Then makes an RSA image and has its header say the size, adds a second key to it, prints both, and removes the first. The keys'
+ * bytes are made up. */
 #include "saltorchard.h"
 
 #include <stdio.h>
@@ -66,6 +67,41 @@ static int ed25519(void)
     return show(reply.length) != 0 || latin1(reply.length) != 0 || armoured(reply.length) != 0;
 }
 
+/* Each key of the image, by its number. */
+static int show_keys(size_t length)
+{
+    uint64_t keys = saltorchard_read(buffer, length).keys;
+    for (uint64_t k = 1; k <= keys; k++) {
+        saltorchard_key key = saltorchard_read_key(buffer, length, k);
+        if (key.number != SALTORCHARD_ACCEPTED)
+            return refused("key", key.number, key.count, key.at);
+        printf("key %d of %d, comment: %.*s\n", (int)k, (int)keys, (int)key.comment.length,
+            (const char *)buffer + key.comment.start);
+    }
+    return 0;
+}
+
+/* The image in the buffer gets a second key; then the first one is taken out. */
+static int several(size_t length)
+{
+    const char *comment = "mixer";
+    uint8_t public_key[32], seed[32];
+    memset(public_key, 0x51, sizeof public_key);
+    memset(seed, 0x5f, sizeof seed);
+
+    saltorchard_reply reply = saltorchard_add_key(buffer, sizeof buffer, length, SALTORCHARD_ED25519, public_key, 32, seed, 32,
+        (const uint8_t *)comment, strlen(comment));
+    if (reply.number != SALTORCHARD_ACCEPTED)
+        return refused("add", reply.number, reply.count, reply.at);
+    if (show_keys(reply.length) != 0)
+        return 1;
+
+    reply = saltorchard_remove_key(buffer, sizeof buffer, reply.length, 1);
+    if (reply.number != SALTORCHARD_ACCEPTED)
+        return refused("remove", reply.number, reply.count, reply.at);
+    return show(reply.length);
+}
+
 static int rsa(void)
 {
     const char *comment = "silo 3";
@@ -83,7 +119,7 @@ static int rsa(void)
     if (header.number != SALTORCHARD_ACCEPTED)
         return refused("read", header.number, header.count, header.at);
     printf("%d bytes, RSA of %d bits\n", (int)reply.length, (int)header.bits);
-    return show(reply.length);
+    return show(reply.length) != 0 || several(reply.length) != 0;
 }
 
 int main(void)

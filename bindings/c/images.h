@@ -1,10 +1,15 @@
-/* Images for test.c, put together by hand from docs/RULES.md, and where their fields must be. Nothing here calls the library. */
+/* Images for test.c and test_several.c, put together by hand from docs/RULES.md, and where their fields must be. Nothing here calls
+ * the library. */
 #ifndef IMAGES_H
 #define IMAGES_H
 
 #include "saltorchard.h"
 
 #include <string.h>
+
+#if defined(__GNUC__)
+#pragma GCC diagnostic ignored "-Wunused-function" /* each test takes what it needs */
+#endif
 
 enum { LARGEST = 70000 };
 

@@ -11,7 +11,7 @@ archive=../../target/staticlib/libsaltorchard.a
 folder=$(mktemp -d)
 trap 'rm -rf "$folder"' EXIT
 
-for program in test test_armour example; do
+for program in test test_several test_armour example; do
     "$SALTORCHARD_CC" -std=c11 -O2 -Wall -Wextra -Werror -pedantic "$program.c" "$archive" -o "$folder/$program"
 done
 # The header is C++ too, where there is a C++ compiler to ask.
@@ -21,6 +21,7 @@ fi
 
 run() { ${SALTORCHARD_RUN:+"$SALTORCHARD_RUN"} "$folder/$1"; }
 run test
+run test_several
 run test_armour
 run example >"$folder/got"
 diff example.stdout "$folder/got"

@@ -1,5 +1,6 @@
-/* Uses every function of saltorchard.h and holds numbers, places and bytes to docs/RULES.md: the marked examples, each refusal,
- * and what must stay of a lent buffer; at last the words for each number. A failed check is a line; the last line counts the checks. */
+/* Uses every function of saltorchard.h that knows of one key only and holds numbers, places and bytes to docs/RULES.md: the marked
+ * examples, each refusal, and what must stay of a lent buffer; at last the words for each number. A failed check is a line; the last
+ * line counts the checks. What is about several keys is in test_several.c, armour in test_armour.c. */
 #include "saltorchard.h"
 
 #include "checks.h"
@@ -480,7 +481,7 @@ static void damaged_ed25519(void)
         {15, 0xff, 1, 0, 15},
         {27, 'N', 4, 0, 23},    {23, 1, 1, 0, 23},     /* KDF name and options */
         {34, 1, 3, 0, 31},      {33, 1, 1, 0, 31},
-        {38, 0, 1, 0, 35},      {38, 2, 1, 0, 35},     {35, 1, 1, 0, 35}, /* key count */
+        {38, 0, 1, 0, 35},      {38, 17, 1, 0, 35},    {35, 1, 1, 0, 35}, /* key count */
         {40, 1, 1, 0, 39},      {42, 3, 1, 0, 43},     /* blob */
         {42, 50, 1, 0, 58},     {42, 52, 6, 1, 94},    {47, 'x', 4, 0, 43},
         {61, 31, 1, 0, 58},     {61, 33, 1, 0, 58},    {62, 0, 5, 0, 106},

@@ -22,8 +22,9 @@ import model_armour
 import saltorchard
 
 HEADER = ROOT / "bindings" / "c" / "saltorchard.h"
-C_TYPES = {"uint64_t": ctypes.c_uint64, "size_t": ctypes.c_size_t, "const uint8_t *": ctypes.c_char_p, "uint8_t *": ctypes.c_void_p,
-           "saltorchard_image": saltorchard._Image, "saltorchard_reply": saltorchard._Reply}
+C_TYPES = {"uint8_t": ctypes.c_uint8, "uint32_t": ctypes.c_uint32, "uint64_t": ctypes.c_uint64, "size_t": ctypes.c_size_t,
+           "const uint8_t *": ctypes.c_char_p, "const uint64_t *": ctypes.POINTER(ctypes.c_uint64), "uint8_t *": ctypes.c_void_p,
+           "saltorchard_image": saltorchard._Image, "saltorchard_key": saltorchard._Key, "saltorchard_reply": saltorchard._Reply}
 
 
 def compile_c(folder, *words):
@@ -46,7 +47,8 @@ def printed_by_c(body):
 
 class Declarations(unittest.TestCase):
     def test_structs(self):
-        structs = {"saltorchard_part": saltorchard._Part, "saltorchard_image": saltorchard._Image, "saltorchard_reply": saltorchard._Reply}
+        structs = {"saltorchard_part": saltorchard._Part, "saltorchard_image": saltorchard._Image, "saltorchard_key": saltorchard._Key,
+                   "saltorchard_reply": saltorchard._Reply}
         rows = [(f"sizeof({name})", ctypes.sizeof(struct)) for name, struct in structs.items()]
         for name, struct in structs.items():
             for field, _ in struct._fields_:
@@ -71,6 +73,7 @@ class Declarations(unittest.TestCase):
         text = HEADER.read_text(encoding="utf-8")
         self.assertIn(f"#define SALTORCHARD_INTERFACE {saltorchard.INTERFACE}\n", text)
         self.assertIn(f"enum {{ SALTORCHARD_LIMIT = {saltorchard.LIMIT} }};", text)
+        self.assertIn(f"enum {{ SALTORCHARD_MOST_KEYS = {saltorchard.MOST_KEYS} }};", text)
 
 
 # ---- the library, the program and the texts
@@ -123,11 +126,12 @@ class Library(unittest.TestCase):
 
     def test_refused(self):
         (self.folder / "text.so").write_text("not a library")
-        for name, number in (("other", 9), ("number", 8)):
-            (self.folder / f"{name}.c").write_text(f"unsigned long saltorchard_interface_{number}(void) {{ return 9; }}\n")
+        own, other = saltorchard.INTERFACE, saltorchard.INTERFACE + 1
+        for name, number in (("other", other), ("number", own)):
+            (self.folder / f"{name}.c").write_text(f"unsigned long saltorchard_interface_{number}(void) {{ return {other}; }}\n")
             compile_c(self.folder, "-shared", "-fPIC", f"{name}.c", "-o", f"{name}.so")
-        for name, words in (("text", "can't be loaded"), ("nowhere", "can't be loaded"), ("other", "isn't of interface 8"),
-                            ("number", "isn't of interface 8")):
+        for name, words in (("text", "can't be loaded"), ("nowhere", "can't be loaded"), ("other", f"isn't of interface {own}"),
+                            ("number", f"isn't of interface {own}")):
             os.environ["SALTORCHARD_LIBRARY"] = str(self.folder / f"{name}.so")
             self.assertRaisesRegex(OSError, words, module_at(self.folder / "saltorchard.py").read, IMAGE)
 

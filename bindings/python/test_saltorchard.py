@@ -14,6 +14,7 @@ import calls
 import make_vectors
 import model
 import model_armour
+import model_edits
 import model_writing
 import saltorchard
 from fields import ALGORITHMS, CIPHER_NAMES, ED25519, KDFS, LIMIT, content
@@ -119,7 +120,7 @@ class AgainstTheModel(unittest.TestCase):
         comments = ["", "oven 7, line 2", "four à pain, 炉 🥖", "c" * 300, "c" * 65_535, b"\xff", "half \ud83e"]
         for case, comment in ((case, comment) for case in make_vectors.corpus() for comment in comments):
             new = comment.encode("utf-8", "surrogatepass") if isinstance(comment, str) else comment
-            reply, after = model_writing.change(len(case.image), new, buffer=case.image + bytes(LIMIT))
+            reply, after = model_edits.change(len(case.image), new, buffer=case.image + bytes(LIMIT))
             self.same(case.title, answer(saltorchard.change_comment, case.image, comment), told(reply, after))
 
     def test_rewrites(self):

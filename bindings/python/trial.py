@@ -15,6 +15,7 @@ sys.path[:0] = [str(HERE), str(ROOT / "tools")]
 import saltorchard  # noqa: E402
 from images import CORPUS  # noqa: E402
 
+
 IMAGE = (CORPUS / "keygen-ed25519-ascii.bin").read_bytes()
 
 

@@ -8,29 +8,41 @@
 //! - `same public key, other private bytes`
 //! - `other key`
 //!
+//! Of files of several keys the first key of one is compared with the first of the other, the second with the second, and so on: it is
+//! the same key where each is, and as many.
+//!
 //! Status, as cmp has it: 0 for the same bytes alone, 1 for every other line, 2 where a file can't be read or is refused, which
 //! standard error says.
 use std::ffi::{OsStr, OsString};
 use std::io::{self, Write};
 
-use saltorchard::{Error, Image};
+use saltorchard::{Error, Image, Key};
 
 mod file;
 
 const SAME: &str = "same bytes";
 
-fn same_private_bytes(a: &Image, b: &Image) -> bool {
+/// Is each key of one like that of the other?
+fn all_keys(a: &Image, b: &Image, like: fn(&Key, &Key) -> bool) -> bool {
+    a.key_count() == b.key_count() && a.keys().zip(b.keys()).all(|(a, b)| like(&a, &b))
+}
+
+fn same_private_bytes(a: &Key, b: &Key) -> bool {
     [a.scalar(), a.d(), a.iqmp(), a.p(), a.q()] == [b.scalar(), b.d(), b.iqmp(), b.p(), b.q()]
+}
+
+fn same_comments(a: &Image, b: &Image) -> bool {
+    all_keys(a, b, |a, b| a.comment() == b.comment())
 }
 
 /// How two images are alike.
 fn likeness(a: &Image, b: &Image) -> &'static str {
-    match a.same_key(b) {
+    match all_keys(a, b, |a, b| a.same_key(b)) {
         _ if a == b => SAME,
         false => "other key",
         true if a.is_encrypted() || b.is_encrypted() => "same key, encrypted otherwise",
-        true if !same_private_bytes(a, b) => "same public key, other private bytes",
-        true if (a.comment(), a.checkint()) == (b.comment(), b.checkint()) => "same fields in another form",
+        true if !all_keys(a, b, same_private_bytes) => "same public key, other private bytes",
+        true if same_comments(a, b) && a.checkint() == b.checkint() => "same fields in another form",
         true => "same key, other comment or checkint",
     }
 }

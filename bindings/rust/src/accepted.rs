@@ -1,4 +1,4 @@
-//! What a header and a whole image have in common.
+//! What a header, a whole image and one of its keys have in common.
 
 use crate::c;
 use crate::{Algorithm, Cipher, Error, KdfAlg};
@@ -21,9 +21,14 @@ impl<'a> Accepted<'a> {
     }
 
     pub fn part(&self, part: c::Part) -> &'a [u8] {
-        let start = part.start as usize;
-        &self.bytes[start..start + part.length as usize]
+        part_of(self.bytes, part)
     }
+}
+
+/// The bytes of a part that an accepted read of `bytes` answered.
+pub(crate) fn part_of(bytes: &[u8], part: c::Part) -> &[u8] {
+    let start = part.start as usize;
+    &bytes[start..start + part.length as usize]
 }
 
 fn names(bytes: &[u8], fields: &c::Image) -> Result<(Algorithm, Cipher, KdfAlg), Error> {
@@ -67,27 +72,12 @@ macro_rules! read_and_compared {
     };
 }
 
-/// The functions that answer from the header, for a type that has an [`Accepted`] named `read`.
-macro_rules! what_a_header_says {
+/// The functions that answer from a key's blob, for a type with a `read` that has the algorithm, the fields and their bytes.
+macro_rules! what_a_blob_says {
     () => {
         /// The key's algorithm.
         pub fn algorithm(&self) -> Algorithm {
             self.read.algorithm
-        }
-
-        /// The section's cipher.
-        pub fn cipher(&self) -> Cipher {
-            self.read.cipher
-        }
-
-        /// The KDF's kind; its options are [`salt`](Self::salt) and [`rounds`](Self::rounds).
-        pub fn kdf(&self) -> KdfAlg {
-            self.read.kdf
-        }
-
-        /// Is the section encrypted?
-        pub fn is_encrypted(&self) -> bool {
-            self.read.cipher.is_some()
         }
 
         /// The public key as it is encoded in the header, without the length before it.
@@ -116,6 +106,37 @@ macro_rules! what_a_header_says {
             self.read.part(self.read.fields.exponent)
         }
 
+        /// Do both have the same key, of one kind and with one public half? The public blobs are compared, and not in constant
+        /// time. What is encrypted, or private, isn't looked at. Of an image of several keys it is the first.
+        pub fn same_key(&self, other: &Self) -> bool {
+            self.public_blob() == other.public_blob()
+        }
+    };
+}
+
+/// The functions that answer from the rest of the header, for a type that has an [`Accepted`] named `read`.
+macro_rules! what_a_header_says {
+    () => {
+        /// The section's cipher.
+        pub fn cipher(&self) -> Cipher {
+            self.read.cipher
+        }
+
+        /// The KDF's kind; its options are [`salt`](Self::salt) and [`rounds`](Self::rounds).
+        pub fn kdf(&self) -> KdfAlg {
+            self.read.kdf
+        }
+
+        /// Is the section encrypted?
+        pub fn is_encrypted(&self) -> bool {
+            self.read.cipher.is_some()
+        }
+
+        /// How many keys there are: 1 to [`MAX_KEYS`](crate::MAX_KEYS), and 1 where the section is encrypted.
+        pub fn key_count(&self) -> usize {
+            self.read.fields.keys as usize
+        }
+
         /// The KDF's salt; empty for KDF `none`.
         pub fn salt(&self) -> &'a [u8] {
             self.read.part(self.read.fields.salt)
@@ -126,15 +147,61 @@ macro_rules! what_a_header_says {
             self.read.fields.rounds as u32
         }
 
-        /// Do both have the same key, of one kind and with one public half? The public blobs are compared, and not in constant
-        /// time. What is encrypted, or private, isn't looked at.
-        pub fn same_key(&self, other: &Self) -> bool {
-            self.public_blob() == other.public_blob()
-        }
-
-        /// The place of the section's length field: the byte after the public key.
+        /// The place of the section's length field: the byte after the last public key.
         pub fn section_start(&self) -> usize {
             self.read.fields.section as usize
+        }
+    };
+}
+
+/// The functions that answer from a key's own part of the section, for the same types as `what_a_blob_says`.
+macro_rules! what_a_section_says {
+    () => {
+        /// The comment. An encrypted image shows none: it is in the ciphertext.
+        pub fn comment(&self) -> &'a str {
+            core::str::from_utf8(self.read.part(self.read.fields.comment))
+                .expect("an accepted image's comment is UTF-8")
+        }
+
+        /// **Private.** The secret scalar without leading zeros, so it may be shorter than its curve's size; for Ed25519 the
+        /// seed, all 32 bytes. Empty for RSA and for an encrypted image.
+        pub fn scalar(&self) -> &'a [u8] {
+            self.read.part(self.read.fields.scalar)
+        }
+
+        /// **Private.** The [`scalar`](Self::scalar) as [`PlainKey`](crate::PlainKey) takes it: copied into `room`, with zeros
+        /// filled in front to its curve's size. The seed, and the empty one, get none. `room` is the caller's to wipe.
+        pub fn full_scalar<'r>(&self, room: &'r mut [u8; EcdsaCurve::MAX_SIZE]) -> &'r [u8] {
+            let scalar = self.scalar();
+            let size = match self.algorithm() {
+                Algorithm::Ecdsa { curve } if !scalar.is_empty() => curve.size(),
+                _ => scalar.len(),
+            };
+            let (zeros, rest) = room[..size].split_at_mut(size - scalar.len());
+            zeros.fill(0);
+            rest.copy_from_slice(scalar);
+            &room[..size]
+        }
+
+        /// **Private.** An RSA key's private exponent, stored like the [`modulus`](Self::modulus). Empty for a key of another
+        /// kind and for an encrypted image.
+        pub fn d(&self) -> &'a [u8] {
+            self.read.part(self.read.fields.d)
+        }
+
+        /// **Private.** An RSA key's coefficient, the inverse of q modulo p, stored and absent as [`d`](Self::d) is.
+        pub fn iqmp(&self) -> &'a [u8] {
+            self.read.part(self.read.fields.iqmp)
+        }
+
+        /// **Private.** An RSA key's first prime, stored and absent as [`d`](Self::d) is.
+        pub fn p(&self) -> &'a [u8] {
+            self.read.part(self.read.fields.p)
+        }
+
+        /// **Private.** An RSA key's second prime, stored and absent as [`d`](Self::d) is.
+        pub fn q(&self) -> &'a [u8] {
+            self.read.part(self.read.fields.q)
         }
     };
 }

@@ -2,7 +2,7 @@
 
 use core::fmt;
 
-use crate::MAX_IMAGE_LEN;
+use crate::{MAX_IMAGE_LEN, MAX_KEYS};
 
 /// What a name is of.
 #[derive(Clone, Copy, Debug, PartialEq, Eq, Hash)]
@@ -116,8 +116,25 @@ pub(crate) enum Cause {
         says: usize,
     },
     Empty,
+    /// A key count that isn't taken, and one that isn't beside a cipher.
     KeyCount(u32),
+    SealedCount(u32),
+    /// These two without figures.
     OtherCount,
+    OtherSealedCount,
+    /// A list of keys that is handed in.
+    Keys {
+        has: usize,
+    },
+    /// A key that an edit asks for, of an image that has so many.
+    NoKey {
+        k: usize,
+        has: usize,
+    },
+    OnlyKey,
+    MostKeys,
+    /// A part that is handed in by its place in a text.
+    Outside,
     Modulus {
         bits: usize,
     },
@@ -162,6 +179,8 @@ pub(crate) enum Cause {
     Unnamed(Named),
     OtherCurve,
     OwnWriter,
+    OwnAddition,
+    OwnParts,
     OtherKey,
     LeftOver,
     NotUtf8,
@@ -196,7 +215,14 @@ impl fmt::Display for Cause {
             Self::SaidAbove { says } => {
                 write!(f, "was said to have {}, and at most {} are taken", Bytes(says), Grouped(MAX_IMAGE_LEN))
             }
-            Self::KeyCount(count) => write!(f, "is {}, and only 1 key in a file is taken", Grouped(count as usize)),
+            Self::KeyCount(count) => {
+                write!(f, "is {}, and 1 to {} keys in a file are taken", Grouped(count as usize), MAX_KEYS)
+            }
+            Self::SealedCount(count) => {
+                write!(f, "is {}, and only 1 key in an encrypted file is taken", Grouped(count as usize))
+            }
+            Self::Keys { has } => write!(f, "has {}, and 1 to {} are taken", Keys(has), MAX_KEYS),
+            Self::NoKey { k, has } => write!(f, "has no key {}: it has {}", Grouped(k), Keys(has)),
             Self::Modulus { bits } => write!(f, "has {} bits, and 1,024 to 8,192 are taken", Grouped(bits)),
             Self::NotWhole { has, block } => write!(f, "has {}, which isn't a multiple of {}", Bytes(has), block),
             Self::NotMultiple { block } => write!(f, "has a length that isn't a multiple of {}", block),
@@ -224,6 +250,7 @@ impl Cause {
             Self::Length { needs, .. } => Self::Fewer { needs },
             Self::AtMost { most, .. } => Self::More { most },
             Self::KeyCount(_) => Self::OtherCount,
+            Self::SealedCount(_) => Self::OtherSealedCount,
             Self::Modulus { .. } => Self::OtherBits,
             Self::NotWhole { block, .. } => Self::NotMultiple { block },
             Self::OptionsWithoutKdf { .. } => Self::SaltWithoutKdf,
@@ -237,7 +264,11 @@ impl Cause {
         match self {
             Self::CutShort => "is cut short",
             Self::AreCutShort => "are cut short",
-            Self::OtherCount => "isn't 1, and only 1 key in a file is taken",
+            Self::OtherCount => "isn't 1 to 16, and no other number of keys in a file is taken",
+            Self::OtherSealedCount => "isn't 1, and only 1 key in an encrypted file is taken",
+            Self::OnlyKey => "has one key, and the only key can't be removed",
+            Self::MostKeys => "has 16 keys, and no more are taken",
+            Self::Outside => "isn't within the text",
             Self::OtherBits => "hasn't 1,024 to 8,192 bits",
             Self::NoCheckints => "is missing: the section is empty, and two equal check numbers begin it",
             Self::Empty => "is empty",
@@ -252,6 +283,8 @@ impl Cause {
             }
             Self::OtherCurve => "names another curve than the key name does",
             Self::OwnWriter => "is RSA, and write_rsa writes such a key",
+            Self::OwnAddition => "is RSA, and add_rsa adds such a key",
+            Self::OwnParts => "is RSA, and such a key is made by `rsa`, of its six numbers",
             Self::OtherKey => "begins another public key than the header's",
             Self::NotUtf8 => "isn't UTF-8",
             Self::NewNotUtf8 => "was to get a comment that isn't UTF-8",
@@ -311,6 +344,15 @@ pub(crate) struct Bytes(pub usize);
 impl fmt::Display for Bytes {
     fn fmt(&self, f: &mut fmt::Formatter<'_>) -> fmt::Result {
         write!(f, "{} {}", Grouped(self.0), if self.0 == 1 { "byte" } else { "bytes" })
+    }
+}
+
+/// So many keys.
+struct Keys(usize);
+
+impl fmt::Display for Keys {
+    fn fmt(&self, f: &mut fmt::Formatter<'_>) -> fmt::Result {
+        write!(f, "{} {}", Grouped(self.0), if self.0 == 1 { "key" } else { "keys" })
     }
 }
 

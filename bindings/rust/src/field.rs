@@ -75,7 +75,7 @@ pub enum Field {
     Ciphertext,
     /// The tag.
     Tag,
-    /// What was handed to one of the three writers: there is no image yet.
+    /// What was handed to a writer, or is to be added to an image.
     HandedIn,
     /// An armoured text.
     Text,

@@ -5,8 +5,9 @@ use core::fmt;
 use crate::c;
 use crate::cause::{Cause, Name, Named};
 use crate::judge::{bits, wrong_modulus, wrong_mpint, zeros_only};
+use crate::several::AnyKey;
 use crate::walk::refused_blob;
-use crate::{Algorithm, EncryptedKey, Field, KdfAlg, PlainKey, RsaKey};
+use crate::{Algorithm, EncryptedKey, Field, KdfAlg, KeyPlaces, KeyRef, PlainKey, RsaKey, MAX_KEYS};
 
 /// A part of what was handed in.
 #[derive(Clone, Copy, Debug, PartialEq, Eq, Hash)]
@@ -28,6 +29,8 @@ pub(crate) enum Part {
     Blob(Field),
     Ciphertext,
     Tag,
+    /// The keys, as a list.
+    Keys,
     /// The text of which an algorithm, cipher, KDF or curve was to be made.
     Name,
 }
@@ -51,6 +54,7 @@ impl fmt::Display for Part {
             Self::Blob(field) => field.as_str(),
             Self::Ciphertext => "the ciphertext",
             Self::Tag => "the tag",
+            Self::Keys => "the list of keys",
             Self::Name => "the name",
         })
     }
@@ -105,6 +109,64 @@ pub(crate) fn of_rsa(key: &RsaKey<'_>, number: u64) -> Refused {
         _ => None,
     };
     refused.unwrap_or((Part::N, Cause::Untold))
+}
+
+/// What is refused of several keys, and which of them it is, counted from 1; none where it is their number, or there is one key.
+pub(crate) type OfKeys = (Option<usize>, Refused);
+
+/// What `write_keys` refuses of so many keys with this number: the first key that is refused by itself.
+pub(crate) fn of_keys<'a>(count: usize, keys: impl Iterator<Item = KeyRef<'a>>, number: u64) -> OfKeys {
+    if !(1..=MAX_KEYS).contains(&count) {
+        return (None, (Part::Keys, Cause::Keys { has: count }));
+    }
+    for (key, k) in keys.zip(1..) {
+        let refused = match key.key {
+            AnyKey::Plain(PlainKey { algorithm: Algorithm::Rsa, .. }) if number == 4 => {
+                (Part::Algorithm, Cause::OwnParts)
+            }
+            AnyKey::Plain(plain) if alone(&key) == number => of_plain(&plain, number),
+            AnyKey::Rsa(rsa) if alone(&key) == number => of_rsa(&rsa, number),
+            _ => continue,
+        };
+        return (one_of(count, k), refused);
+    }
+    (None, (Part::Keys, Cause::Untold))
+}
+
+/// The number of a key where there are several.
+fn one_of(count: usize, k: usize) -> Option<usize> {
+    Some(k).filter(|_| count > 1)
+}
+
+/// The number with which a key by itself is refused; 9 where nothing is wrong with it.
+fn alone(key: &KeyRef<'_>) -> u64 {
+    let reply = match key.key {
+        AnyKey::Plain(PlainKey { algorithm, public, private, .. }) => {
+            c::write_plain(algorithm.code(), public, private, 0, 0, key.comment, &mut [])
+        }
+        AnyKey::Rsa(RsaKey { n, e, d, iqmp, p, q, .. }) => {
+            c::write_rsa([n, e, d, iqmp, p, q], 0, 0, key.comment, &mut [])
+        }
+    };
+    reply.number
+}
+
+/// A key's parts in the order of a table's row.
+const PARTS: [Part; 9] =
+    [Part::Public, Part::Private, Part::Comment, Part::N, Part::E, Part::D, Part::Iqmp, Part::P, Part::Q];
+
+/// What `write_keys_in` refuses with this number.
+pub(crate) fn of_places(text: &[u8], keys: &[KeyPlaces], number: u64) -> OfKeys {
+    let outside = |key: &KeyPlaces| key.parts(text).iter().position(Option::is_none);
+    if (1..=MAX_KEYS).contains(&keys.len()) && number == 1 {
+        for (key, k) in keys.iter().zip(1..) {
+            if let Some(place) = outside(key) {
+                return (one_of(keys.len(), k), (PARTS[place], Cause::Outside));
+            }
+        }
+    }
+    let found = keys.iter().map(|key| key.key_ref(key.parts(text).map(Option::unwrap_or_default)));
+    of_keys(keys.len(), found, number)
 }
 
 /// What `write_encrypted` refuses with this number: of a blob any that its reading has, which is never 3.

@@ -7,7 +7,7 @@ use crate::c;
 use crate::{Algorithm, Cipher, Error, Image, KdfAlg};
 
 /// The header of a key file's image: all that stands before the private section. It borrows the caller's bytes, and so do the
-/// parts that it answers: nothing is copied.
+/// parts that it answers: nothing is copied. Of several keys what it says of a key is the first one's.
 ///
 /// Two headers are equal where their bytes are, up to the section's beginning; what follows isn't compared. The comparison isn't
 /// constant-time.
@@ -34,6 +34,7 @@ impl<'a> Header<'a> {
         &self.read.bytes[..self.section_start()]
     }
 
+    what_a_blob_says!();
     what_a_header_says!();
 }
 
@@ -46,6 +47,7 @@ impl fmt::Debug for Header<'_> {
             .field("algorithm", &self.algorithm())
             .field("cipher", &self.cipher())
             .field("kdf", &self.kdf())
+            .field("key_count", &self.key_count())
             .field("section_start", &self.section_start())
             .finish_non_exhaustive()
     }

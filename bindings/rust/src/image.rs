@@ -6,12 +6,13 @@ use crate::accepted::Accepted;
 use crate::c;
 #[cfg(feature = "alloc")]
 use crate::{set_comment, MAX_IMAGE_LEN};
-use crate::{Algorithm, Cipher, EcdsaCurve, Error, KdfAlg};
+use crate::{Algorithm, Cipher, EcdsaCurve, Error, KdfAlg, Key, Keys};
 #[cfg(feature = "alloc")]
 use alloc::{vec, vec::Vec};
 
 /// A key file's image that the reader accepted. It borrows the caller's bytes, and so do the parts that it answers: nothing
-/// is copied.
+/// is copied. It has 1 to 16 keys, each answered by [`key`](Self::key) and [`keys`](Self::keys): what the image itself says of a
+/// key, as its [`algorithm`](Self::algorithm) and [`comment`](Self::comment), is the first one's.
 ///
 /// Two images are equal where all their bytes are, private ones included. The comparison isn't constant-time: who can time it may
 /// learn of private bytes.
@@ -37,52 +38,18 @@ impl<'a> Image<'a> {
         self.read.bytes
     }
 
+    what_a_blob_says!();
     what_a_header_says!();
+    what_a_section_says!();
 
-    /// The comment. An encrypted image shows none: it is in the ciphertext.
-    pub fn comment(&self) -> &'a str {
-        core::str::from_utf8(self.read.part(self.read.fields.comment)).expect("an accepted image's comment is UTF-8")
+    /// Key `k`; keys count from 1. None where the image has no such key.
+    pub fn key(&self, k: usize) -> Option<Key<'a>> {
+        Key::found(self.read.bytes, k)
     }
 
-    /// **Private.** The secret scalar without leading zeros, so it may be shorter than its curve's size; for Ed25519 the seed,
-    /// all 32 bytes. Empty for RSA and for an encrypted image.
-    pub fn scalar(&self) -> &'a [u8] {
-        self.read.part(self.read.fields.scalar)
-    }
-
-    /// **Private.** The [`scalar`](Self::scalar) as [`PlainKey`](crate::PlainKey) takes it: copied into `room`, with zeros filled
-    /// in front to its curve's size. The seed, and the empty one, get none. `room` is the caller's to wipe.
-    pub fn full_scalar<'r>(&self, room: &'r mut [u8; EcdsaCurve::MAX_SIZE]) -> &'r [u8] {
-        let scalar = self.scalar();
-        let size = match self.algorithm() {
-            Algorithm::Ecdsa { curve } if !scalar.is_empty() => curve.size(),
-            _ => scalar.len(),
-        };
-        let (zeros, rest) = room[..size].split_at_mut(size - scalar.len());
-        zeros.fill(0);
-        rest.copy_from_slice(scalar);
-        &room[..size]
-    }
-
-    /// **Private.** An RSA key's private exponent, stored like the [`modulus`](Self::modulus). Empty for a key of another kind
-    /// and for an encrypted image.
-    pub fn d(&self) -> &'a [u8] {
-        self.read.part(self.read.fields.d)
-    }
-
-    /// **Private.** An RSA key's coefficient, the inverse of q modulo p, stored and absent as [`d`](Self::d) is.
-    pub fn iqmp(&self) -> &'a [u8] {
-        self.read.part(self.read.fields.iqmp)
-    }
-
-    /// **Private.** An RSA key's first prime, stored and absent as [`d`](Self::d) is.
-    pub fn p(&self) -> &'a [u8] {
-        self.read.part(self.read.fields.p)
-    }
-
-    /// **Private.** An RSA key's second prime, stored and absent as [`d`](Self::d) is.
-    pub fn q(&self) -> &'a [u8] {
-        self.read.part(self.read.fields.q)
+    /// The keys, in their order in the image. Each is read as it is asked for.
+    pub fn keys(&self) -> Keys<'a> {
+        Keys::new(self.read.bytes, self.key_count())
     }
 
     /// The encrypted section, without its tag; empty for a plain image.
@@ -95,7 +62,7 @@ impl<'a> Image<'a> {
         self.read.part(self.read.fields.tag)
     }
 
-    /// **Private** where it was derived from the private bytes. The number that stands twice before the key in a plain
+    /// **Private** where it was derived from the private bytes. The number that stands twice before the keys in a plain
     /// section; none for an encrypted image.
     pub fn checkint(&self) -> Option<u32> {
         if self.is_encrypted() {
@@ -115,8 +82,8 @@ impl<'a> Image<'a> {
         self.read.fields.form == 1
     }
 
-    /// Writes the image's record, with its own checkint, to the start of `out` and answers the length. For an image in the
-    /// form these are its own bytes.
+    /// Writes the image's record, all its keys with its own checkint, to the start of `out` and answers the length. For an image in
+    /// the form these are its own bytes.
     pub fn rewrite(&self, out: &mut [u8]) -> Result<usize, Error> {
         Error::written_of(self.read.bytes, c::rewrite(self.read.bytes, out))
     }
@@ -125,16 +92,16 @@ impl<'a> Image<'a> {
     /// above 65,535 bytes when it is written again. Nobody wipes the bytes.
     #[cfg(feature = "alloc")]
     pub fn rewritten(&self) -> Result<Vec<u8>, Error> {
-        // A zero that a scalar lacks makes the section one padded block longer.
-        let mut out = vec![0; self.as_bytes().len() + 8];
+        // A zero that a scalar lacks is a byte more, and they may make the padding longer.
+        let mut out = vec![0; self.as_bytes().len() + self.key_count() + 7];
         let len = self.rewrite(&mut out)?;
         out.truncate(len);
         Ok(out)
     }
 
-    /// **Private.** The image with another comment, as [`set_comment`] changes it and with its refusals: an encrypted image (8),
-    /// one that isn't in the form (10), a comment that isn't UTF-8 (7), a new image above 65,535 bytes (11). Nobody wipes the
-    /// bytes, nor the copy of the image that a refused change was tried on.
+    /// **Private.** The image with another comment of its first key, as [`set_comment`] changes it and with its refusals: an
+    /// encrypted image (8), one that isn't in the form (10), a comment that isn't UTF-8 (7), a new image above 65,535 bytes (11).
+    /// Nobody wipes the bytes, nor the copy of the image that a refused change was tried on.
     #[cfg(feature = "alloc")]
     pub fn with_comment(&self, comment: impl AsRef<[u8]>) -> Result<Vec<u8>, Error> {
         let (image, comment) = (self.as_bytes(), comment.as_ref());
@@ -163,6 +130,7 @@ impl fmt::Debug for Image<'_> {
             .field("algorithm", &self.algorithm())
             .field("cipher", &self.cipher())
             .field("kdf", &self.kdf())
+            .field("key_count", &self.key_count())
             .field("comment", &self.comment())
             .field("len", &self.as_bytes().len())
             .field("in_form", &self.is_in_form())

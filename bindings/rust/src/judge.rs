@@ -1,5 +1,7 @@
 //! What is wrong with a string's bytes, with a text, or with an image as a whole.
 
+use core::cmp::Ordering;
+
 use crate::c;
 use crate::cause::{Cause, Name, Named};
 use crate::{Algorithm, Cipher, EcdsaCurve, KdfAlg, MAX_IMAGE_LEN};
@@ -49,13 +51,23 @@ fn above_limit(len: usize) -> Cause {
     }
 }
 
-/// Why an accepted image isn't in the form. Before a scalar without a zero stands the last byte of its length, which isn't 0.
+/// Why an accepted image isn't in the form, by its first scalar that isn't.
 fn out_of_form(image: &[u8]) -> Cause {
-    let before = (c::read(image).scalar.start as usize).wrapping_sub(1);
-    match image.get(before) {
-        Some(0) => Cause::NeedlessZeros,
-        _ => Cause::LacksZero,
-    }
+    let keys = (1..=c::read(image).keys).map(|k| c::read_key(image, k));
+    let mut scalars = keys.filter_map(|key| match Algorithm::from_code(key.algorithm)? {
+        Algorithm::Ecdsa { .. } => image.get(..key.scalar.start as usize).zip(image.get(key.scalar.start as usize)),
+        _ => None,
+    });
+    let cause = scalars.find_map(|(before, first)| {
+        // Before the zeros stands the last byte of the string's length, which isn't 0.
+        let zeros = before.iter().rev().take_while(|byte| **byte == 0).count();
+        match zeros.cmp(&usize::from(*first >= 0x80)) {
+            Ordering::Greater => Some(Cause::NeedlessZeros),
+            Ordering::Less => Some(Cause::LacksZero),
+            Ordering::Equal => None,
+        }
+    });
+    cause.unwrap_or(Cause::Untold)
 }
 
 /// What a file is that doesn't begin as an image does.

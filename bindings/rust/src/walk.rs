@@ -9,20 +9,38 @@ use crate::{Cipher, EcdsaCurve, Field};
 /// The failing field and its fault as the `Err`, so that `?` ends the walk there.
 type Step<T> = Result<T, (Field, Cause)>;
 
+/// The failing field, what is wrong with it, and of several keys the number of the one that it is of.
+pub(crate) struct Fault {
+    pub field: Field,
+    pub cause: Cause,
+    pub key: Option<usize>,
+}
+
+impl From<(Field, Cause)> for Fault {
+    fn from((field, cause): (Field, Cause)) -> Self {
+        Self { field, cause, key: None }
+    }
+}
+
+/// A step of key `k` of so many.
+fn of_key<T>(step: Step<T>, k: usize, count: usize) -> Result<T, Fault> {
+    step.map_err(|fault| Fault { key: Some(k).filter(|_| count > 1), ..fault.into() })
+}
+
 /// The field that a refusal of `image` with this number and place is about, and its fault. All before it was read without a
 /// refusal, so lengths and names are enough to find it.
-pub(crate) fn refused(image: &[u8], number: u64, place: usize) -> (Field, Cause) {
+pub(crate) fn refused(image: &[u8], number: u64, place: usize) -> Fault {
     if place == 0 {
-        return (Field::Image, of_the_image(image, number));
+        return (Field::Image, of_the_image(image, number)).into();
     }
     let left = image.get(MAGIC.len()..).unwrap_or_default();
     let walk = Walk { left, at: MAGIC.len(), number, place: Some(place) };
     let untold = if number == LEFT_OVER { Cause::LeftOver } else { Cause::Untold };
-    let (field, cause) = walk.image().err().unwrap_or((Field::Image, untold));
-    if field.is_of_the_section() || !is_framed(left) {
-        return (field, cause.without_figures());
+    let fault = walk.image().err().unwrap_or_else(|| (Field::Image, untold).into());
+    if fault.field.is_of_the_section() || !is_framed(left, fault.field) {
+        return Fault { cause: fault.cause.without_figures(), ..fault };
     }
-    (field, cause)
+    fault
 }
 
 /// The first field with a fault of this number in a blob that was handed in, and the fault. Nobody knows that it is a blob: no byte
@@ -44,18 +62,21 @@ struct Walk<'a> {
 }
 
 impl<'a> Walk<'a> {
-    fn image(mut self) -> Step<()> {
+    fn image(mut self) -> Result<(), Fault> {
         let cipher = self.leaf(Field::CipherName, |number, name| unknown(Named::Cipher, number, name))?;
         let kdf = self.leaf(Field::KdfName, |number, name| match number {
             3 => Some(Cause::KdfWithoutCipher),
             _ => unknown(Named::Kdf, number, name),
         })?;
         self.options(kdf)?;
-        self.key_count()?;
-        self.string(Field::Blob)?.inside_blob()?;
-        match Cipher::from_name(cipher) {
-            Some(Cipher::None) | None => self.section(),
-            Some(cipher) => self.ciphertext(cipher),
+        let cipher = Cipher::from_name(cipher).unwrap_or(Cipher::None);
+        let count = self.key_count(cipher)?;
+        for k in 1..=count {
+            of_key(self.string(Field::Blob).and_then(Walk::inside_blob), k, count)?;
+        }
+        match cipher {
+            Cipher::None => self.section(count),
+            cipher => Ok(self.ciphertext(cipher)?),
         }
     }
 
@@ -73,11 +94,12 @@ impl<'a> Walk<'a> {
         options.rest(Field::KdfOptions)
     }
 
-    fn key_count(&mut self) -> Step<()> {
+    fn key_count(&mut self, cipher: Cipher) -> Step<usize> {
         let here = self.is_here();
-        match self.uint32(Field::KeyCount)? {
-            count if here => Err((Field::KeyCount, Cause::KeyCount(count))),
-            _ => Ok(()),
+        match (self.uint32(Field::KeyCount)?, cipher) {
+            (count, Cipher::None) if here => Err((Field::KeyCount, Cause::KeyCount(count))),
+            (count, _) if here => Err((Field::KeyCount, Cause::SealedCount(count))),
+            (count, _) => Ok(count as usize),
         }
     }
 
@@ -93,7 +115,16 @@ impl<'a> Walk<'a> {
         self.fixed(Field::Tag, cipher.tag_length()).map(|_| ())
     }
 
-    fn section(&mut self) -> Step<()> {
+    fn section(&mut self, count: usize) -> Result<(), Fault> {
+        let mut section = self.checkints()?;
+        for k in 1..=count {
+            of_key(section.entry(), k, count)?;
+        }
+        Ok(section.padding()?)
+    }
+
+    /// The section up to its first key; answers a walk through the rest of it.
+    fn checkints(&mut self) -> Step<Walk<'a>> {
         let mut section = self.string(Field::SectionString)?;
         let has = section.left.len();
         if has % 8 != 0 {
@@ -104,13 +135,17 @@ impl<'a> Walk<'a> {
             return Err((Field::SecondCheckint, Cause::Checkints));
         }
         section.uint32(Field::SecondCheckint)?;
-        let name = section.leaf(Field::SectionKeyName, |number, name| match number {
+        Ok(section)
+    }
+
+    /// A keypair and its comment.
+    fn entry(&mut self) -> Step<()> {
+        let name = self.leaf(Field::SectionKeyName, |number, name| match number {
             5 => Some(Cause::OtherKey),
             _ => unknown(Named::Key, number, name),
         })?;
-        section.strings(pair_fields(name))?;
-        section.leaf(Field::Comment, |_, _| Some(Cause::NotUtf8))?;
-        section.padding()
+        self.strings(pair_fields(name))?;
+        self.leaf(Field::Comment, |_, _| Some(Cause::NotUtf8)).map(|_| ())
     }
 
     fn padding(&self) -> Step<()> {

@@ -10,19 +10,20 @@ use crate::{Algorithm, Cipher, Error, KdfAlg};
 #[cfg(feature = "alloc")]
 use alloc::{vec, vec::Vec};
 
-/// The number that stands twice before the key in a plain section.
+/// The number that stands twice before the keys in a plain section.
 #[derive(Clone, Copy, PartialEq, Eq)]
 pub enum Checkint {
     /// This one.
     Given(u32),
     /// The xor of the private bytes' big-endian groups of four, a shorter rest ignored. For ECDSA these are as many bytes as the
-    /// curve's size, leading zeros included; for RSA they are d's, a zero before them included.
+    /// curve's size, leading zeros included; for RSA they are d's, a zero before them included. Of several keys they are the first
+    /// one's.
     Derived,
 }
 
 impl Checkint {
     /// The C interface's two numbers for it: whether to derive one, and the given one.
-    fn codes(self) -> (u8, u32) {
+    pub(crate) fn codes(self) -> (u8, u32) {
         match self {
             Self::Given(checkint) => (0, checkint),
             Self::Derived => (1, 0),

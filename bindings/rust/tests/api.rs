@@ -6,9 +6,10 @@ use std::collections::BTreeSet;
 
 use saltorchard::{set_comment, write_encrypted, write_plain, write_rsa, MAX_IMAGE_LEN};
 use saltorchard::{Algorithm, Checkint, Cipher, EcdsaCurve, KdfAlg};
-use saltorchard::{EncryptedKey, Error, ErrorKind, Field, Header, Image, LentImage, PlainKey, RsaKey};
+use saltorchard::{EncryptedKey, Error, ErrorKind, Field, Header, Image, KeyRef, LentImage, PlainKey, RsaKey};
 use support::hex;
 use support::images::{self, blob_bytes, sealed, strings_bytes, Draft, Key, CIPHERS};
+use support::rings::{image_of, mixed, Commented};
 use support::Rng;
 
 fn rng() -> Rng {
@@ -38,7 +39,7 @@ fn comment_refusal(mut image: Vec<u8>, comment: &str) -> Error {
 /// One refusal of each number.
 fn refusals() -> Vec<Error> {
     vec![
-        refusal(|draft| draft.count = 2),
+        refusal(|draft| draft.count = 17),
         refusal(|draft| draft.magic[0] = b'O'),
         refusal(|draft| draft.checkints[1] = 1),
         refusal(|draft| draft.cipher = b"aes512-ctr".to_vec()),
@@ -55,7 +56,7 @@ fn refusals() -> Vec<Error> {
 #[test]
 fn refusals_in_words() {
     let sentences = [
-        "Refusal 1 (Length): the key count at byte 35 is 2, and only 1 key in a file is taken.",
+        "Refusal 1 (Length): the key count at byte 35 is 17, and 1 to 16 keys in a file are taken.",
         "Refusal 2 (FormatEncoding): the image doesn't begin with `openssh-key-v1` and a zero byte.",
         "Refusal 3 (Crypto): the second checkint at byte 155 isn't equal to the first: the two check numbers before the key differ, so the section is damaged.",
         "Refusal 4 (AlgorithmUnknown): the cipher name's string at byte 15 is \"aes512-ctr\", and no such cipher is known here.",
@@ -127,7 +128,7 @@ fn refusals_by_field() {
     let debug = format!("{:?}", refusals()[6]);
     assert_eq!(
         debug,
-        "Error { kind: CharacterEncoding, count: 0, at: 300, field: Comment, part: None, cause: NotUtf8 }"
+        "Error { kind: CharacterEncoding, count: 0, at: 300, field: Comment, key: None, part: None, cause: NotUtf8 }"
     );
     let debug = format!("{:?}", refusal(|draft| draft.cipher = b"aes\xff".to_vec()));
     assert!(debug.ends_with("cause: Unknown(Cipher, \"aes\\xff\") }"), "{}", debug);
@@ -288,9 +289,9 @@ fn a_header_of_a_plain_image() {
     assert_eq!((image.comment(), image.scalar(), image.section_start()), ("oven7", &key.private[..], 147));
     assert!(std::ptr::eq(image.as_bytes(), &bytes[..]));
     let debug = format!("{:?}", header);
-    assert!(
-        debug.starts_with("Header { algorithm: Ecdsa { curve: NistP256 }, cipher: None, kdf: None, section_start: 147")
-    );
+    let shown =
+        "Header { algorithm: Ecdsa { curve: NistP256 }, cipher: None, kdf: None, key_count: 1, section_start: 147";
+    assert!(debug.starts_with(shown), "{}", debug);
     hides_private_bytes(&format!("{} {:#?}", debug, header), &key.private);
 }
 
@@ -307,6 +308,107 @@ fn a_header_of_an_encrypted_image() {
     assert_eq!(header.section_start(), bytes.len() - tag.len() - ciphertext.len() - 4);
     let image = header.section().expect("a good image");
     assert_eq!((image.ciphertext(), image.tag()), (&ciphertext[..], &tag[..]));
+}
+
+/// Keys of every kind with comments, and their image.
+fn several() -> (Vec<Commented>, Vec<u8>) {
+    let keys = mixed(5, 0, true, &mut rng());
+    let image = image_of(&keys, 0xfeed_beef);
+    (keys, image)
+}
+
+#[test]
+fn an_image_of_several_keys() {
+    let (keys, bytes) = several();
+    let image = Image::read(&bytes).expect("a good image");
+    assert_eq!((image.key_count(), Header::read(&bytes).map(|header| header.key_count())), (5, Ok(5)));
+    assert_eq!((image.keys().len(), image.keys().count()), (5, 5));
+    for (key, k) in keys.iter().zip(1..) {
+        let found = image.key(k).expect("a key");
+        assert_eq!(found.comment().as_bytes(), key.comment);
+        assert_eq!(found.public_blob(), strings_bytes(&key.draft(0).blob));
+        assert_eq!(found.bits() > 0, found.algorithm() == Algorithm::Rsa);
+        assert!(found.same_key(&image.keys().nth(k - 1).expect("a key")));
+    }
+    let first = image.key(1).expect("a key");
+    assert_eq!((image.algorithm(), image.scalar()), (first.algorithm(), first.scalar()));
+    assert!(image.key(0).is_none() && image.key(6).is_none() && image.key(usize::MAX).is_none());
+    let mut keys = image.keys();
+    assert_eq!((keys.next_back().map(|key| key.bits() > 0), keys.len()), (Some(true), 4));
+    assert_eq!((keys.by_ref().count(), keys.next().is_none(), keys.next_back().is_none()), (4, true, true));
+}
+
+#[test]
+fn what_a_key_shows() {
+    let (keys, bytes) = several();
+    let image = Image::read(&bytes).expect("a good image");
+    assert!(format!("{:?}", image).contains("key_count: 5"));
+    for (key, k) in keys.iter().zip(1..) {
+        let found = image.key(k).expect("a key");
+        let mut room = [0; EcdsaCurve::MAX_SIZE];
+        let debug = format!("{:?} {:#?} {:?} {:?}", found, found, found.key_ref(&mut room), image.keys());
+        let comment = std::str::from_utf8(&key.comment).expect("UTF-8");
+        assert!(debug.starts_with(&format!(
+            "Key {{ algorithm: {:?}, comment: {:?}, .. }}",
+            found.algorithm(),
+            comment
+        )));
+        assert!(debug.ends_with("Keys { left: 5, .. }"), "{}", debug);
+        for private in [found.scalar(), found.d(), found.iqmp(), found.p(), found.q()] {
+            hides_private_bytes(&debug, private);
+        }
+    }
+}
+
+/// The keys of an image, taken out and written again, and put together by additions.
+#[test]
+fn keys_written_again() {
+    let (_, bytes) = several();
+    let image = Image::read(&bytes).expect("a good image");
+    let mut rooms = [[0; EcdsaCurve::MAX_SIZE]; 5];
+    let refs: Vec<KeyRef> = image.keys().zip(&mut rooms).map(|(key, room)| key.key_ref(room)).collect();
+    #[cfg(feature = "alloc")]
+    {
+        let mut out = vec![0; bytes.len()];
+        let checkint = Checkint::Given(0xfeed_beef);
+        assert_eq!(saltorchard::write_keys(&refs, checkint, &mut out), Ok(bytes.len()));
+        assert_eq!(out, bytes);
+    }
+    let mut buffer = vec![0; bytes.len()];
+    buffer[..].copy_from_slice(&bytes);
+    let mut lent = LentImage::new(&mut buffer, bytes.len()).expect("a good image");
+    for key in &refs {
+        lent.remove(1).expect("not the only key");
+        lent.add_key(key).expect("the room that was freed");
+    }
+    assert_eq!(lent.as_bytes(), bytes);
+}
+
+#[test]
+fn edits_of_a_lent_image() {
+    let (keys, bytes) = several();
+    let mut buffer = [&bytes[..], &[7; 400]].concat();
+    let mut lent = LentImage::new(&mut buffer, bytes.len()).expect("a good image");
+    lent.set_comment_of(4, "line 4").expect("room");
+    assert_eq!(lent.image().expect("still an image").key(4).map(|key| key.comment().len()), Some(6));
+    let refused = lent.set_comment_of(2, b"\xff").expect_err("a refusal");
+    assert_eq!((refused.number(), refused.field(), refused.key()), (7, Field::Comment, Some(2)));
+    let ed25519 =
+        PlainKey { algorithm: Algorithm::Ed25519, public: &[7; 32], private: &[1; 32], checkint: Checkint::Given(1) };
+    let len = lent.add(&ed25519, "new").expect("room");
+    let image = lent.image().expect("still an image");
+    assert_eq!((lent.len(), image.key_count(), image.checkint()), (len, 6, Some(0xfeed_beef)));
+    let rsa = images::RsaKey::new(1_024, &mut rng());
+    let [n, e, d, iqmp, p, q] = rsa.numbers();
+    let rsa = RsaKey { n, e, d, iqmp, p, q, checkint: Checkint::Derived };
+    assert_eq!(lent.add_rsa(&rsa, "silo").map_err(Error::number), Err(9));
+    assert_eq!(lent.remove(7).map_err(Error::number), Err(1));
+    assert_eq!(lent.len(), len);
+    for _ in 1..6 {
+        lent.remove(2).expect("not the only key");
+    }
+    assert_eq!(lent.remove(1).map_err(Error::number), Err(1));
+    assert_eq!(lent.as_bytes(), image_of(&keys[..1], 0xfeed_beef));
 }
 
 /// The header of `bytes` is read, and the section is then refused as the whole image is.

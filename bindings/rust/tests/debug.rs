@@ -5,6 +5,7 @@ use std::fmt::Debug;
 
 use saltorchard::{armour, EncryptedKey, ErrorKind, Field, Header, Image, LentImage, PlainKey, RsaKey};
 use saltorchard::{raw, write_encrypted, write_plain, write_rsa, Algorithm, Checkint, Cipher, EcdsaCurve, KdfAlg};
+use saltorchard::{write_keys_in, KeyPlaces, KeyRef};
 
 /// Every private byte that isn't zero, and the four of the checkint, given or derived.
 const MARK: u8 = 0xd3;
@@ -79,7 +80,21 @@ fn plain_image(key: &PlainKey<'_>) -> Vec<u8> {
     out
 }
 
-/// A marked ECDSA image, an Ed25519 one with a derived checkint, an RSA key's and an encrypted one.
+/// A marked image of an Ed25519 key and one over a curve.
+fn several_image() -> Vec<u8> {
+    let text = [private(32), vec![7; 32], private(48), vec![4; 97], b"mixer".to_vec()].concat();
+    let algorithm = Algorithm::Ecdsa { curve: EcdsaCurve::NistP384 };
+    let keys = [
+        KeyPlaces::plain(Algorithm::Ed25519, 32..64, 0..32, 209..214),
+        KeyPlaces::plain(algorithm, 112..209, 64..112, 209..214),
+    ];
+    let mut out = vec![0; 1024];
+    let len = write_keys_in(&text, &keys, Checkint::Derived, &mut out).expect("good keys");
+    out.truncate(len);
+    out
+}
+
+/// A marked ECDSA image, an Ed25519 one with a derived checkint, an RSA key's, an encrypted one and one of two keys.
 fn images() -> Vec<Vec<u8>> {
     with_keys(|plain, rsa, encrypted| {
         let (algorithm, checkint) = (Algorithm::Ed25519, Checkint::Derived);
@@ -90,7 +105,7 @@ fn images() -> Vec<Vec<u8>> {
         let len = write_encrypted(&encrypted, &mut others[1]).expect("good parts");
         others[1].truncate(len);
         let [rsa, encrypted] = others;
-        vec![plain_image(&plain), plain_image(&derived), rsa, encrypted]
+        vec![plain_image(&plain), plain_image(&derived), rsa, encrypted, several_image()]
     })
 }
 
@@ -115,6 +130,8 @@ fn handed() -> Vec<Line> {
             "PlainKey": plain, PlainKey { checkint: Checkint::Derived, ..plain };
             "RsaKey": rsa, RsaKey { checkint: Checkint::Derived, ..rsa };
             "EncryptedKey": encrypted;
+            "KeyRef": KeyRef::plain(&plain, "oven7"), KeyRef::rsa(&rsa, "silo 3");
+            "KeyPlaces": KeyPlaces::rsa([0..211, 0..211, 0..211, 0..211, 0..211, 0..211], 0..211);
         }
     })
 }
@@ -126,15 +143,19 @@ fn answered(image: &[u8]) -> Vec<Line> {
     let mut text = vec![0; armour::exported_len(image.len())];
     armour::export(image, &mut text).expect("room for the text");
     let read = raw::read(image);
+    let keys = Image::read(image).expect("a good image").keys();
     lines! {
         "Header": Header::read(image).expect("a good image");
         "Image": Image::read(image).expect("a good image");
+        "Key": keys.clone().next(), keys.clone().next_back();
+        "Keys": keys;
         "LentImage": LentImage::new(&mut lent, image.len()).expect("a good image");
         "Error": Image::read(&longer).expect_err("a byte left over"), Image::read(&image[1..]).expect_err("no magic"),
             armour::import(&text[1..], &mut out).expect_err("no first line"),
             armour::import(&text, &mut out[1..]).expect_err("no room"),
             armour::export(image, &mut []).expect_err("no room");
         "raw::Image": read;
+        "raw::Key": raw::read_key(image, 1);
         "raw::Part": read.scalar;
         "raw::Reply": raw::rewrite(image, &mut out), raw::rewrite(&longer, &mut out);
     }
@@ -188,10 +209,10 @@ fn every_public_type_has_a_line() {
 
 /// So that a text that isn't there is no silence of this test.
 #[test]
-fn two_types_have_no_debug() {
+fn three_types_have_no_debug() {
     let silent: BTreeSet<&str> =
         all_lines().into_iter().filter(|(_, texts)| texts.is_empty()).map(|line| line.0).collect();
-    assert_eq!(silent, BTreeSet::from(["raw::Image", "raw::Part"]));
+    assert_eq!(silent, BTreeSet::from(["raw::Image", "raw::Key", "raw::Part"]));
 }
 
 /// Bytes that damage a length, a name or a number.

@@ -14,6 +14,7 @@ use saltorchard::{armour, Image};
 use support::images::{Draft, Key, ALGORITHMS, CIPHERS, KDFS};
 use support::model::armour::text_of;
 use support::model::{self, Record};
+use support::rings::{image_of, mixed, Any, Commented, Ring};
 use support::Rng;
 
 #[path = "../examples/compare.rs"]
@@ -56,10 +57,10 @@ fn report(image: &[u8]) -> (i32, String) {
         Ok(record) => record,
         Err(refusal) => return (1, format!("refused {} {} {}\n", refusal.number, refusal.count, refusal.at)),
     };
-    let Record { kind, algorithm, cipher, kdf, .. } = record;
+    let Record { kind, cipher, kdf, .. } = record;
     let encrypted = kind == model::ENCRYPTED;
     let mut lines = format!("kind {}\n", if encrypted { "encrypted" } else { "plain" });
-    lines += &format!("algorithm {}\n", ALGORITHMS[usize::from(algorithm)]);
+    lines += &format!("algorithm {}\n", ALGORITHMS[usize::from(record.algorithm)]);
     if record.bits > 0 {
         lines += &format!("bits {}\n", record.bits);
     }
@@ -181,6 +182,39 @@ fn compare_looks_at_the_fields() {
     assert_eq!(compared(&stored(fewest.clone()), &stored(with_zero)), "same fields in another form\n");
     let other = [&[0x12], &fewest[1..]].concat();
     assert_eq!(compared(&stored(fewest), &stored(other)), "same public key, other private bytes\n");
+}
+
+/// Files of several keys: each is compared with the one of its number.
+#[test]
+fn compare_looks_at_every_key() {
+    let mut keys = mixed(3, 1, true, &mut Rng::new("compare every key"));
+    if let Any::Curve(key) = &mut keys[1].key {
+        key.private[0] = 0x11; // with a zero before it it isn't in the form
+    }
+    let image = |keys: &[Commented]| image_of(keys, 7);
+    let mut commented = keys.clone();
+    commented[2].comment = b"another".to_vec();
+    let mut swapped = keys.clone();
+    swapped.swap(1, 2);
+    let mut private = keys.clone();
+    if let Any::Curve(key) = &mut private[1].key {
+        key.private[9] ^= 1;
+    }
+    let mut ring = Ring::of(&keys, 7);
+    ring.0[1].pair[3].insert(0, 0);
+    ring.pad();
+    let lines = [
+        (compared(&image(&keys), &image(&commented)), "same key, other comment or checkint\n"),
+        (compared(&image(&keys), &image(&swapped)), "other key\n"),
+        (compared(&image(&keys), &image(&keys[..2])), "other key\n"),
+        (compared(&image(&keys), &image(&private)), "same public key, other private bytes\n"),
+        (compared(&image(&keys), &ring.bytes()), "same fields in another form\n"),
+    ];
+    for (line, right) in lines {
+        assert_eq!(line, right);
+    }
+    let (file, right) = (written("several", &image(&keys)), report(&image(&keys)));
+    assert_eq!(said(inspect::run, &[&file]), (right.0, right.1, String::new()));
 }
 
 /// The README's rows for ssh-key's `write_openssh_file` and `read_openssh_file`.

@@ -9,17 +9,19 @@ use std::path::Path;
 
 use saltorchard::armour::import;
 use saltorchard::{write_encrypted, write_plain, write_rsa, Algorithm, Checkint, Cipher, EcdsaCurve, EncryptedKey};
-use saltorchard::{Error, Header, Image, KdfAlg, PlainKey, RsaKey};
+use saltorchard::{Error, Header, Image, KdfAlg, LentImage, PlainKey, RsaKey};
 use support::images::mpint;
 use support::model::armour::text_of;
 use support::Rng;
 
 /// Numbers of the words, not of an image; `Debug`'s after the sentences'.
-const CONSTANTS: [&str; 22] = [
+const CONSTANTS: [&str; 24] = [
     "the 32 that are needed",
     "the 64 that are needed",
     "the 65 that are needed",
     "the 7 that are taken",
+    "isn't 1 to 16, and",
+    "and 1 to 16 keys in a file",
     "isn't 1, and only 1 key",
     "hasn't 1,024 to 8,192 bits",
     "a multiple of 8.",
@@ -47,10 +49,12 @@ fn shown(error: Error) -> String {
     let mut text = format!("{} {:?}", error, error);
     for told in [
         format!("Refusal {} (", number),
+        error.key().map_or(String::new(), |k| format!(" of key {}", k)),
         format!(" at byte {} ", place),
         format!("has {} {} too many, from byte {} on", count, one, place),
         format!("has {} {} too many", count, one),
         format!("count: {}, at: {}, ", count, place),
+        error.key().map_or(String::new(), |k| format!("key: Some({})", k)),
     ] {
         text = text.replacen(&told, "", 1);
     }
@@ -183,6 +187,21 @@ fn rsa(sort: Sort, rng: &mut Rng) -> Twins {
     })
 }
 
+/// An Ed25519 key and one over P-256 in one image.
+fn several(sort: Sort, rng: &mut Rng) -> Twins {
+    let publics = [rng.bytes(32), [&[4], &rng.bytes(64)[..]].concat()];
+    let curve = Algorithm::Ecdsa { curve: EcdsaCurve::NistP256 };
+    [(); 2].map(|_| {
+        let (seed, scalar, checkint) = (sort.bytes(32, rng), sort.number(32, rng), sort.checkint(rng));
+        let first = PlainKey { algorithm: Algorithm::Ed25519, public: &publics[0], private: &seed, checkint };
+        let second = PlainKey { algorithm: curve, public: &publics[1], private: &scalar, checkint };
+        written(|out| {
+            let len = write_plain(&first, sort.comment, out)?;
+            LentImage::new(out, len)?.add(&second, "mixer")
+        })
+    })
+}
+
 /// What happens to an image, by places in it.
 #[derive(Clone, Copy, Debug)]
 enum Damage {
@@ -293,6 +312,22 @@ fn twins_of_rsa() {
     tally.end("twins of RSA", 350_000, 50);
 }
 
+/// The places at which the header's fields begin in an image of an Ed25519 key and one over P-256.
+const SEVERAL_FIELDS: [usize; 8] = [15, 23, 31, 35, 39, 43, 94, 98];
+
+#[test]
+fn twins_of_several() {
+    let (mut tally, mut rng) = (Tally::default(), Rng::new("twins of several"));
+    for sort in sorts().filter(|sort| sort.comment != "testtest oven") {
+        let twins = several(sort, &mut rng);
+        expect_twins(&twins);
+        compare_damaged(&mut tally, &twins, &anywhere(twins[0].len()));
+        compare_damaged(&mut tally, &twins, &from(SEVERAL_FIELDS.into_iter(), twins[0].len()));
+        compare_texts(&mut tally, &twins);
+    }
+    tally.end("twins of several", 200_000, 10);
+}
+
 /// So that this test would see what it looks for.
 #[test]
 fn what_would_be_seen() {
@@ -300,7 +335,7 @@ fn what_would_be_seen() {
     let shown_of = |damage: Damage| shown(Image::read(&damage.done(&image)).expect_err("a refusal"));
     assert!(shown_of(Damage::Changed(19, b'N')).contains("\"None\""));
     assert!(shown_of(Damage::Changed(27, 0xff)).contains("\"\\xffone\""));
-    assert_eq!(shown_of(Damage::Changed(38, 77)).split_whitespace().collect::<Vec<_>>(), ["77", "1", "77"]);
+    assert_eq!(shown_of(Damage::Changed(38, 77)).split_whitespace().collect::<Vec<_>>(), ["77", "77"]);
     let said = shown_of(Damage::Changed(61, 31));
     assert_eq!(said.split_whitespace().collect::<Vec<_>>(), ["31", "32", "31", "32"]);
     assert_eq!(shown_of(Damage::Changed(93, 0)), "");

@@ -5,14 +5,14 @@ use crate::support;
 use std::collections::BTreeSet;
 
 use saltorchard::armour::{export, import};
-use saltorchard::{
-    set_comment, write_encrypted, write_plain, write_rsa, Error, Field, Image, LentImage, MAX_IMAGE_LEN,
-};
+use saltorchard::{set_comment, write_encrypted, write_keys_in, write_plain, write_rsa, KeyPlaces};
 use saltorchard::{Algorithm, Checkint, Cipher, EcdsaCurve, EncryptedKey, KdfAlg, PlainKey, RsaKey};
+use saltorchard::{Error, Field, Image, LentImage, MAX_IMAGE_LEN};
 use support::damage::set_uint32;
 use support::faults::{fault_of, faults};
 use support::images::{self, blob_bytes, mpint, sealed, strings_bytes, Draft, Key};
 use support::model::armour::text_of;
+use support::rings::{image_of, Any, Commented, Ring};
 use support::Rng;
 
 /// A refusal, its number, and its sentence: what it is about, and what is wrong with that.
@@ -219,10 +219,21 @@ fn cases_of_the_header() -> Vec<Case> {
     let [cipher, kdf] = ["the cipher name's string at byte 15", "the KDF name's string at byte 23"];
     let [string, count] = ["the KDF options' string at byte 31", "the key count at byte 35"];
     let blob = "the blob's string at byte 39";
+    let taken = |count: &str| format!("is {}, and 1 to 16 keys in a file are taken", count);
+    let of = |number: u32, shown: &str| {
+        in_both(p256(), |draft| draft.count = number, 1, count, [&taken(shown), OTHER_COUNT])
+    };
+    let with_cipher = |number: u32, shown: &str| {
+        let [wrong, without] = [format!("is {}, {}", shown, ONE_KEY), format!("isn't 1, {}", ONE_KEY)];
+        in_both(gcm(), |draft| draft.count = number, 1, "the key count at byte 79", [&wrong, &without])
+    };
     let counts = [
-        in_both(p256(), |draft| draft.count = 0, 1, count, ["is 0, and only 1 key in a file is taken", OTHER_COUNT]),
-        in_both(p256(), |draft| draft.count = 2, 1, count, ["is 2, and only 1 key in a file is taken", OTHER_COUNT]),
-        in_both(p256(), |draft| draft.count = !0, 1, count, [MOST_KEYS, OTHER_COUNT]),
+        of(0, "0"),
+        of(17, "17"),
+        of(!0, "4,294,967,295"),
+        with_cipher(0, "0"),
+        with_cipher(2, "2"),
+        with_cipher(16, "16"),
         in_both(p256(), kdf_without_cipher, 3, kdf, ["names a KDF, and the cipher is none"; 2]),
     ];
     let mut cases = vec![
@@ -240,8 +251,8 @@ fn cases_of_the_header() -> Vec<Case> {
     cases
 }
 
-const OTHER_COUNT: &str = "isn't 1, and only 1 key in a file is taken";
-const MOST_KEYS: &str = "is 4,294,967,295, and only 1 key in a file is taken";
+const OTHER_COUNT: &str = "isn't 1 to 16, and no other number of keys in a file is taken";
+const ONE_KEY: &str = "and only 1 key in an encrypted file is taken";
 
 fn cases_of_options() -> Vec<Case> {
     let [string, salt, rounds] =
@@ -674,6 +685,135 @@ fn cases_of_armour() -> Vec<Case> {
     ]
 }
 
+/// So many keys, an Ed25519 key and one over P-256 in turn, of the same lengths with every seed.
+fn keys(count: usize) -> Vec<Commented> {
+    let mut rng = rng();
+    let key = |place: usize| Any::Curve(Key::new((place % 2) as u8, &mut rng).beginning(0x80));
+    (0..count).map(key).map(|key| Commented { key, comment: b"oven7".to_vec() }).collect()
+}
+
+/// The refusal of an edit of the image of so many keys.
+fn edit_refused(count: usize, edit: impl Fn(&mut LentImage) -> Result<usize, Error>) -> Error {
+    let mut image = image_of(&keys(count), 7);
+    let len = image.len();
+    let mut lent = LentImage::new(&mut image, len).expect("a good image");
+    edit(&mut lent).expect_err("a refusal")
+}
+
+fn cases_of_edits() -> Vec<Case> {
+    let of = |count, edit: &dyn Fn(&mut LentImage) -> Result<usize, Error>, number, about: &str, wrong: &str| {
+        case(edit_refused(count, edit), number, about, wrong)
+    };
+    let (algorithm, checkint) = (Algorithm::Ed25519, Checkint::Derived);
+    let key = PlainKey { algorithm, public: &[7; 32], private: &[1; 32], checkint };
+    let (short, as_rsa) = (PlainKey { private: &[1; 31], ..key }, PlainKey { algorithm: Algorithm::Rsa, ..key });
+    let numbers = rsa_key();
+    let [n, e, d, iqmp, p, _] = numbers.numbers();
+    let rsa = RsaKey { n, e, d, iqmp, p, q: &[], checkint };
+    let [private, comment] = ["the private key", "the comment"].map(handed_in);
+    let new_comment = "was to get a comment that isn't UTF-8";
+    let own = "is RSA, and add_rsa adds such a key";
+    vec![
+        of(3, &|lent| lent.set_comment_of(0, ""), 1, "the image", "has no key 0: it has 3 keys"),
+        of(1, &|lent| lent.set_comment_of(2, "\u{7f}"), 1, "the image", "has no key 2: it has 1 key"),
+        of(3, &|lent| lent.remove(4), 1, "the image", "has no key 4: it has 3 keys"),
+        of(1, &|lent| lent.remove(1_000), 1, "the image", "has no key 1,000: it has 1 key"),
+        of(1, &|lent| lent.remove(1), 1, "the image", "has one key, and the only key can't be removed"),
+        of(16, &|lent| lent.add(&key, ""), 1, "the image", "has 16 keys, and no more are taken"),
+        of(16, &|lent| lent.add(&short, b"\xff"), 1, "the image", "has 16 keys, and no more are taken"),
+        of(16, &|lent| lent.add_rsa(&rsa, b"\xff"), 1, "the image", "has 16 keys, and no more are taken"),
+        of(15, &|lent| lent.add(&short, b"\xff"), 1, &private, "has 31 bytes, and 32 are needed"),
+        of(2, &|lent| lent.add(&key, b"\xff"), 7, &comment, "isn't UTF-8"),
+        of(2, &|lent| lent.add(&as_rsa, b"\xff"), 4, &handed_in("the algorithm"), own),
+        of(2, &|lent| lent.add_rsa(&rsa, b"\xff"), 2, &handed_in("q"), "is empty"),
+        of(2, &|lent| lent.add(&key, ""), 9, NO_ROOM.0, NO_ROOM.1),
+        of(2, &|lent| lent.add(&key, [b'c'; MAX_IMAGE_LEN]), 11, "the image", WOULD_BE_LARGE),
+        of(1, &|lent| lent.set_comment_of(1, b"\xff"), 7, "the comment's string at byte 225", new_comment),
+        of(2, &|lent| lent.set_comment_of(1, b"\xff"), 7, "the comment's string of key 1 at byte 333", new_comment),
+        of(2, &|lent| lent.set_comment(b"\xff"), 7, "the comment's string of key 1 at byte 333", new_comment),
+        of(2, &|lent| lent.set_comment_of(2, b"\xff"), 7, "the comment's string of key 2 at byte 483", new_comment),
+    ]
+}
+
+/// What is wrong with one of several keys of an image.
+fn cases_of_several() -> Vec<Case> {
+    let wrong = |place: usize, change: fn(&mut Draft)| {
+        let mut ring = Ring::of(&keys(2), 7);
+        change(&mut ring.0[place]);
+        ring.pad();
+        refused(&ring.bytes())
+    };
+    let name = "the key name's string in the section of key 2 at byte 342";
+    vec![
+        case(
+            wrong(0, |draft| draft.blob_rest = vec![0]),
+            6,
+            "the blob's string of key 1",
+            "has 1 byte too many, from byte 94 on",
+        ),
+        case(
+            wrong(1, |draft| draft.blob[0] = b"ssh-dss".to_vec()),
+            4,
+            "the key name's string in the blob of key 2 at byte 98",
+            "is \"ssh-dss\", and no such kind of key is known here",
+        ),
+        case(wrong(1, |draft| draft.pair[2][64] ^= 1), 5, name, "begins another public key than the header's"),
+        case(
+            wrong(1, |draft| draft.comment = vec![0xff]),
+            7,
+            "the comment's string of key 2 at byte 483",
+            "isn't UTF-8",
+        ),
+    ]
+}
+
+/// A list of keys handed in, as a text with places.
+#[allow(clippy::reversed_empty_ranges)]
+fn cases_of_places() -> Vec<Case> {
+    let text = [4; 65];
+    let p256 = Algorithm::Ecdsa { curve: EcdsaCurve::NistP256 };
+    let good = KeyPlaces::plain(p256, 0..65, 0..32, 0..0);
+    let of = |keys: &[KeyPlaces]| write_keys_in(&text, keys, Checkint::Derived, &mut []).expect_err("a refusal");
+    let rsa = |which: usize| {
+        let mut numbers = [0; 6].map(|_| 0..1);
+        numbers[which] = 0..66;
+        KeyPlaces::rsa(numbers, 0..0)
+    };
+    let outside = "isn't within the text";
+    let list = handed_in("the list of keys");
+    let mut cases = vec![
+        case(of(&[]), 1, &list, "has 0 keys, and 1 to 16 are taken"),
+        case(of(&[good; 17]), 1, &list, "has 17 keys, and 1 to 16 are taken"),
+        case(of(&[rsa(0); 1_000]), 1, &list, "has 1,000 keys, and 1 to 16 are taken"),
+        case(of(&[KeyPlaces::plain(p256, 0..66, 0..32, 0..0)]), 1, &handed_in("the public key"), outside),
+        case(
+            of(&[good, KeyPlaces::plain(p256, 0..65, 9..0, 0..0)]),
+            1,
+            &handed_in("the private key of key 2"),
+            outside,
+        ),
+        case(of(&[KeyPlaces::plain(p256, 0..65, 0..32, 66..66), good]), 1, &handed_in("the comment of key 1"), outside),
+        case(
+            of(&[good, KeyPlaces::plain(Algorithm::Rsa, 0..0, 0..0, 0..0)]),
+            4,
+            &handed_in("the algorithm of key 2"),
+            "is RSA, and such a key is made by `rsa`, of its six numbers",
+        ),
+        case(of(&[good, KeyPlaces::plain(p256, 0..65, 0..31, 0..0), rsa(0)]), 1, &handed_in("n of key 3"), outside),
+        case(
+            of(&[good, good, KeyPlaces::plain(p256, 0..65, 0..31, 0..0)]),
+            1,
+            &handed_in("the private key of key 3"),
+            "has 31 bytes, and 32 are needed",
+        ),
+        case(of(&[good; 16]), 9, NO_ROOM.0, NO_ROOM.1),
+    ];
+    for (which, name) in ["n", "e", "d", "iqmp", "p", "q"].into_iter().enumerate() {
+        cases.push(case(of(&[rsa(which)]), 1, &handed_in(name), outside));
+    }
+    cases
+}
+
 fn cases() -> Vec<Case> {
     let of_the_image = [cases_of_the_image(), cases_of_lengths(), cases_of_beginnings(), cases_of_the_form()].concat();
     let of_the_header = [cases_of_the_header(), cases_of_options(), cases_of_names(), cases_of_blobs()].concat();
@@ -681,7 +821,8 @@ fn cases() -> Vec<Case> {
     let of_numbers = [cases_of_scalars(), cases_of_rsa_numbers()].concat();
     let of_writers = [cases_of_plain_keys(), cases_of_rsa_keys(), cases_of_encrypted_keys()].concat();
     let of_texts = [cases_of_parsing(), cases_of_armour()].concat();
-    [of_the_image, of_the_header, of_the_section, of_numbers, of_writers, of_texts].concat()
+    let of_several = [cases_of_several(), cases_of_edits(), cases_of_places()].concat();
+    [of_the_image, of_the_header, of_the_section, of_numbers, of_writers, of_texts, of_several].concat()
 }
 
 #[test]

@@ -6,6 +6,10 @@ use Rattle.c_numbers.proofs.half_image.Reads as half-image
 use Rattle.c_numbers.proofs.half_image.Kinds as half-image-kinds
 use Rattle.c_numbers.proofs.header_of.Reads as header-of
 use Rattle.c_numbers.proofs.header_of.Kinds as header-of-kinds
+use Rattle.c_numbers.proofs.refused_key.Reads as refused-key
+use Rattle.c_numbers.proofs.refused_key.Kinds as refused-key-kinds
+use Rattle.c_numbers.proofs.looked_key.Reads as looked-key
+use Rattle.c_numbers.proofs.looked_key.Kinds as looked-key-kinds
 use Rattle.c_numbers.proofs.reply_of.Reads as reply-of
 use Rattle.c_numbers.proofs.reply_of.Kinds as reply-of-kinds
 
@@ -17,6 +21,12 @@ half-image-determined κs a r₁ r₂ s₁ s₂ p q = cc
 
 pub header-of-determined : Determined 0 header-of-kinds.ps header-of-kinds.r header-of.Post
 header-of-determined κs a r₁ r₂ s₁ s₂ p q = cc
+
+pub refused-key-determined : Determined 0 refused-key-kinds.ps refused-key-kinds.r refused-key.Post
+refused-key-determined κs a r₁ r₂ s₁ s₂ p q = cc
+
+pub looked-key-determined : Determined 0 looked-key-kinds.ps looked-key-kinds.r looked-key.Post
+looked-key-determined κs a r₁ r₂ s₁ s₂ p q = cc
 
 pub reply-of-determined : Determined 0 reply-of-kinds.ps reply-of-kinds.r reply-of.Post
 reply-of-determined κs a r₁ r₂ s₁ s₂ p q = cc

@@ -1,14 +1,16 @@
 -- docs/RULES.md, 15.1: what a read found and what a writer answered, in plain numbers. An accepted image is 0 0 0, its kind (1 plain, 2 encrypted), the codes,
 -- the numbers and the places of its fields; of a refused one all after the place is 0. An accepted header is of kind 3, and all that a
--- header doesn't have is 0, the form too. A writer replies the refusal, or 0 0 0 and the length.
+-- header doesn't have is 0, the form too. A key that the image doesn't have is 1, count 0, at 0, and all after it 0. A writer replies the refusal, or 0 0 0 and the length.
 use Prim.Native.Nat.{ℕ}
 use mathlib.Core.Bool.{Bool, true, false}
-use Rattle.fields.specs.Fields.{absent}
+use Rattle.fields.specs.Fields.{fault, absent}
 use Rattle.fields.specs.Refusals.{numberOf, countOf}
 use Rattle.fields.specs.declared.Fault.{Fault}
 use Rattle.fields.specs.declared.Part.{Part}
+use Rattle.fields.specs.declared.Refusal.the-variants.{Length}
 use Rattle.names.specs.Algorithms.{algorithmCode}
 use Rattle.names_codes.specs.Codes.{cipherCode, kdfCode}
+use Rattle.reader_entries.specs.declared.KeyFields.{KeyFields}
 use Rattle.reader_header.specs.declared.Header.{Header}
 use Rattle.reader_header.specs.declared.HeaderRead.{HeaderRead}
 use Rattle.reader_header.specs.Header.{onHeaderRead}
@@ -16,10 +18,13 @@ use Rattle.handed_record.specs.Judge.{kindCode}
 use Rattle.reader_image.specs.declared.Fields.{Fields}
 use Rattle.reader_image.specs.declared.FormRead.{FormRead}
 use Rattle.reader_image.specs.Form.{onForm}
+use Rattle.reader_keys.specs.declared.Looked.{Looked}
+use Rattle.reader_keys.specs.Keys.{onLooked}
 use Rattle.writer_reply.specs.declared.Written.{Written}
 use Rattle.writer_reply.specs.Reply.{told}
 use Rattle.c_numbers.specs.declared.Place.{Place}
 use Rattle.c_numbers.specs.declared.Image.{Image}
+use Rattle.c_numbers.specs.declared.Key.{Key}
 use Rattle.c_numbers.specs.declared.Reply.{Reply}
 
 -- ---- an image
@@ -134,6 +139,51 @@ halfImage h =
 
 unfoldable pub headerOf : HeaderRead → Image
 headerOf read = onHeaderRead read refusedImage halfImage
+
+-- ---- one key of an image
+
+abbrev pub refusedKey : Fault → Key
+refusedKey f =
+    record {
+      number = numberOf (f .why);
+      count = countOf (f .why);
+      at = f .at;
+      algorithm = 0;
+      bits = 0;
+      blob = placeOf absent;
+      point = placeOf absent;
+      scalar = placeOf absent;
+      comment = placeOf absent;
+      modulus = placeOf absent;
+      exponent = placeOf absent;
+      d = placeOf absent;
+      iqmp = placeOf absent;
+      p = placeOf absent;
+      q = placeOf absent;
+    }
+
+abbrev pub acceptedKey : KeyFields → Key
+acceptedKey f =
+    record {
+      number = 0;
+      count = 0;
+      at = 0;
+      algorithm = algorithmCode (f .algorithm);
+      bits = f .public .bits;
+      blob = placeOf (f .blob);
+      point = placeOf (f .public .point);
+      scalar = placeOf (f .private .scalar);
+      comment = placeOf (f .comment);
+      modulus = placeOf (f .public .modulus);
+      exponent = placeOf (f .public .exponent);
+      d = placeOf (f .private .d);
+      iqmp = placeOf (f .private .iqmp);
+      p = placeOf (f .private .p);
+      q = placeOf (f .private .q);
+    }
+
+unfoldable pub lookedKey : Looked → Key
+lookedKey found = onLooked found (refusedKey (fault Length 0)) acceptedKey
 
 -- ---- a writer's reply
 

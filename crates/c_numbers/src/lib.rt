@@ -1,17 +1,20 @@
-// What a read found, or the header read alone, and what a writer answered, in plain numbers: the structs of
-// the functions for C.
+// What a read found, the header read alone, or of one key, and what a writer answered, in plain numbers: the
+// structs of the functions for C.
 ghost use mathlib.Core.Path.{_≡_};
 ghost use Rattle.fields.specs.Fields.{absent};
-ghost use Rattle.c_numbers.specs.Numbers.{placeOf, formCode, refusedImage, acceptedImage, imageOf, halfImage, headerOf, replyOf};
+ghost use Rattle.c_numbers.specs.Numbers.{placeOf, formCode, refusedImage, acceptedImage, imageOf, halfImage, headerOf, refusedKey, acceptedKey, lookedKey, replyOf};
 use fields::Fault;
 use fields::Part;
+use fields::Refusal;
 use handed_record::kind_code;
 use names_codes::cipher_code;
 use names_codes::kdf_code;
+use reader_entries::KeyFields;
 use reader_header::Header;
 use reader_header::HeaderRead;
 use reader_image::Fields;
 use reader_image::FormRead;
+use reader_keys::Looked;
 use writer_reply::Written;
 
 // Where a field stands; 0 and 0 where the image has none.
@@ -50,6 +53,26 @@ pub struct Image {
     pub p: Place,
     pub q: Place,
     pub keys: u64,
+}
+
+// One key of an image.
+#[repr(C)]
+pub struct Key {
+    pub number: u64,
+    pub count: u64,
+    pub at: u64,
+    pub algorithm: u64,
+    pub bits: u64,
+    pub blob: Place,
+    pub point: Place,
+    pub scalar: Place,
+    pub comment: Place,
+    pub modulus: Place,
+    pub exponent: Place,
+    pub d: Place,
+    pub iqmp: Place,
+    pub p: Place,
+    pub q: Place,
 }
 
 #[repr(C)]
@@ -222,6 +245,69 @@ pub fn header_of(read: HeaderRead) -> Image
     match read {
         HeaderRead::Refused(f) => refused_image(f),
         HeaderRead::Header(h) => half_image(h),
+    }
+}
+
+// Of a refused image no key is told.
+pub fn refused_key(f: Fault) -> Key
+    ensures { λ r. ⌜ r ≡ refusedKey f ⌝ }
+{
+    let why = f.why;
+    let zero = nowhere();
+    Key {
+        number: why.number() as u64,
+        count: why.count() as u64,
+        at: f.at as u64,
+        algorithm: 0,
+        bits: 0,
+        blob: zero,
+        point: zero,
+        scalar: zero,
+        comment: zero,
+        modulus: zero,
+        exponent: zero,
+        d: zero,
+        iqmp: zero,
+        p: zero,
+        q: zero,
+    }
+}
+
+fn accepted_key(f: KeyFields) -> Key
+    ensures { λ r. ⌜ r ≡ acceptedKey f ⌝ }
+{
+    let public = f.public;
+    let pair = f.private;
+    let algorithm = f.algorithm;
+    Key {
+        number: 0,
+        count: 0,
+        at: 0,
+        algorithm: algorithm.code() as u64,
+        bits: public.bits as u64,
+        blob: place_of(f.blob),
+        point: place_of(public.point),
+        scalar: place_of(pair.scalar),
+        comment: place_of(f.comment),
+        modulus: place_of(public.modulus),
+        exponent: place_of(public.exponent),
+        d: place_of(pair.d),
+        iqmp: place_of(pair.iqmp),
+        p: place_of(pair.p),
+        q: place_of(pair.q),
+    }
+}
+
+// What was found of a key by its number.
+pub fn looked_key(found: Looked) -> Key
+    ensures { λ r. ⌜ r ≡ lookedKey found ⌝ }
+{
+    match found {
+        Looked::Nothing => refused_key(Fault {
+            why: Refusal::Length,
+            at: 0,
+        }),
+        Looked::Key(f) => accepted_key(f),
     }
 }
 

@@ -21,8 +21,7 @@ use Rattle.armour_text.specs.Text.{text, exportReply, exportLeft}
 use Rattle.armour_text.specs.Import.{strip, carried, carries, importReply, importLeft}
 use Rattle.armour_text.specs.Ends.{CrLf, noReturn, crlf-same, crlf-strip, text-no-return}
 use Rattle.armour_text.specs.Exactly.{takes, takes-only, import-export}
-use Rattle.claims.specs.Reading.{held, sized-held}
-use Rattle.claims.specs.Form.{sized-fits}
+use Rattle.claims.specs.Reading.{held, sized-held, sized-fits}
 use Rattle.c_numbers.specs.Numbers.{replyOf}
 use Rattle.c_numbers.specs.declared.Reply.{Reply}
 use Rattle.claims.specs.Refusals.{export, import, Promise, saltorchard-export, saltorchard-import, PromiseC}

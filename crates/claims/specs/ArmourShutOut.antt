@@ -20,7 +20,7 @@ use Rattle.armour_text.specs.Base64.{pad, bitsOfBytes, signsOfBits, encode}
 use Rattle.armour_text.specs.Text.{opening, closing, wrap, text}
 use Rattle.armour_text.specs.Inverse.{append-bytes}
 use Rattle.armour_text.specs.Ends.{CrLf, none, same, crlf}
-use Rattle.comment_change.specs.Afresh.{all-take}
+use Rattle.edit_file.specs.Afresh.{all-take}
 use Rattle.claims.specs.Refusals.{Entry, export, import, Promise}
 use Rattle.claims.specs.ShutOut.{below, all-below}
 use Rattle.claims.specs.Armour.{Spells, Holds, exported, imported, itself, no-text}

@@ -46,9 +46,39 @@ use Rattle.saltorchard.proofs.saltorchard_export.Reads as saltorchard-export-re
 use Rattle.saltorchard.proofs.saltorchard_export.Kinds as saltorchard-export-kinds
 use Rattle.saltorchard.proofs.saltorchard_import.Reads as saltorchard-import-reads
 use Rattle.saltorchard.proofs.saltorchard_import.Kinds as saltorchard-import-kinds
+use Rattle.writer_listed.proofs.write_listed.Reads as write-listed-reads
+use Rattle.writer_listed.proofs.write_listed.Kinds as write-listed-kinds
+use Rattle.writer_keys.proofs.write_keys.Reads as write-keys-reads
+use Rattle.writer_keys.proofs.write_keys.Kinds as write-keys-kinds
+use Rattle.writer_keys.proofs.write_filled.Reads as write-named-reads
+use Rattle.writer_keys.proofs.write_filled.Kinds as write-named-kinds
+use Rattle.comment_change.proofs.change_comment_of.Reads as change-comment-of-reads
+use Rattle.comment_change.proofs.change_comment_of.Kinds as change-comment-of-kinds
+use Rattle.key_remove.proofs.remove_key.Reads as remove-key-reads
+use Rattle.key_remove.proofs.remove_key.Kinds as remove-key-kinds
+use Rattle.key_add.proofs.add_key.Reads as add-key-reads
+use Rattle.key_add.proofs.add_key.Kinds as add-key-kinds
+use Rattle.key_add.proofs.add_rsa.Reads as add-rsa-reads
+use Rattle.key_add.proofs.add_rsa.Kinds as add-rsa-kinds
+use Rattle.edit_change.proofs.change.Reads as change-places-reads
+use Rattle.edit_change.proofs.change.Kinds as change-places-kinds
+use Rattle.edit_remove.proofs.remove.Reads as remove-places-reads
+use Rattle.edit_remove.proofs.remove.Kinds as remove-places-kinds
+use Rattle.edit_add.proofs.open.Reads as open-places-reads
+use Rattle.edit_add.proofs.open.Kinds as open-places-kinds
+use Rattle.saltorchard.proofs.saltorchard_write_keys.Reads as saltorchard-write-keys-reads
+use Rattle.saltorchard.proofs.saltorchard_write_keys.Kinds as saltorchard-write-keys-kinds
+use Rattle.saltorchard.proofs.saltorchard_change_comment_of.Reads as saltorchard-change-comment-of-reads
+use Rattle.saltorchard.proofs.saltorchard_change_comment_of.Kinds as saltorchard-change-comment-of-kinds
+use Rattle.saltorchard.proofs.saltorchard_add_key.Reads as saltorchard-add-key-reads
+use Rattle.saltorchard.proofs.saltorchard_add_key.Kinds as saltorchard-add-key-kinds
+use Rattle.saltorchard.proofs.saltorchard_add_rsa.Reads as saltorchard-add-rsa-reads
+use Rattle.saltorchard.proofs.saltorchard_add_rsa.Kinds as saltorchard-add-rsa-kinds
+use Rattle.saltorchard.proofs.saltorchard_remove_key.Reads as saltorchard-remove-key-reads
+use Rattle.saltorchard.proofs.saltorchard_remove_key.Kinds as saltorchard-remove-key-kinds
 use Rattle.reader_image.specs.declared.Fields.{Fields}
 use Rattle.claims.specs.Demand.{Asked, Demanded, demand-three}
-use Rattle.claims.specs.Refusals.{write-parts, write-filled, write-numbers, write-rsa, write-plain, write-encrypted, rewrite, rewrite-record, change-comment, write-report, export, import, Promise, saltorchard-write-plain, saltorchard-write-rsa, saltorchard-write-encrypted, saltorchard-rewrite, saltorchard-change-comment, saltorchard-export, saltorchard-import, PromiseC}
+use Rattle.claims.specs.Refusals.{write-parts, write-filled, write-numbers, write-rsa, write-plain, write-encrypted, rewrite, rewrite-record, change-comment, write-report, export, import, Promise, saltorchard-write-plain, saltorchard-write-rsa, saltorchard-write-encrypted, saltorchard-rewrite, saltorchard-change-comment, saltorchard-export, saltorchard-import, PromiseC, write-listed, write-keys, write-named, change-comment-of, remove-key, add-key, add-rsa, change-places, remove-places, open-places, saltorchard-write-keys, saltorchard-change-comment-of, saltorchard-add-key, saltorchard-add-rsa, saltorchard-remove-key}
 
 -- what meets the contract keeps the line: a are the arguments, in their order, r the answer, s what the lent places hold at the end
 abbrev pub Listed : (n : ℕ) (ps : List (PK n)) (r : RK n) → Out n ps r → Out n ps r → Type 0
@@ -185,10 +215,131 @@ pub saltorchard-import-listed :
     (λ κs a r s. PromiseC (saltorchard-import (now (a .0))) (now (a .1 .0)) r (now (s .1 .0)))
 saltorchard-import-listed κs a r s p = p
 
+-- writer_listed::write_listed
+pub write-listed-listed :
+    Listed 2 write-listed-kinds.ps write-listed-kinds.r write-listed-reads.Post
+    (λ κs a r s.
+    Promise (write-listed (now (a .0)) (a .1 .0))
+    (now (a .1 .1 .0)) r (now (s .1 .1 .0)))
+write-listed-listed κs a r s p = p
+
+-- writer_keys::write_keys
+pub write-keys-listed :
+    Listed 3 write-keys-kinds.ps write-keys-kinds.r write-keys-reads.Post
+    (λ κs a r s.
+    Promise (write-keys (now (a .0)) (now (a .1 .0)) (a .1 .1 .0))
+    (now (a .1 .1 .1 .0)) r (now (s .1 .1 .1 .0)))
+write-keys-listed κs a r s p = p
+
+-- writer_keys::write_filled
+pub write-named-listed :
+    Listed 3 write-named-kinds.ps write-named-kinds.r write-named-reads.Post
+    (λ κs a r s.
+    Promise (write-named (now (a .0)) (now (a .1 .0)) (a .1 .1 .0))
+    (now (a .1 .1 .1 .0)) r (now (s .1 .1 .1 .0)))
+write-named-listed κs a r s p = p
+
+-- comment_change::change_comment_of
+pub change-comment-of-listed :
+    Listed 2 change-comment-of-kinds.ps change-comment-of-kinds.r change-comment-of-reads.Post
+    (λ κs a r s.
+    Promise (change-comment-of (a .1 .0) (a .1 .1 .0) (now (a .1 .1 .1 .0)))
+    (now (a .0)) r (now (s .0)))
+change-comment-of-listed κs a r s p = p
+
+-- key_remove::remove_key
+pub remove-key-listed :
+    Listed 1 remove-key-kinds.ps remove-key-kinds.r remove-key-reads.Post
+    (λ κs a r s.
+    Promise (remove-key (a .1 .0) (a .1 .1 .0))
+    (now (a .0)) r (now (s .0)))
+remove-key-listed κs a r s p = p
+
+-- key_add::add_key
+pub add-key-listed :
+    Listed 4 add-key-kinds.ps add-key-kinds.r add-key-reads.Post
+    (λ κs a r s.
+    Promise (add-key (a .1 .0) (a .1 .1 .0) (now (a .1 .1 .1 .0)) (now (a .1 .1 .1 .1 .0)) (now (a .1 .1 .1 .1 .1 .0)))
+    (now (a .0)) r (now (s .0)))
+add-key-listed κs a r s p = p
+
+-- key_add::add_rsa
+pub add-rsa-listed :
+    Listed 8 add-rsa-kinds.ps add-rsa-kinds.r add-rsa-reads.Post
+    (λ κs a r s.
+    Promise (add-rsa (a .1 .0) (now (a .1 .1 .0)) (now (a .1 .1 .1 .0)) (now (a .1 .1 .1 .1 .0)) (now (a .1 .1 .1 .1 .1 .0)) (now (a .1 .1 .1 .1 .1 .1 .0)) (now (a .1 .1 .1 .1 .1 .1 .1 .0)) (now (a .1 .1 .1 .1 .1 .1 .1 .1 .0)))
+    (now (a .0)) r (now (s .0)))
+add-rsa-listed κs a r s p = p
+
+-- edit_change::change
+pub change-places-listed :
+    Listed 2 change-places-kinds.ps change-places-kinds.r change-places-reads.Post
+    (λ κs a r s.
+    Promise (change-places (a .1 .0) (a .1 .1 .0) (a .1 .1 .1 .0) (a .1 .1 .1 .1 .0) (a .1 .1 .1 .1 .1 .0) (now (a .1 .1 .1 .1 .1 .1 .0)))
+    (now (a .0)) r (now (s .0)))
+change-places-listed κs a r s p = p
+
+-- edit_remove::remove
+pub remove-places-listed :
+    Listed 1 remove-places-kinds.ps remove-places-kinds.r remove-places-reads.Post
+    (λ κs a r s.
+    Promise (remove-places (a .1 .0) (a .1 .1 .0) (a .1 .1 .1 .0) (a .1 .1 .1 .1 .0) (a .1 .1 .1 .1 .1 .0) (a .1 .1 .1 .1 .1 .1 .0) (a .1 .1 .1 .1 .1 .1 .1 .0) (a .1 .1 .1 .1 .1 .1 .1 .1 .0))
+    (now (a .0)) r (now (s .0)))
+remove-places-listed κs a r s p = p
+
+-- edit_add::open
+pub open-places-listed :
+    Listed 1 open-places-kinds.ps open-places-kinds.r open-places-reads.Post
+    (λ κs a r s.
+    Promise (open-places (a .1 .0) (a .1 .1 .0) (a .1 .1 .1 .0) (a .1 .1 .1 .1 .0) (a .1 .1 .1 .1 .1 .0) (a .1 .1 .1 .1 .1 .1 .0))
+    (now (a .0)) r (now (s .0)))
+open-places-listed κs a r s p = p
+
+-- saltorchard::saltorchard_write_keys
+pub saltorchard-write-keys-listed :
+    Listed 3 saltorchard-write-keys-kinds.ps saltorchard-write-keys-kinds.r saltorchard-write-keys-reads.Post
+    (λ κs a r s.
+    PromiseC (saltorchard-write-keys (now (a .0)) (now (a .1 .0)) (a .1 .1 .0) (a .1 .1 .1 .0))
+    (now (a .1 .1 .1 .1 .0)) r (now (s .1 .1 .1 .1 .0)))
+saltorchard-write-keys-listed κs a r s p = p
+
+-- saltorchard::saltorchard_change_comment_of
+pub saltorchard-change-comment-of-listed :
+    Listed 2 saltorchard-change-comment-of-kinds.ps saltorchard-change-comment-of-kinds.r saltorchard-change-comment-of-reads.Post
+    (λ κs a r s.
+    PromiseC (saltorchard-change-comment-of (a .1 .0) (a .1 .1 .0) (now (a .1 .1 .1 .0)))
+    (now (a .0)) r (now (s .0)))
+saltorchard-change-comment-of-listed κs a r s p = p
+
+-- saltorchard::saltorchard_add_key
+pub saltorchard-add-key-listed :
+    Listed 4 saltorchard-add-key-kinds.ps saltorchard-add-key-kinds.r saltorchard-add-key-reads.Post
+    (λ κs a r s.
+    PromiseC (saltorchard-add-key (a .1 .0) (a .1 .1 .0) (now (a .1 .1 .1 .0)) (now (a .1 .1 .1 .1 .0)) (now (a .1 .1 .1 .1 .1 .0)))
+    (now (a .0)) r (now (s .0)))
+saltorchard-add-key-listed κs a r s p = p
+
+-- saltorchard::saltorchard_add_rsa
+pub saltorchard-add-rsa-listed :
+    Listed 8 saltorchard-add-rsa-kinds.ps saltorchard-add-rsa-kinds.r saltorchard-add-rsa-reads.Post
+    (λ κs a r s.
+    PromiseC (saltorchard-add-rsa (a .1 .0) (now (a .1 .1 .0)) (now (a .1 .1 .1 .0)) (now (a .1 .1 .1 .1 .0)) (now (a .1 .1 .1 .1 .1 .0)) (now (a .1 .1 .1 .1 .1 .1 .0)) (now (a .1 .1 .1 .1 .1 .1 .1 .0)) (now (a .1 .1 .1 .1 .1 .1 .1 .1 .0)))
+    (now (a .0)) r (now (s .0)))
+saltorchard-add-rsa-listed κs a r s p = p
+
+-- saltorchard::saltorchard_remove_key
+pub saltorchard-remove-key-listed :
+    Listed 1 saltorchard-remove-key-kinds.ps saltorchard-remove-key-kinds.r saltorchard-remove-key-reads.Post
+    (λ κs a r s.
+    PromiseC (saltorchard-remove-key (a .1 .0) (a .1 .1 .0))
+    (now (a .0)) r (now (s .0)))
+saltorchard-remove-key-listed κs a r s p = p
+
 -- demand 3 of whatever meets the comment change's own contract
 pub change-comment-demanded :
     (f : Fields)
-    → Listed 2 change-comment-kinds.ps change-comment-kinds.r change-comment-reads.Post
+    → Listed 2 change-comment-of-kinds.ps change-comment-of-kinds.r change-comment-of-reads.Post
     (λ κs a r s.
-    Asked (now (a .0)) (a .1 .0) f (now (a .1 .1 .0)) → Demanded (now (a .0)) (a .1 .0) f (now (a .1 .1 .0)) r (now (s .0)))
-change-comment-demanded f κs a r s p asked = demand-three (now (a .0)) (a .1 .0) f (now (a .1 .1 .0)) asked r (now (s .0)) p
+    Asked (now (a .0)) (a .1 .0) f (a .1 .1 .0) (now (a .1 .1 .1 .0))
+    → Demanded (now (a .0)) (a .1 .0) f (a .1 .1 .0) (now (a .1 .1 .1 .0)) r (now (s .0)))
+change-comment-demanded f κs a r s p asked = demand-three (now (a .0)) (a .1 .0) f (a .1 .1 .0) (now (a .1 .1 .1 .0)) asked r (now (s .0)) p

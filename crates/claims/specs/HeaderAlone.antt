@@ -76,7 +76,7 @@ header-alone s t all every h read small agree =
     let split : t ≡ bytes s all h ++ drop (h .section) t =
     sym (take-append-drop (h .section) t) ∙ ap (λ (u : List ℕ). u ++ drop (h .section) t) (sym agree ∙ first s all h read) in
     let key = keyOf (h .algorithm) (publicBytes s (h .public)) (ofScalar []) [] in
-    let some = keys-some (h .count) (x .allowed) in
+    let some = keys-some (h .cipher) (h .count) (x .allowed) in
     let count : h .count ≡ suc (length (x .others)) = omega (arith, some, x .counted) in
     let blobs : t ≡ header (h .cipher) (h .kdf) (viewOf s (h .salt)) (h .rounds) (map keyBlob (key ∷ x .others)) ++ drop (h .section) t =
     split

@@ -1,5 +1,5 @@
 -- What docs/RULES.md, 16, asks for. Demand 1: Refusals, Entries, Ordered. Demand 2: Reading, Sealed, Form, Rewritten. Demand 3: Demand, from
--- Change and Front; Sequence. The two halves of a read: Halves, HeaderAlone. Scalars of any length: Scalars, NoScalars. Records handed in:
+-- Change; Sequence. The two halves of a read: Halves, HeaderAlone. Scalars of any length: Scalars, NoScalars. Records handed in:
 -- Handed. What is printed: Printed. Where a refusal is: Places, PlacesWritten. Armoured files: Armour. The marked examples: Marked. Wrong
 -- programs: ShutOut, ArmourShutOut. The others hold what these rest on.
 pub mod Reading
@@ -8,13 +8,8 @@ pub mod Form
 pub mod Rewritten
 pub mod Scalars
 pub mod NoScalars
-pub mod Laid
 pub mod Change
-pub mod Front
 pub mod Demand
-pub mod Bytes
-pub mod Again
-pub mod Kept
 pub mod Sequence
 pub mod Handed
 pub mod Halves

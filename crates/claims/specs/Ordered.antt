@@ -1,13 +1,14 @@
--- docs/RULES.md, 10.5 to 10.7, 12.1, 14.2 and 14.3: the conditions of the writers, of the comment change, of export and of import, as lists in
--- the rules' order, each with its number. The reply is the first that holds, for every input; where none does it is 0 0 0 and the length.
-use Prim.Native.Nat.{ℕ, _%_}
+-- docs/RULES.md, 10.5 to 10.7, 12.1, 14.2 and 14.3: the conditions of the writers, of the edits, of export and of import, as lists in the rules'
+-- order, each with its number. The reply is the first that holds, for every input; where none does it is 0 0 0 and the length.
+use Prim.Native.Nat.{ℕ, _%_, _≤_, _<_}
+use native.Mathlib.Omega.{arith}
 use mathlib.Core.Path.{_≡_, refl, sym, _∙_, ap}
 use mathlib.Core.Bool.{Bool, true, false, cond, not, _&&_, _||_}
 use mathlib.Core.List.{List, [], _∷_}
-use borrow.Author.Tests.{leb-true, leb-false, lt-ltb, le-ltb}
+use borrow.Author.Tests.{leb-true, leb-false, ltb-true, ltb-false, lt-ltb, le-ltb}
 use lib.Dec.{eqb, leb, ltb}
 use lib.ListN.{length, take}
-use Rattle.fields.specs.Bytes.{AllBytes}
+use Rattle.fields.specs.Bytes.{AllBytes, both-true}
 use Rattle.fields.specs.Fields.{fault, whole}
 use Rattle.fields.specs.Place.{by-bool}
 use Rattle.fields.specs.Refusals.{numberOf, countOf}
@@ -21,27 +22,29 @@ use Rattle.names.specs.declared.Cipher.{Cipher}
 use Rattle.names.specs.declared.Kdf.{Kdf}
 use Rattle.names.specs.declared.Kdf.the-variants as kdf
 use Rattle.utf8.specs.Utf8.{utf8}
-use Rattle.format.specs.Format.{PublicBytes, PrivateBytes, publicLength, privateLength, pointTag, notZero, writtenImage, encryptedImage, alone, keyOf}
+use Rattle.format.specs.Format.{PublicBytes, PrivateBytes, Key, publicLength, privateLength, pointTag, notZero, writtenImage, encryptedImage, alone, keyOf}
 use Rattle.key_public.specs.Keys.{onBlob, blobAt}
 use Rattle.key_public.specs.declared.Blob.{Blob}
 use Rattle.key_public.specs.declared.Blob.the-variants as blob
 use Rattle.reader_section.specs.declared.Kind.{Kind}
-use Rattle.reader_section.specs.declared.Kind.the-variants.{Plain}
+use Rattle.reader_section.specs.declared.Kind.the-variants.{Plain, Encrypted as Sealed}
 use Rattle.reader_image.specs.declared.Fields.{Fields}
-use Rattle.reader_image.specs.Container.{onRead, readAt}
+use Rattle.reader_image.specs.Container.{keysIn, onRead, readAt}
 use Rattle.reader_image.specs.Form.{onKind, formOf}
-use Rattle.reader_image.specs.Read.{PlainText}
-use Rattle.reader_image.specs.FormLaws.{by-read, plain-of}
+use Rattle.reader_image.specs.FormLaws.{by-read}
 use Rattle.writer_reply.specs.declared.Written.{Written}
 use Rattle.writer_reply.specs.declared.Written.the-variants as written
 use Rattle.writer_reply.specs.Reply.{Told, told, refused, unless, sized}
-use Rattle.writer_plain.specs.Plain.{allMpints, sizesFit, keyChecked, plainReply}
+use Rattle.writer_plain.specs.Plain.{allMpints, sizesFit, keyChecked, keysChecked, keysReply, plainReply}
 use Rattle.writer_encrypted.specs.Encrypted.{optionsFit, encryptedReply}
-use Rattle.comment_change.specs.Change.{afresh, afreshReply, commentField, acceptedReply, changeReply}
-use Rattle.comment_change.specs.Afresh.{afresh-sized}
+use Rattle.edit_shells.specs.Keys.{changeKey, removeKey, addKey}
+use Rattle.edit_file.specs.declared.Editable.the-variants as editable
+use Rattle.edit_file.specs.Edits.{onEditable, refusedWhole, recordEditable, editableAt, fileKeys, hasKey, commentField, afreshReply, changeReply, removeReply, addReply}
+use Rattle.edit_file.specs.Afresh.{change-sized, remove-sized, remove-only}
+use Rattle.key_add.specs.Add.{added-filled, too-many, add-reply}
+use Rattle.claims.specs.Change.{may-edit}
 use Rattle.armour_text.specs.Text.{text, exportReply}
 use Rattle.armour_text.specs.Import.{carried, carries, importReply}
-use Rattle.claims.specs.Refusals.{by-kind}
 
 -- a condition: whether it holds, and the reply that it gives
 pub record Condition : Type 0 where
@@ -103,23 +106,65 @@ encryptedConditions cipher k salt rounds key ciphertext tag room =
 abbrev pub readCondition : Fault → Condition
 readCondition g = record { holds = true; number = numberOf (g .why); count = countOf (g .why); at = g .at }
 
--- of an accepted image: encrypted: 8; not the writer's form: 10; comment 7, at the old comment's field; size 11; room 9
-abbrev pub acceptedConditions : List ℕ → Fields → List ℕ → ℕ → List Condition
-acceptedConditions s f comment room =
-    says (onKind (f .section .kind) false true) 8
-    ∷ says (not (formOf s f)) 10
-    ∷ record { holds = not (utf8 comment); number = 7; count = 0; at = commentField f }
-    ∷ sizes (afresh s f comment) room
+-- each key's in key order, its comment's 7 after its own
+abbrev pub listedConditions : List Key → List Condition → List Condition
+listedConditions [] more = more
+listedConditions (k ∷ keys) more = keyConditions (k .algorithm) (k .public) (k .private) (says (not (utf8 (k .comment))) 7 ∷ listedConditions keys more)
 
--- n above 65,535: 11; n above the buffer's length: 1; the reader's refusals; then as above
-abbrev pub changeConditions : List ℕ → ℕ → List ℕ → List Condition
-changeConditions old n comment =
+-- of several keys: a count of 0 or above 16: 1; each key's; size 11; room 9
+abbrev pub keysConditions : List Key → ℕ → ℕ → List Condition
+keysConditions keys checkint room =
+    says (not (leb 1 (length keys) && leb (length keys) 16)) 1 ∷ listedConditions keys (sizes (writtenImage checkint keys) room)
+
+-- of an edit: n above 65,535: 11; n above the buffer's length: 1; the reader's refusals; encrypted: 8; not the writer's form: 10; then
+abbrev pub editConditions : List ℕ → ℕ → (Fields → List Condition) → List Condition
+editConditions old n more =
     says (ltb 65535 n) 11
     ∷ says (ltb (length old) n) 1
-    ∷ onRead (readAt (take n old)) (λ g. readCondition g ∷ []) (λ f. acceptedConditions (take n old) f comment (length old))
+    ∷ onRead (readAt (take n old)) (λ g. readCondition g ∷ [])
+    (λ f.
+    says (onKind (f .section .kind) false true) 8
+    ∷ says (not (formOf (take n old) f)) 10
+    ∷ more f)
 
-abbrev pub changedLength : List ℕ → ℕ → List ℕ → ℕ
-changedLength old n comment = onRead (readAt (take n old)) (λ g. 0) (λ f. length (afresh (take n old) f comment))
+-- the image of the keys then in the file
+abbrev pub afresh : Fields → List Key → List ℕ
+afresh f keys = writtenImage (f .section .checkint) keys
+
+abbrev pub editedLength : List ℕ → ℕ → (Fields → List Key) → ℕ
+editedLength old n keys = onRead (readAt (take n old)) (λ g. 0) (λ f. length (afresh f (keys f)))
+
+-- a missing key 1; the new comment's 7, at that key's old comment's field; size 11; room 9
+abbrev pub changedKeys : List ℕ → ℕ → ℕ → List ℕ → Fields → List Key
+changedKeys old n k comment f = changeKey k comment (fileKeys (take n old) f)
+
+abbrev pub changeConditions : List ℕ → ℕ → ℕ → List ℕ → List Condition
+changeConditions old n k comment =
+    editConditions old n (λ f.
+    says (not (hasKey f k)) 1
+    ∷ record { holds = not (utf8 comment); number = 7; count = 0; at = commentField (take n old) f k }
+    ∷ sizes (afresh f (changedKeys old n k comment f)) (length old))
+
+-- a missing key 1; the only key 1; size 11; room 9
+abbrev pub keptKeys : List ℕ → ℕ → ℕ → Fields → List Key
+keptKeys old n k f = removeKey k (fileKeys (take n old) f)
+
+abbrev pub removeConditions : List ℕ → ℕ → ℕ → List Condition
+removeConditions old n k =
+    editConditions old n (λ f.
+    says (not (hasKey f k)) 1
+    ∷ says (not (ltb 1 (f .header .count))) 1
+    ∷ sizes (afresh f (keptKeys old n k f)) (length old))
+
+-- a 17th key 1; the new key's own; its comment's 7; size 11; room 9
+abbrev pub moreKeys : List ℕ → ℕ → Key → Fields → List Key
+moreKeys old n key f = addKey key (fileKeys (take n old) f)
+
+abbrev pub addConditions : List ℕ → ℕ → Key → List Condition
+addConditions old n key =
+    editConditions old n (λ f.
+    says (not (ltb (f .header .count) 16)) 1
+    ∷ listedConditions (alone key) (sizes (afresh f (moreKeys old n key f)) (length old)))
 
 -- above the limit 11; then room 9, for the text
 abbrev pub exportConditions : List ℕ → ℕ → List Condition
@@ -258,58 +303,132 @@ encrypted-first cipher k salt rounds key ciphertext tag room =
         (then-first (not (eqb (length tag) (tagLength cipher))) (eqb (length tag) (tagLength cipher)) refl Length refl (sized image room) (sizes image room) (length image)
         (sized-first image room))
 
-comment-first :
-    (s : List ℕ) (f : Fields) (comment : List ℕ) (room : ℕ) → PlainText s f
-    → told (cond (utf8 comment) (afreshReply s f comment room) (written.Refused (fault CharacterEncoding (commentField f))))
-    ≡ first
-    (record { holds = not (utf8 comment); number = 7; count = 0; at = commentField f } ∷ sizes (afresh s f comment) room)
-    (length (afresh s f comment))
-comment-first s f comment room p =
-    by-bool (utf8 comment)
-    (λ u.
-    rw u
-    (ap told (afresh-sized s f p comment u room) ∙ sized-first (afresh s f comment) room
-    ∙ passed-first 7 0 (commentField f) (sizes (afresh s f comment) room) (length (afresh s f comment))))
-    (λ u. rw u (fault-first (fault CharacterEncoding (commentField f)) (sizes (afresh s f comment) room) (length (afresh s f comment))))
+listed-first :
+    (keys : List Key) (w : Written) (c : List Condition) (n : ℕ) → told w ≡ first c n → told (keysChecked keys w) ≡ first (listedConditions keys c) n
+unfolding keysChecked
+listed-first [] w c n h = h
+listed-first (k ∷ keys) w c n h =
+    let text = utf8 (k .comment) in
+    let more = listed-first keys w c n h in
+    key-first (k .algorithm) (k .public) (k .private) (unless text CharacterEncoding (keysChecked keys w)) (says (not text) 7 ∷ listedConditions keys c) n
+    (then-first (not text) text refl CharacterEncoding refl (keysChecked keys w) (listedConditions keys c) n more)
 
-accepted-first :
-    (s : List ℕ) (f : Fields) (comment : List ℕ) (room : ℕ) → (f .section .kind ≡ Plain → PlainText s f)
-    → told (acceptedReply s f comment room)
-    ≡ first (acceptedConditions s f comment room) (length (afresh s f comment))
-unfolding acceptedReply
-accepted-first s f comment room text =
-    by-kind (f .section .kind)
-    (λ k.
-    let w = cond (utf8 comment) (afreshReply s f comment room) (written.Refused (fault CharacterEncoding (commentField f))) in
-    let c = record { holds = not (utf8 comment); number = 7; count = 0; at = commentField f } ∷ sizes (afresh s f comment) room in
-    let n = length (afresh s f comment) in
-    ap (λ (x : Kind). told (onKind x (unless (formOf s f) Form w) (refused Encrypted))) k
-    ∙ then-first (not (formOf s f)) (formOf s f) refl Form refl w c n (comment-first s f comment room (text k))
-    ∙ passed-first 8 0 0 (says (not (formOf s f)) 10 ∷ c) n
-    ∙ ap (λ (x : Kind). first (says (onKind x false true) 8 ∷ says (not (formOf s f)) 10 ∷ c) n) (sym k))
-    (λ k.
-    let w = unless (formOf s f) Form (cond (utf8 comment) (afreshReply s f comment room) (written.Refused (fault CharacterEncoding (commentField f)))) in
-    let c = says (not (formOf s f)) 10 ∷ record { holds = not (utf8 comment); number = 7; count = 0; at = commentField f } ∷ sizes (afresh s f comment) room in
-    let n = length (afresh s f comment) in
-    ap (λ (x : Kind). told (onKind x w (refused Encrypted))) k
-    ∙ refused-first Encrypted c n
-    ∙ ap (λ (x : Kind). first (says (onKind x false true) 8 ∷ c) n) (sym k))
+pub keys-first :
+    (keys : List Key) (checkint room : ℕ)
+    → told (keysReply keys checkint room) ≡ first (keysConditions keys checkint room) (length (writtenImage checkint keys))
+unfolding keysReply
+keys-first keys checkint room =
+    let image = writtenImage checkint keys in
+    let some = leb 1 (length keys) && leb (length keys) 16 in
+    then-first (not some) some refl Length refl (keysChecked keys (sized image room)) (listedConditions keys (sizes image room)) (length image)
+    (listed-first keys (sized image room) (sizes image room) (length image) (sized-first image room))
+
+-- ---- the edits
+
+-- the tests that all have in common
+module _ (old : List ℕ) (n : ℕ) (reply : Fields → Written) (more : Fields → List Condition) (size : Fields → ℕ) where
+  judged-first :
+      (f : Fields) (k : Kind) (form : Bool) → (k ≡ Plain → form ≡ true → told (reply f) ≡ first (more f) (size f))
+      → told (onEditable (onKind k (cond form (editable.Image f) (refusedWhole Form)) (refusedWhole Encrypted)) written.Refused reply)
+      ≡ first (says (onKind k false true) 8 ∷ says (not form) 10 ∷ more f) (size f)
+  unfolding told first
+  judged-first f Plain true h = h refl refl
+  judged-first f Plain false h = refl
+  judged-first f Sealed form h = refl
+
+  edit-first :
+      ((f : Fields) → editableAt old n ≡ editable.Image f → told (reply f) ≡ first (more f) (size f))
+      → told (onEditable (editableAt old n) written.Refused reply) ≡ first (editConditions old n more) (onRead (readAt (take n old)) (λ g. 0) size)
+  unfolding editableAt recordEditable told first
+  edit-first h =
+      by-bool (leb n 65535)
+      (λ small.
+      let few : ltb 65535 n ≡ false = above 65535 n ∙ ap not small in
+      by-bool (leb n (length old))
+      (λ inside.
+      let fit : ltb (length old) n ≡ false = above (length old) n ∙ ap not inside in
+      by-read (readAt (take n old))
+      (λ g e. rw (small, inside, few, fit, e))
+      (λ f e.
+      rw (small, inside, few, fit, e)
+      (judged-first f (f .section .kind) (formOf (take n old) f) (λ plain form. h f (may-edit old n f small inside e plain form)))))
+      (λ outside. let past : ltb (length old) n ≡ true = above (length old) n ∙ ap not outside in rw (small, outside, few, past)))
+      (λ large. let many : ltb 65535 n ≡ true = above 65535 n ∙ ap not large in rw (large, many))
 
 -- for every buffer and comment; that the buffer's bytes are bytes is the slice's own rule
 pub change-first :
-    (old : List ℕ) (n : ℕ) (comment : List ℕ) → AllBytes (take n old)
-    → told (changeReply old n comment) ≡ first (changeConditions old n comment) (changedLength old n comment)
+    (old : List ℕ) (n k : ℕ) (comment : List ℕ) → AllBytes old
+    → told (changeReply old n k comment) ≡ first (changeConditions old n k comment) (editedLength old n (changedKeys old n k comment))
 unfolding changeReply
-change-first old n comment all =
-    let s = take n old in
-    let w = onRead (readAt s) written.Refused (λ f. acceptedReply s f comment (length old)) in
-    let c = onRead (readAt s) (λ g. readCondition g ∷ []) (λ f. acceptedConditions s f comment (length old)) in
-    then-first (ltb 65535 n) (leb n 65535) (above 65535 n) Size refl (unless (leb n (length old)) Length w) (says (ltb (length old) n) 1 ∷ c)
-    (changedLength old n comment)
-    (then-first (ltb (length old) n) (leb n (length old)) (above (length old) n) Length refl w c (changedLength old n comment)
-    (by-read (readAt s)
-    (λ g e. rw e (fault-first g [] 0))
-    (λ f e. rw e (accepted-first s f comment (length old) (plain-of s all f e)))))
+change-first old n k comment all =
+    edit-first old n _ _ (λ f. length (afresh f (changedKeys old n k comment f)))
+    (λ f w.
+    let image = afresh f (changedKeys old n k comment f) in
+    let field = commentField (take n old) f k in
+    then-first (not (hasKey f k)) (hasKey f k) refl Length refl _ _ (length image)
+    (by-bool (utf8 comment)
+    (λ u.
+    rw u
+    (ap told (change-sized old all n f w k comment u) ∙ sized-first image (length old) ∙ passed-first 7 0 field (sizes image (length old)) (length image)))
+    (λ u. rw u (fault-first (fault CharacterEncoding field) (sizes image (length old)) (length image)))))
+
+both-places : (k count : ℕ) → (leb 1 k && leb k count) ≡ true → (0 < k) × (k ≤ count)
+both-places k count e =
+    let b = both-true (leb 1 k) (leb k count) e in
+    (omega (arith, leb-true 1 k (b .0)), leb-true k count (b .1))
+
+pub remove-first :
+    (old : List ℕ) (n k : ℕ) → AllBytes old
+    → told (removeReply old n k) ≡ first (removeConditions old n k) (editedLength old n (keptKeys old n k))
+unfolding removeReply
+remove-first old n k all =
+    edit-first old n _ _ (λ f. length (afresh f (keptKeys old n k f)))
+    (λ f w.
+    let image = afresh f (keptKeys old n k f) in
+    let rest = sizes image (length old) in
+    by-bool (hasKey f k)
+    (λ there.
+    let place = both-places k (f .header .count) there in
+    by-bool (ltb 1 (f .header .count))
+    (λ more.
+    rw (there, more)
+    (ap told (remove-sized old all n f w k (place .0) (place .1) (ltb-true 1 (f .header .count) more)) ∙ sized-first image (length old)
+    ∙ passed-first 1 0 0 rest (length image) ∙ passed-first 1 0 0 (says false 1 ∷ rest) (length image)))
+    (λ only.
+    let one : f .header .count ≡ 1 = omega (arith, ltb-false 1 (f .header .count) only, place .0, place .1) in
+    rw (there, only)
+    (ap told (remove-only old all n f w k (place .0) (place .1) one) ∙ refused-first Length rest (length image)
+    ∙ passed-first 1 0 0 (says true 1 ∷ rest) (length image))))
+    (λ missing. rw missing (refused-first Length (says (not (ltb 1 (f .header .count))) 1 ∷ rest) (length image))))
+
+added-first :
+    (old : List ℕ) (all : AllBytes old) (n : ℕ) (key : Key) (f : Fields) → editableAt old n ≡ editable.Image f
+    → told (afreshReply (moreKeys old n key f) f old)
+    ≡ first (says (not (ltb (f .header .count) 16)) 1 ∷ listedConditions (alone key) (sizes (afresh f (moreKeys old n key f)) (length old)))
+    (length (afresh f (moreKeys old n key f)))
+unfolding addReply fileKeys
+added-first old all n key f w =
+    let keys = keysIn (take n old) f in
+    let image = afresh f (moreKeys old n key f) in
+    let rest = listedConditions (alone key) (sizes image (length old)) in
+    let own : addReply old n key ≡ afreshReply (moreKeys old n key f) f old = rw w in
+    by-bool (ltb (f .header .count) 16)
+    (λ few.
+    let reply = sym own ∙ add-reply old all n f w key (ltb-true (f .header .count) 16 few) in
+    let same : writtenImage (f .section .checkint) (addKey key keys) ≡ image = sym (added-filled (f .section .checkint) keys key) in
+    rw few
+    (ap told (reply ∙ ap (λ (l : List ℕ). keysChecked (alone key) (sized l (length old))) same)
+    ∙ listed-first (alone key) (sized image (length old)) (sizes image (length old)) (length image) (sized-first image (length old))
+    ∙ passed-first 1 0 0 rest (length image)))
+    (λ many.
+    rw many
+    (ap told (sym own ∙ too-many old all n f w key (ltb-false (f .header .count) 16 many)) ∙ refused-first Length rest (length image)))
+
+pub add-first :
+    (old : List ℕ) (n : ℕ) (key : Key) → AllBytes old
+    → told (addReply old n key) ≡ first (addConditions old n key) (editedLength old n (moreKeys old n key))
+unfolding addReply
+add-first old n key all = edit-first old n _ _ (λ f. length (afresh f (moreKeys old n key f))) (added-first old all n key)
 
 pub export-first : (b : List ℕ) (room : ℕ) → told (exportReply b room) ≡ first (exportConditions b room) (length (text b))
 unfolding exportReply

@@ -24,7 +24,8 @@ use Rattle.reader_image.specs.Halves.{section-own}
 use Rattle.record_found.specs.Found.{foundAt, headerFoundAt, Tells, found-told}
 use Rattle.writer_reply.specs.declared.Written.the-variants as written
 use Rattle.writer_again.specs.Rewrite.{rewriteReply}
-use Rattle.comment_change.specs.Change.{changeReply}
+use Rattle.edit_file.specs.Edits.{editableAt}
+use Rattle.laws_edits.specs.Steps.{Edit, reply, not-editable}
 use Rattle.inspect_report.specs.Report.{Refused, lines, reportOf}
 use Rattle.c_numbers.specs.Numbers.{refusedImage, halfImage, imageOf, headerOf}
 use Rattle.c_numbers.specs.declared.Image.{Image}
@@ -107,7 +108,7 @@ pub record HandedUp (s : List ℕ) (g : Fault) : Type 0 where
   pub in-c : imageOf (formReadAt s) ≡ refusedImage g
   pub printed : reportOf s ≡ lines (Refused (numberOf (g .why)) (countOf (g .why)) (g .at))
   pub by-rewrite : (room : ℕ) → rewriteReply s room ≡ written.Refused g
-  pub by-change : (old : List ℕ) (n : ℕ) (comment : List ℕ) → n ≤ 65535 → n ≤ length old → take n old ≡ s → changeReply old n comment ≡ written.Refused g
+  pub by-edit : (e : Edit) (old : List ℕ) (n : ℕ) → n ≤ 65535 → n ≤ length old → take n old ≡ s → reply e old n ≡ written.Refused g
   pub by-section : (half : Header) → headerAt s ≡ header-read.Header half → sectionReadAt s half ≡ read.Refused g
   pub by-section-c : (half : Header) → headerAt s ≡ header-read.Header half → sectionC s (headerOf (headerAt s)) ≡ refusedImage g
 
@@ -119,11 +120,12 @@ rewrite-refused : (s : List ℕ) (g : Fault) → readAt s ≡ read.Refused g →
 unfolding rewriteReply
 rewrite-refused s g e room = rw e
 
-change-refused :
-    (s : List ℕ) (g : Fault) → readAt s ≡ read.Refused g → (old : List ℕ) (n : ℕ) (comment : List ℕ) → n ≤ 65535 → n ≤ length old → take n old ≡ s
-    → changeReply old n comment ≡ written.Refused g
-unfolding changeReply
-change-refused s g e old n comment small inside same = rw (le-leb n 65535 small, le-leb n (length old) inside, same, e)
+edit-refused :
+    (s : List ℕ) (g : Fault) → readAt s ≡ read.Refused g → (e : Edit) (old : List ℕ) (n : ℕ) → n ≤ 65535 → n ≤ length old → take n old ≡ s
+    → reply e old n ≡ written.Refused g
+unfolding editableAt
+edit-refused s g w e old n small inside same =
+    not-editable e old n g (rw (le-leb n 65535 small, le-leb n (length old) inside, same, w)) .0
 
 -- the section read that goes on from the header's own numbers
 section-c-is :
@@ -143,7 +145,7 @@ handed-up s g e =
       in-c = read-c s g e;
       printed = report-refused s g e;
       by-rewrite = rewrite-refused s g e;
-      by-change = change-refused s g e;
+      by-edit = edit-refused s g e;
       by-section = λ half h. section-own s half h ∙ e;
       by-section-c = section-c s g e;
     }

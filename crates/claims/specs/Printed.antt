@@ -7,11 +7,10 @@ use Prim.Native.Nat.{ℕ, _+_, _*_, _≤_, _<_, _^_}
 use native.Mathlib.Omega.{arith}
 use mathlib.Core.Path.{_≡_, refl, sym, _∙_, ap}
 use mathlib.Core.Bool.{true}
-use mathlib.Core.List.{List, [], _∷_}
+use mathlib.Core.List.{List, [], _∷_, map}
 use lib.Count.{leadingZeros}
-use lib.Dec.{eqb}
-use lib.ListN.{length, length-append, length-replicate}
-use Rattle.fields.specs.Bytes.{ascii, AllBytes}
+use lib.ListN.{length, getD, length-append, length-replicate}
+use Rattle.fields.specs.Bytes.{ascii, AllBytes, sameBytes}
 use Rattle.fields.specs.Fields.{viewOf}
 use Rattle.fields.specs.Place.{clash}
 use Rattle.fields.specs.Refusals.{numberOf, countOf}
@@ -29,21 +28,24 @@ use Rattle.names.specs.declared.Kdf.the-variants as kdf
 use Rattle.names.specs.Algorithms.{sizeOf}
 use Rattle.utf8.specs.Utf8.{UTF8-char, utf8, utf8From}
 use Rattle.mpint.specs.Mpint.{zerosBefore, bits}
-use Rattle.format.specs.Format.{PublicBytes, PrivateBytes, ofPoint, ofScalar, scalarZero, zerosAsked, blob, keypair, paddingLength, content, plainImage, writtenImage, encryptedImage, alone, entry, keyOf}
+use Rattle.format.specs.Format.{PublicBytes, PrivateBytes, Key, keyOf, keyBlob, ofPoint, ofScalar, scalarZero, blob, keypair, paddingLength, content, standingEntries, writtenImage, encryptedImage, alone}
 use Rattle.format.specs.Laws.{section-length}
-use Rattle.format.specs.Lengths.{LengthsFit, blobLength, keypairLength, blob-length, content-length, plain-length}
-use Rattle.format.specs.Scalars.{fits-allowed}
-use Rattle.reader_entries.specs.Back.{KeyFits}
+use Rattle.format.specs.Lengths.{LengthsFit, blobLength, keypairLength, blob-length, blobsLength, entriesLength, content-length, plain-length}
+use Rattle.format.specs.Scalars.{keyZeros, fits-allowed}
+use Rattle.reader_header.specs.Place.{keys-some, keys-most}
+use Rattle.reader_entries.specs.Entries.{noKey}
+use Rattle.reader_entries.specs.Back.{KeyFits, AllFit}
 use Rattle.reader_section.specs.declared.Kind.the-variants as kind
 use Rattle.reader_image.specs.declared.Fields.{Fields}
 use Rattle.reader_image.specs.declared.ImageRead.the-variants as read
-use Rattle.reader_image.specs.Container.{publicIn, privateIn, readAt}
-use Rattle.reader_image.specs.Back.{plain-image-back, SealFits, encrypted-image-back}
+use Rattle.reader_image.specs.Container.{publicIn, keysIn, readAt}
+use Rattle.reader_image.specs.Back.{SealFits, encrypted-image-back}
 use Rattle.reader_image.specs.Read.{ImageText, plain-text, encrypted-text, image-text}
-use Rattle.reader_image.specs.FormLaws.{form-back, plain-of}
+use Rattle.reader_image.specs.FormLaws.{keys-of}
 use Rattle.inspect_report.specs.Report.{Summary, Plain, Encrypted, Refused, accepted, summaryOf, lines, reportOf}
 use Rattle.inspect_report.specs.Examples.{printed, oven7}
-use Rattle.claims.specs.Form.{Stands}
+use Rattle.claims.specs.Reading.{imageOf, Within, plain-admitted}
+use Rattle.claims.specs.Form.{Stands, keys-form, stands-fit, stands-some}
 
 -- ---- plain images
 
@@ -67,66 +69,147 @@ pair-length (OnCurve (Ecdsa Nistp521)) zeros key x comment fits =
     simp (length-append, length-string, length-replicate) (omega (arith, fits .public .0))
 pair-length Rsa zeros key x comment fits = simp (length-append, length-string) (omega arith)
 
--- the section's but for its padding, with a comment of c bytes
-abbrev pub sectionSize : Algorithm → ℕ → PublicBytes → PrivateBytes → ℕ → ℕ
-sectionSize a zeros key x c = 8 + pairLength a zeros key x + (4 + c)
+-- of several keys their entries, with each comment, and their blobs
+abbrev pub entriesSize : List ℕ → List Key → ℕ
+entriesSize [] keys = 0
+entriesSize (zeros ∷ more) [] = 0
+entriesSize (zeros ∷ more) (k ∷ keys) = pairLength (k .algorithm) zeros (k .public) (k .private) + (4 + length (k .comment)) + entriesSize more keys
 
--- what is printed: by the kind, the lengths, the bits of a modulus, and how a scalar stands
-abbrev pub shown : Algorithm → ℕ → PublicBytes → PrivateBytes → ℕ → Summary
-shown a zeros key x c =
-    Plain a (bits (key .modulus)) cipher.None kdf.None c (paddingLength (sectionSize a zeros key x c))
-    (47 + blobLength a key + (sectionSize a zeros key x c + paddingLength (sectionSize a zeros key x c)))
-    (eqb (zerosAsked a x) zeros)
+abbrev pub blobsSize : List Key → ℕ
+blobsSize [] = 0
+blobsSize (k ∷ keys) = 4 + blobLength (k .algorithm) (k .public) + blobsSize keys
+
+-- the section's but for its padding
+abbrev pub sectionSize : List ℕ → List Key → ℕ
+sectionSize zs keys = 8 + entriesSize zs keys
+
+-- what is printed: the first key's kind, the bits of its modulus and its comment's length; by the lengths of all keys the padding and the image; and whether
+-- each scalar stands by the writer's rule
+abbrev pub shown : List ℕ → List Key → Summary
+shown zs keys =
+    Plain (getD keys 0 noKey .algorithm) (bits (getD keys 0 noKey .public .modulus)) cipher.None kdf.None (length (getD keys 0 noKey .comment))
+    (paddingLength (sectionSize zs keys)) (43 + blobsSize keys + (sectionSize zs keys + paddingLength (sectionSize zs keys)))
+    (sameBytes (map keyZeros keys) zs)
 
 lengths-fit : (a : Algorithm) (zeros : ℕ) (key : PublicBytes) (x : PrivateBytes) (comment : List ℕ) → KeyFits a zeros key x comment → LengthsFit a key x
 lengths-fit (OnCurve e) zeros key x comment fits = (fits .public .0, fits-allowed e (x .scalar) (fits .private .0))
 lengths-fit Rsa zeros key x comment fits = tt
 
-module _ (n : ℕ) (a : Algorithm) (zeros : ℕ) (key : PublicBytes) (x : PrivateBytes) (comment : List ℕ) (small : n < 2 ^ 32) (fits : KeyFits a zeros key x comment) where
-  abbrev image : List ℕ
-  image = plainImage n (alone (blob a key)) (alone (entry (keypair a zeros key x) comment))
+entries-size : (zs : List ℕ) (keys : List Key) → AllFit zs keys → entriesLength (standingEntries zs keys) ≡ entriesSize zs keys
+entries-size [] [] fits = refl
+entries-size (z ∷ zs) (k ∷ keys) fits =
+    rw (pair-length (k .algorithm) z (k .public) (k .private) (k .comment) (fits .0), entries-size zs keys (fits .1))
 
-  -- the lengths that are printed
-  size-is : length (content n (alone (entry (keypair a zeros key x) comment))) ≡ sectionSize a zeros key x (length comment)
-  size-is = content-length n (alone (entry (keypair a zeros key x) comment)) ∙ rw (pair-length a zeros key x comment fits) (omega arith)
+blobs-size : (zs : List ℕ) (keys : List Key) → AllFit zs keys → blobsLength (map keyBlob keys) ≡ blobsSize keys
+blobs-size [] [] fits = refl
+blobs-size (z ∷ zs) (k ∷ keys) fits =
+    rw (
+      blob-length (k .public) (k .private) (k .algorithm) (lengths-fit (k .algorithm) z (k .public) (k .private) (k .comment) (fits .0)),
+      blobs-size zs keys (fits .1),
+    )
 
-  length-is :
-      length image
-      ≡ 47 + blobLength a key + (sectionSize a zeros key x (length comment) + paddingLength (sectionSize a zeros key x (length comment)))
-  length-is =
-      plain-length n (alone (blob a key)) (alone (entry (keypair a zeros key x) comment))
-      ∙ rw (section-length n (alone (entry (keypair a zeros key x) comment)), size-is, blob-length key x a (lengths-fit a zeros key x comment fits)) (omega arith)
+-- the lengths that are printed
+size-is : (n : ℕ) (zs : List ℕ) (keys : List Key) → AllFit zs keys → length (content n (standingEntries zs keys)) ≡ sectionSize zs keys
+size-is n zs keys fits = content-length n (standingEntries zs keys) ∙ ap (λ (i : ℕ). 8 + i) (entries-size zs keys fits)
 
-  -- what is printed of a plain image
-  pub report-plain : length image ≤ 65535 → reportOf image ≡ lines (shown a zeros key x (length comment))
-  unfolding reportOf summaryOf accepted
-  report-plain limit =
-      let b = plain-image-back image n a zeros key x comment limit small fits refl in
-      rw (b .read, b .plain, form-back image n a zeros key x comment _ fits refl b, b .same-algorithm, b .same-bits, b .no-cipher, b .no-kdf, b .comment-size, b .same-padding, size-is, length-is)
+length-is :
+    (n : ℕ) (zs : List ℕ) (keys : List Key) → AllFit zs keys
+    → length (imageOf n zs keys) ≡ 43 + blobsSize keys + (sectionSize zs keys + paddingLength (sectionSize zs keys))
+length-is n zs keys fits =
+    plain-length n (map keyBlob keys) (standingEntries zs keys)
+    ∙ rw (section-length n (standingEntries zs keys), size-is n zs keys fits, blobs-size zs keys fits)
 
--- no private byte of an accepted image: two keys whose kind, lengths, bits of a modulus and form are the same have the same report, whatever their private
--- bytes are, and whatever their points, numbers, checkints and comments
+-- what is printed of a plain image
+pub report-plain : (n : ℕ) (zs : List ℕ) (keys : List Key) → Within n zs keys → reportOf (imageOf n zs keys) ≡ lines (shown zs keys)
+unfolding reportOf summaryOf accepted
+report-plain n zs [] w = absurd (omega (arith, w .some))
+report-plain n [] (k ∷ others) w = absurd (w .keys-fit)
+report-plain n (z ∷ zs) (k ∷ others) w =
+    let image = imageOf n (z ∷ zs) (k ∷ others) in
+    let fits = w .keys-fit in
+    let b = plain-admitted n z zs k others w in
+    let form = keys-form image (b .fields) n (z ∷ zs) (k ∷ others) (b .plain) (b .same-checkint) (b .same-keys) fits refl in
+    let kind : b .fields .header .algorithm ≡ k .algorithm = ap (λ (y : Key). y .algorithm) (b .same-first) in
+    rw (
+      b .read,
+      b .plain,
+      form,
+      kind,
+      b .same-bits,
+      b .no-cipher,
+      b .no-kdf,
+      b .comment-size,
+      b .same-padding,
+      size-is n (z ∷ zs) (k ∷ others) fits,
+      length-is n (z ∷ zs) (k ∷ others) fits,
+    )
+
+-- no private byte of an accepted image: two files whose first keys' kinds, bits of a modulus and comments' lengths, and whose lengths and forms are the same have
+-- the same report, whatever their private bytes are, and whatever their points, numbers, checkints and comments
 pub no-private-byte :
-    (a : Algorithm) (zeros zeros′ n m : ℕ) (key : PublicBytes) (x : PrivateBytes) (comment : List ℕ) (key′ : PublicBytes) (x′ : PrivateBytes) (comment′ : List ℕ)
-    → n < 2 ^ 32 → m < 2 ^ 32 → KeyFits a zeros key x comment → KeyFits a zeros′ key′ x′ comment′
-    → shown a zeros key x (length comment) ≡ shown a zeros′ key′ x′ (length comment′)
-    → length (plainImage n (alone (blob a key)) (alone (entry (keypair a zeros key x) comment))) ≤ 65535
-    → length (plainImage m (alone (blob a key′)) (alone (entry (keypair a zeros′ key′ x′) comment′))) ≤ 65535
-    → reportOf (plainImage n (alone (blob a key)) (alone (entry (keypair a zeros key x) comment))) ≡ reportOf (plainImage m (alone (blob a key′)) (alone (entry (keypair a zeros′ key′ x′) comment′)))
-no-private-byte a zeros zeros′ n m key x comment key′ x′ comment′ hn hm fits also-fits alike limit also-limit =
-    report-plain n a zeros key x comment hn fits limit ∙ ap lines alike ∙ sym (report-plain m a zeros′ key′ x′ comment′ hm also-fits also-limit)
+    (n m : ℕ) (zs ws : List ℕ) (keys others : List Key) → Within n zs keys → Within m ws others → shown zs keys ≡ shown ws others
+    → reportOf (imageOf n zs keys) ≡ reportOf (imageOf m ws others)
+no-private-byte n m zs ws keys others w v alike = report-plain n zs keys w ∙ ap lines alike ∙ sym (report-plain m ws others v)
 
--- of a key over a curve that is its kind, its comment's length, and its scalar's length and first byte against 0x80; of an RSA key the numbers'
--- lengths and the modulus's bits
-pub elliptic-alike :
-    (e : Elliptic) (zeros : ℕ) (key : PublicBytes) (x : PrivateBytes) (key′ : PublicBytes) (x′ : PrivateBytes) (c : ℕ)
-    → key ≡ ofPoint (key .point) → key′ ≡ ofPoint (key′ .point) → scalarZero e (x .scalar) ≡ scalarZero e (x′ .scalar)
-    → length (x .scalar) ≡ length (x′ .scalar)
-    → shown (OnCurve e) zeros key x c ≡ shown (OnCurve e) zeros key′ x′ c
-elliptic-alike Ed25519 zeros key x key′ x′ c own own′ rule long =
-    rw (ap (λ (k : PublicBytes). bits (k .modulus)) own, ap (λ (k : PublicBytes). bits (k .modulus)) own′)
-elliptic-alike (Ecdsa k) zeros key x key′ x′ c own own′ rule long =
-    rw (ap (λ (k : PublicBytes). bits (k .modulus)) own, ap (λ (k : PublicBytes). bits (k .modulus)) own′, rule, long)
+-- of keys over a curve that is of each its kind, its comment's length, and its scalar's length, how it stands and its first byte against 0x80; of an RSA key the
+-- numbers' lengths and the modulus's bits
+pub record Alike (e : Elliptic) (k l : Key) : Type 0 where
+  pub kind : k .algorithm ≡ OnCurve e
+  pub also-kind : l .algorithm ≡ OnCurve e
+  pub own : k .public ≡ ofPoint (k .public .point)
+  pub also-own : l .public ≡ ofPoint (l .public .point)
+  pub rule : scalarZero e (k .private .scalar) ≡ scalarZero e (l .private .scalar)
+  pub long : length (k .private .scalar) ≡ length (l .private .scalar)
+  pub comment : length (k .comment) ≡ length (l .comment)
+
+abbrev pub AllAlike : List Key → List Key → Type 0
+AllAlike [] [] = Unit {0}
+AllAlike [] (l ∷ others) = ⊥
+AllAlike (k ∷ keys) [] = ⊥
+AllAlike (k ∷ keys) (l ∷ others) = ((e : Elliptic) × Alike e k l) × AllAlike keys others
+
+-- each takes as many bytes, and its scalar as many zeros
+alike-pair :
+    (e : Elliptic) (zeros : ℕ) (key : PublicBytes) (x : PrivateBytes) (key′ : PublicBytes) (x′ : PrivateBytes) → length (x .scalar) ≡ length (x′ .scalar)
+    → pairLength (OnCurve e) zeros key x ≡ pairLength (OnCurve e) zeros key′ x′
+alike-pair Ed25519 zeros key x key′ x′ long = refl
+alike-pair (Ecdsa k) zeros key x key′ x′ long = rw long
+
+alike-entries : (zs : List ℕ) (keys others : List Key) → AllAlike keys others → entriesSize zs keys ≡ entriesSize zs others
+alike-entries [] keys others same = refl
+alike-entries (z ∷ zs) [] [] same = refl
+alike-entries (z ∷ zs) (k ∷ keys) (l ∷ others) same =
+    let a = same .0 .1 in
+    rw (
+      a .kind,
+      a .also-kind,
+      alike-pair (same .0 .0) z (k .public) (k .private) (l .public) (l .private) (a .long),
+      a .comment,
+      alike-entries zs keys others (same .1),
+    )
+
+alike-blobs : (keys others : List Key) → AllAlike keys others → blobsSize keys ≡ blobsSize others
+alike-blobs [] [] same = refl
+alike-blobs (k ∷ keys) (l ∷ others) same = let a = same .0 .1 in rw (a .kind, a .also-kind, alike-blobs keys others (same .1))
+
+alike-zeros : (keys others : List Key) → AllAlike keys others → map keyZeros keys ≡ map keyZeros others
+alike-zeros [] [] same = refl
+alike-zeros (k ∷ keys) (l ∷ others) same = let a = same .0 .1 in rw (a .kind, a .also-kind, a .rule, alike-zeros keys others (same .1))
+
+alike-first :
+    (keys others : List Key) → AllAlike keys others
+    → (getD keys 0 noKey .algorithm ≡ getD others 0 noKey .algorithm)
+    × (bits (getD keys 0 noKey .public .modulus) ≡ bits (getD others 0 noKey .public .modulus))
+    × (length (getD keys 0 noKey .comment) ≡ length (getD others 0 noKey .comment))
+alike-first [] [] same = (refl, refl, refl)
+alike-first (k ∷ keys) (l ∷ others) same =
+    let a = same .0 .1 in
+    (a .kind ∙ sym (a .also-kind), ap (λ (y : PublicBytes). bits (y .modulus)) (a .own) ∙ sym (ap (λ (y : PublicBytes). bits (y .modulus)) (a .also-own)), a .comment)
+
+pub elliptic-alike : (zs : List ℕ) (keys others : List Key) → AllAlike keys others → shown zs keys ≡ shown zs others
+elliptic-alike zs keys others same =
+    let first = alike-first keys others same in
+    rw (first .0, first .1, first .2, alike-entries zs keys others same, alike-blobs keys others same, alike-zeros keys others same)
 
 oven7-text : utf8 (ascii "oven7") ≡ true
 unfolding utf8 utf8From UTF8-char
@@ -140,13 +223,18 @@ pub oven7-report :
     ("kind plain" ∷ "algorithm ssh-ed25519" ∷ "cipher none" ∷ "kdf none" ∷ "comment 5" ∷ "padding 0" ∷ "image 234" ∷ "form yes" ∷ [])
 unfolding writtenImage bits zerosBefore leadingZeros
 oven7-report n point seed small long private =
-    let ed25519 = OnCurve Ed25519 in
-    let key = ofPoint point in
-    let x = ofScalar seed in
-    let fits : KeyFits ed25519 0 key x (ascii "oven7") = record { public = (long, refl, refl); private = (private, refl); may = refl; text = oven7-text } in
-    let limit : length (plainImage n (alone (blob ed25519 key)) (alone (entry (keypair ed25519 0 key x) (ascii "oven7")))) ≤ 65535 =
-    omega (arith, length-is n ed25519 0 key x (ascii "oven7") small fits) in
-    report-plain n ed25519 0 key x (ascii "oven7") small fits limit ∙ oven7
+    let key = keyOf (OnCurve Ed25519) (ofPoint point) (ofScalar seed) (ascii "oven7") in
+    let fits : AllFit (alone 0) (alone key) =
+    (record { public = (long, refl, refl); private = (private, refl); may = refl; text = oven7-text }, tt) in
+    report-plain n (alone 0) (alone key)
+    (record {
+      checkint-fits = small;
+      keys-fit = fits;
+      some = omega arith;
+      few = omega arith;
+      limit = omega (arith, length-is n (alone 0) (alone key) fits);
+    })
+    ∙ oven7
 
 -- ---- encrypted images
 
@@ -162,22 +250,27 @@ report-encrypted c k salt rounds a key ciphertext tag fits limit =
 
 -- ---- every image
 
--- accepted, plain: the lengths of the fields, and how many zeros stand before the scalar in the image, decide
+-- accepted, plain: the lengths of its keys' fields, and how many zeros stand before each scalar in the image, decide
 pub report-accepted :
     (s : List ℕ) (all : AllBytes s) (f : Fields) → readAt s ≡ read.Record f → f .section .kind ≡ kind.Plain
-    → (zeros : ℕ)
-    × Stands s f zeros
-    × (reportOf s ≡ lines (shown (f .header .algorithm) zeros (publicIn s f) (privateIn s f) (length (viewOf s (f .section .comment)))))
+    → (zs : List ℕ) × Stands s f zs × (reportOf s ≡ lines (shown zs (keysIn s f)))
 report-accepted s all f e plain =
-    let p = plain-of s all f e plain in
-    let a = f .header .algorithm in
-    let image = plainImage (f .section .checkint) (alone (blob a (publicIn s f))) (alone (entry (keypair a (p .zeros) (publicIn s f) (privateIn s f)) (viewOf s (f .section .comment)))) in
-    let limit : length image ≤ 65535 = omega (arith, ap length (p .text), p .fits) in (
-      p .zeros,
-      (p .text, p .key-fits .may),
-      ap reportOf (p .text)
-          ∙ report-plain (f .section .checkint) a (p .zeros) (publicIn s f) (privateIn s f) (viewOf s (f .section .comment)) (p .checkint-fits) (p .key-fits)
-          limit,
+    let p = keys-of s all f e plain in
+    let z = stands-some s all f e plain in
+    let n = f .section .checkint in
+    let keys = keysIn s f in
+    let text : s ≡ imageOf n (z .0) keys = z .1 .0 in (
+      z .0,
+      z .1,
+      ap reportOf text
+          ∙ report-plain n (z .0) keys
+          (record {
+            checkint-fits = p .checkint-fits;
+            keys-fit = stands-fit s all f e plain (z .0) (z .1);
+            some = omega (arith, p .counted, keys-some (f .header .cipher) (f .header .count) (p .allowed));
+            few = omega (arith, p .counted, keys-most (f .header .cipher) (f .header .count) (p .allowed));
+            limit = omega (arith, ap length text, p .fits);
+          }),
     )
 
 -- accepted, encrypted

@@ -1,13 +1,14 @@
 -- docs/RULES.md, 11, and 16.2, the second demand: what the plain writer writes is in the form. So is what a rewrite writes of an accepted image, and it is read as the same
--- record, a scalar in its form. It does write: `rewrite-sized` (Form) says that a rewrite of an accepted image is refused for size and room
+-- record, with the same keys in their order, each scalar in its form. It does write: `rewrite-sized` (Form) says that a rewrite of an accepted image is refused for size and room
 -- only.
-use Prim.Native.Nat.{ℕ, _-_, _%_, _≤_, _<_, _^_}
+use Prim.Native.Nat.{ℕ, suc, _-_, _%_, _≤_, _<_, _^_}
+use native.Mathlib.Omega.{arith}
 use mathlib.Core.Path.{_≡_, refl, sym, _∙_, ap}
 use mathlib.Core.Bool.{true}
-use mathlib.Core.List.{List, []}
+use mathlib.Core.List.{List, [], _∷_, map}
 use lib.Dec.{eqb}
 use lib.ListN.{length, take}
-use Rattle.fields.specs.Bytes.{AllBytes, same-true}
+use Rattle.fields.specs.Bytes.{AllBytes, same-true, same-self}
 use Rattle.fields.specs.Fields.{fault, absent, within, bytesAt, stringAt, endAt, viewOf}
 use Rattle.fields.specs.Place.{clash, by-bool, by-field, by-uint32, by-ending}
 use Rattle.fields.specs.Rest.{view-absent}
@@ -15,58 +16,65 @@ use Rattle.fields.specs.declared.Cursor.{Cursor}
 use Rattle.fields.specs.declared.Refusal.the-variants.{Crypto}
 use Rattle.names.specs.declared.Algorithm.{Algorithm}
 use Rattle.names.specs.declared.Cipher.{Cipher}
+use Rattle.names.specs.declared.Cipher.the-variants as cipher
 use Rattle.names.specs.declared.Kdf.{Kdf}
 use Rattle.names.specs.declared.Kdf.the-variants as kdf
 use Rattle.names.specs.Ciphers.{isNone, blockSize, tagLength}
-use Rattle.format.specs.Format.{PublicBytes, PrivateBytes, trimmed, filled, zerosAsked, blob, keypair, plainImage, writtenImage, alone, entry, keyOf}
-use Rattle.format.specs.Scalars.{rule-may, written-own}
+use Rattle.format.specs.Format.{Key, keyBlob, standingEntries, plainImage}
+use Rattle.format.specs.Scalars.{keyZeros, rule-may, written-own}
 use Rattle.key_public.specs.declared.Public.{Public}
 use Rattle.reader_section.specs.declared.Kind.the-variants.{Plain, Encrypted}
 use Rattle.reader_header.specs.declared.Header.{Header}
-use Rattle.reader_header.specs.Header.{onKdf, secondBlob}
+use Rattle.reader_header.specs.Header.{onKdf, keysAllowed, secondBlob}
+use Rattle.reader_header.specs.Place.{keys-sealed, one-allowed}
 use Rattle.reader_section.specs.declared.SectionRead.{SectionRead}
 use Rattle.reader_section.specs.declared.SectionRead.the-variants as section-read
-use Rattle.reader_entries.specs.Entries.{keysAt}
+use Rattle.reader_entries.specs.Entries.{keysAt, keyRead}
 use Rattle.reader_entries.specs.Read.{by-keys}
 use Rattle.reader_section.specs.Section.{checkintsAt, paddingAt, closedAt, contentAt, endedAt, plainAt, encryptedAt}
-use Rattle.reader_entries.specs.Back.{KeyFits}
+use Rattle.reader_entries.specs.Back.{KeyFits, AllFit}
 use Rattle.reader_section.specs.Read.{by-section}
 use Rattle.reader_image.specs.declared.Fields.{Fields}
 use Rattle.reader_image.specs.declared.ImageRead.the-variants as read
-use Rattle.reader_image.specs.Container.{publicIn, privateIn, materialIn, firstIn, kdfNamePlace, sectionAt, readAt}
+use Rattle.reader_image.specs.Container.{publicIn, privateIn, firstIn, otherPlaces, keysIn, kdfNamePlace, sectionAt, readAt}
 use Rattle.reader_image.specs.Form.{rewritten, formOf}
-use Rattle.reader_image.specs.Read.{halves, PlainText, ImageText, plain-text, encrypted-text, image-text}
-use Rattle.reader_image.specs.FormLaws.{rewritten-one, form-encrypted}
-use Rattle.reader_image.specs.Back.{plain-image-back}
+use Rattle.reader_image.specs.Read.{halves, KeysText, ImageText, plain-text, encrypted-text, image-text}
+use Rattle.reader_image.specs.FormLaws.{fit-private, rewritten-plain, form-encrypted}
+use Rattle.reader_image.specs.Back.{keys-image-back}
 use Rattle.writer_reply.specs.declared.Written.{Written}
 use Rattle.writer_reply.specs.declared.Written.the-variants as written
-use Rattle.writer_plain.specs.Plain.{plainLeft, isPlain}
+use Rattle.writer_plain.specs.Plain.{keysLeft}
 use Rattle.writer_again.specs.Rewrite.{isRewritten}
-use Rattle.claims.specs.Reading.{Own, plain-accepted, plain-written, read-after-write}
-use Rattle.claims.specs.Again.{back-form}
-use Rattle.claims.specs.Form.{Stands, rewrite-written}
-use Rattle.claims.specs.Kept.{one-record}
+use Rattle.claims.specs.Reading.{AllOwn, Writes, trimmedKey, plain-accepted, plain-written, written-stands, read-after-write}
+use Rattle.claims.specs.Form.{keys-form, rewrite-written}
+use Rattle.claims.specs.Change.{one-record}
 
 -- ---- what the plain writer writes
 
 pub plain-in-form :
-    (a : Algorithm) (key : PublicBytes) (x : PrivateBytes) (n : ℕ) (comment old : List ℕ) (r : Written) (out : List ℕ) (k : ℕ) → n < 2 ^ 32 → Own a key x
-    → isPlain a key x n comment old r out → r ≡ written.Length k
+    (keys : List Key) (n : ℕ) (old : List ℕ) (r : Written) (out : List ℕ) (k : ℕ) → n < 2 ^ 32 → AllOwn keys → Writes keys n old r out → r ≡ written.Length k
     → (f : Fields) × (readAt (take k out) ≡ read.Record f) × (formOf (take k out) f ≡ true)
-plain-in-form a key x n comment old r out k small own meets answered =
+plain-in-form [] n old r out k small own meets answered =
+    absurd (omega (arith, plain-accepted [] n (length old) k (sym (meets .0) ∙ answered) .some))
+plain-in-form (x ∷ others) n old r out k small own meets answered =
+    let keys = x ∷ others in
     let e = sym (meets .0) ∙ answered in
-    let b = read-after-write a key x n comment old k small own e in
-    let t = take k (plainLeft a key x n comment old) in
-    let material = plain-accepted a key x n comment (length old) k e .material own in
-    let text : t ≡ writtenImage n (alone (keyOf a key (filled a (trimmed a x)) comment)) =
-    plain-written a key x n comment old k e ∙ ap (λ (y : PrivateBytes). writtenImage n (alone (keyOf a key y comment))) (sym material) in
-    rw (meets .1) (b .fields, b .read, back-form t n a key (trimmed a x) comment _ text b)
+    let b = read-after-write x others n old k small own e in
+    let rule = map keyZeros (map trimmedKey keys) in
+    let text = plain-written keys n old k e ∙ written-stands n keys in
+    let form =
+    keys-form (take k (keysLeft keys n old)) (b .fields) n rule (map trimmedKey keys) (b .plain) (b .same-checkint) (b .same-keys)
+    (plain-accepted keys n (length old) k e .fits own) text
+    ∙ same-self rule in
+    rw (meets .1) (b .fields, b .read, form)
 
 -- ---- what a rewrite writes
 
 -- the record g of t says what the record f of s says: all but how many bytes the padding has
 pub record SameRecord (s : List ℕ) (f : Fields) (t : List ℕ) (g : Fields) : Type 0 where
   pub kind : g .section .kind ≡ f .section .kind
+  pub count : g .header .count ≡ f .header .count
+  pub keys : keysIn t g ≡ keysIn s f
   pub cipher : g .header .cipher ≡ f .header .cipher
   pub kdf : g .header .kdf ≡ f .header .kdf
   pub salt : viewOf t (g .header .salt) ≡ viewOf s (f .header .salt)
@@ -87,8 +95,10 @@ pub record Rewritten (s : List ℕ) (f : Fields) (t : List ℕ) : Type 0 where
   pub read : readAt t ≡ read.Record fields
   pub form : formOf t fields ≡ true
   pub same : SameRecord s f t fields
-  -- before a plain image's scalar stand the zeros that the writer's rule asks for
-  pub stands : f .section .kind ≡ Plain → Stands t fields (zerosAsked (f .header .algorithm) (privateIn s f))
+  -- before each scalar of a plain image stand the zeros that the writer's rule asks for
+  pub stands :
+      f .section .kind ≡ Plain
+      → t ≡ plainImage (f .section .checkint) (map keyBlob (keysIn s f)) (standingEntries (map keyZeros (keysIn s f)) (keysIn s f))
 
 -- ---- a plain section has neither ciphertext nor tag
 
@@ -172,60 +182,71 @@ no-seal s f e plain =
 
 -- ---- the claim
 
+-- keys that fit, with the zeros that the rule asks for
+rule-fit : (zs : List ℕ) (keys : List Key) → AllFit zs keys → AllFit (map keyZeros keys) keys
+rule-fit [] [] fits = tt
+rule-fit (z ∷ zs) (k ∷ keys) fits =
+    let own = fits .0 in
+    let one : KeyFits (k .algorithm) (keyZeros k) (k .public) (k .private) (k .comment) =
+    record {
+      public = own .public;
+      private = own .private;
+      may = rule-may (k .algorithm) (k .public) (k .private) (own .private);
+      text = own .text;
+    } in
+    (one, rule-fit zs keys (fits .1))
+
+-- as many keys as are read may be written
+count-plain : (c : Cipher) (n : ℕ) → keysAllowed c n ≡ true → keysAllowed cipher.None n ≡ true
+count-plain c n e = by-bool (isNone c) (λ w. rw w at e) (λ w. rw (keys-sealed c n w e) (one-allowed cipher.None))
+
 module _ (s : List ℕ) (all : AllBytes s) (f : Fields) (e : readAt s ≡ read.Record f) where
   -- a plain record is written with the zeros that the rule asks for
-  plain-text-is :
-      f .section .kind ≡ Plain → PlainText s f
-      → (rewritten s f
-      ≡ writtenImage (f .section .checkint) (alone (keyOf (f .header .algorithm) (publicIn s f) (materialIn s f) (viewOf s (f .section .comment)))))
-      × (rewritten s f
-      ≡ plainImage (f .section .checkint) (alone (blob (f .header .algorithm) (publicIn s f))) (alone (entry (keypair (f .header .algorithm) (zerosAsked (f .header .algorithm) (privateIn s f)) (publicIn s f) (privateIn s f)) (viewOf s (f .section .comment)))))
-  plain-text-is plain p =
-      let own = rewritten-one s f p plain in
-      (own, own ∙ written-own (f .section .checkint) (alone (firstIn s f)) (p .key-fits .private, tt))
-
-  plain-read : f .section .kind ≡ Plain → PlainText s f → length (rewritten s f) ≤ 65535 → Rewritten s f (rewritten s f)
+  plain-read : f .section .kind ≡ Plain → KeysText s f → length (rewritten s f) ≤ 65535 → Rewritten s f (rewritten s f)
+  unfolding keysIn
   plain-read plain p small =
       let t = rewritten s f in
       let n = f .section .checkint in
-      let a = f .header .algorithm in
-      let key = publicIn s f in
-      let x = privateIn s f in
-      let comment = viewOf s (f .section .comment) in
-      let zeros = zerosAsked a x in
-      let text = plain-text-is plain p in
-      let fits : KeyFits a zeros key x comment = record { public = p .key-fits .public; private = p .key-fits .private; may = rule-may a key x (p .key-fits .private); text = p .key-fits .text } in
-      let b = plain-image-back t n a zeros key x comment small (p .checkint-fits) fits (text .1) in
-      let o = plain-image-back s n a (p .zeros) key x comment (p .fits) (p .checkint-fits) (p .key-fits) (p .text) in
+      let k = firstIn s f in
+      let others = map (keyRead s) (otherPlaces f) in
+      let keys = k ∷ others in
+      let zs = p .zeros ∷ p .more-zeros in
+      let rule = map keyZeros keys in
+      let fits = rule-fit zs keys (p .keys-fit) in
+      let text : t ≡ plainImage n (map keyBlob keys) (standingEntries rule keys) =
+      rewritten-plain s f plain ∙ written-own n keys (fit-private zs keys (p .keys-fit)) in
+      let allowed : keysAllowed cipher.None (suc (length others)) ≡ true =
+      rw (← p .counted) (count-plain (f .header .cipher) (f .header .count) (p .allowed)) in
+      let b = keys-image-back t n k others (keyZeros k) (map keyZeros others) small (p .checkint-fits) fits allowed text in
+      let o = keys-image-back s n k others (p .zeros) (p .more-zeros) (p .fits) (p .checkint-fits) (p .keys-fit) allowed (p .text) in
       let own = one-record s (o .fields) f (o .read) e in
       let none = no-seal s f e plain in
       let also-none = no-seal t (b .fields) (b .read) (b .plain) in
       record {
         fields = b .fields;
         read = b .read;
-        form = back-form t n a key x comment _ (text .0) b;
+        form =
+            keys-form t (b .fields) n rule keys (b .plain) (b .same-checkint) (b .same-keys) fits text ∙ same-self rule;
         same =
             record {
               kind = b .plain ∙ sym plain;
+              count = b .same-count ∙ sym (p .counted);
+              keys = b .same-keys;
               cipher = b .no-cipher ∙ sym (rw own at (o .no-cipher));
               kdf = b .no-kdf ∙ sym (rw own at (o .no-kdf));
               salt = b .no-salt ∙ sym (rw own at (o .no-salt));
               rounds = b .no-rounds ∙ sym (rw own at (o .no-rounds));
-              algorithm = b .same-algorithm;
+              algorithm = ap (λ (y : Key). y .algorithm) (b .same-first);
               blob-bytes = b .same-blob ∙ sym (p .content);
-              public = b .same-public;
+              public = ap (λ (y : Key). y .public) (b .same-first);
               bits = b .same-bits ∙ sym (rw own at (o .same-bits));
               checkint = b .same-checkint;
-              private = b .same-private;
-              comment = b .same-comment;
+              private = ap (λ (y : Key). y .private) (b .same-first);
+              comment = ap (λ (y : Key). y .comment) (b .same-first);
               ciphertext = also-none .0 ∙ sym (none .0);
               tag = also-none .1 ∙ sym (none .1);
             };
-        stands =
-            λ kind. (
-              rw (b .same-checkint, b .same-algorithm, b .same-public, b .same-private, b .same-comment) (text .1),
-              rw (b .same-algorithm, b .same-private) (fits .may),
-            );
+        stands = λ kind. text;
       }
 
   -- an encrypted image is written as it is
@@ -239,6 +260,8 @@ module _ (s : List ℕ) (all : AllBytes s) (f : Fields) (e : readAt s ≡ read.R
         same =
             record {
               kind = refl;
+              count = refl;
+              keys = refl;
               cipher = refl;
               kdf = refl;
               salt = refl;

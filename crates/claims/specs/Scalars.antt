@@ -33,14 +33,14 @@ use Rattle.reader_entries.specs.Back.{KeyFits}
 use Rattle.reader_section.specs.declared.Kind.the-variants.{Plain}
 use Rattle.reader_image.specs.declared.Fields.{Fields}
 use Rattle.reader_image.specs.declared.ImageRead.the-variants as read
-use Rattle.reader_image.specs.Container.{readAt}
+use Rattle.reader_image.specs.Container.{keysIn, readAt}
 use Rattle.reader_image.specs.Form.{formOf}
 use Rattle.reader_image.specs.Back.{plain-image-back}
-use Rattle.reader_image.specs.FormLaws.{form-back, plain-of}
+use Rattle.reader_image.specs.FormLaws.{form-back}
 use Rattle.writer_reply.specs.declared.Written.the-variants as written
 use Rattle.writer_plain.specs.Plain.{plainReply}
 use Rattle.claims.specs.Reading.{elliptic-held}
-use Rattle.claims.specs.Form.{Stands, scalarIn, ecdsa-fits, ecdsa-may}
+use Rattle.claims.specs.Form.{keyIn, scalarIn, Stands, fit-at, ecdsa-there, ecdsa-fits, ecdsa-may, stands-fit, stands-some}
 
 -- ---- what is read
 
@@ -91,29 +91,34 @@ reads-stored k n point stored comment fit public is long text small =
           ∙ ap isMpint (standing-again stored);
     }
 
--- and no other: of every accepted plain image of an ECDSA key the string in the image, zeros and scalar, is one that may be a scalar's; the
--- scalar has 1 to SIZE bytes and no leading zero, and stands for the string's number
-pub record ScalarTold (s : List ℕ) (f : Fields) (k : Curve) : Type 0 where
-  pub zeros : ℕ
+-- and no other: of every ECDSA key in an accepted plain image, of the one that i others stand before, the string in the image, zeros and scalar, is one that may
+-- be a scalar's; the scalar has 1 to SIZE bytes and no leading zero, and stands for the string's number
+pub record ScalarTold (s : List ℕ) (f : Fields) (i : ℕ) (k : Curve) : Type 0 where
+  pub zeros : List ℕ
   pub stands : Stands s f zeros
-  pub short : length (scalarIn s f) ≤ sizeOf k
-  pub first : 0 < getD (scalarIn s f) 0 0
-  pub stored : isScalar (sizeOf k) (standing zeros (scalarIn s f)) ≡ true
-  pub number : value (standing zeros (scalarIn s f)) ≡ value (scalarIn s f)
+  pub short : length (scalarIn s f i) ≤ sizeOf k
+  pub first : 0 < getD (scalarIn s f i) 0 0
+  pub stored : isScalar (sizeOf k) (standing (getD zeros i 0) (scalarIn s f i)) ≡ true
+  pub number : value (standing (getD zeros i 0) (scalarIn s f i)) ≡ value (scalarIn s f i)
 
 pub scalar-told :
-    (s : List ℕ) (all : AllBytes s) (f : Fields) → readAt s ≡ read.Record f → f .section .kind ≡ Plain → (k : Curve) → f .header .algorithm ≡ OnCurve (Ecdsa k)
-    → ScalarTold s f k
-scalar-told s all f e plain k q =
-    let p = plain-of s all f e plain in
-    let fits = ecdsa-fits s f k q (p .key-fits .private) in
+    (s : List ℕ) (all : AllBytes s) (f : Fields) → readAt s ≡ read.Record f → f .section .kind ≡ Plain → (i : ℕ) (k : Curve)
+    → keyIn s f i .algorithm ≡ OnCurve (Ecdsa k) → ScalarTold s f i k
+scalar-told s all f e plain i k q =
+    let z = stands-some s all f e plain in
+    let key = keyIn s f i in
+    let there = ecdsa-there (keysIn s f) i k q in
+    let fits = fit-at (z .0) (keysIn s f) (stands-fit s all f e plain (z .0) (z .1)) i there in
+    let zeros = getD (z .0) i 0 in
+    let scalar = ecdsa-fits (key .algorithm) (key .public) (key .private) k q (fits .private) in
+    let may = ecdsa-may (key .algorithm) (key .private) k q zeros (fits .may) in
     record {
-      zeros = p .zeros;
-      stands = (p .text, p .key-fits .may);
-      short = fits .0;
-      first = fits .1;
-      stored = scalar-stands (sizeOf k) (p .zeros) (scalarIn s f) (fits .1) (fits .0) (ecdsa-may s f k q (p .zeros) (p .key-fits .may));
-      number = value-standing (p .zeros) (scalarIn s f);
+      zeros = z .0;
+      stands = z .1;
+      short = scalar .0;
+      first = scalar .1;
+      stored = scalar-stands (sizeOf k) zeros (scalarIn s f i) (scalar .1) (scalar .0) may;
+      number = value-standing zeros (scalarIn s f i);
     }
 
 -- why a string isn't a scalar's, at any size, and how far from its field's beginning that is: empty 1; above size + 1 bytes 6, with the

@@ -1,36 +1,39 @@
 -- What the contracts shut out: no program that meets its contract refuses everything, replies the same always, stores nothing, gives
 -- one count for every refusal with number 6, or changes the first comment and only says so for later ones. A program here is any function of
 -- what it is given, which is bytes, however many, a checkint of 32 bits and a length of 64; of anything else nothing is asked.
-use Prim.Native.Nat.{ℕ, zero, suc, _-_, _<_, _^_}
+use Prim.Native.Nat.{ℕ, zero, suc, _≤_, _<_, _^_}
 use native.Mathlib.Omega.{arith}
 use mathlib.Core.Path.{_≡_, refl, sym, _∙_, ap}
 use mathlib.Core.Bool.{Bool, true, _&&_}
-use mathlib.Core.List.{List, [], _∷_}
+use mathlib.Core.List.{List, [], _∷_, map}
 use borrow.Author.Tests.{ltb-true}
 use lib.Dec.{ltb}
-use lib.ListN.{length, take, getD, replicate}
+use lib.ListN.{length, take, getD, replicate, length-map}
 use lib.Seq.{take-length}
-use Rattle.fields.specs.Bytes.{uint32, string, AllBytes, both-true}
+use Rattle.fields.specs.Bytes.{uint32, string, AllBytes, both-true, same-self}
 use Rattle.fields.specs.Place.{clash}
 use Rattle.fields.specs.Refusals.{numberOf, countOf}
 use Rattle.fields.specs.declared.Fault.{Fault}
 use Rattle.names.specs.declared.Algorithm.{Algorithm}
 use Rattle.names.specs.declared.Algorithm.the-variants.{Elliptic as OnCurve}
 use Rattle.names.specs.declared.Elliptic.the-variants.{Ed25519}
-use Rattle.format.specs.Format.{PublicBytes, PrivateBytes, ofPoint, ofScalar, magic, blob, keypair, header, trimmed, filled, zerosAsked, writtenPair, paddingLength, content, section, plainImage, writtenImage, alone, entry, keyOf}
+use Rattle.utf8.specs.Utf8.{utf8}
+use Rattle.format.specs.Format.{PublicBytes, PrivateBytes, Key, keyOf, filledKey, ofPoint, ofScalar, magic, blob, keypair, header, paddingLength, standingEntries, content, section, plainImage, writtenImage, alone}
+use Rattle.format.specs.Scalars.{keyZeros}
 use Rattle.reader_image.specs.declared.ImageRead.{ImageRead}
 use Rattle.reader_image.specs.declared.ImageRead.the-variants as read
 use Rattle.reader_image.specs.Container.{answersRead}
-use Rattle.reader_image.specs.Back.{PlainImageBack, plain-image-back}
+use Rattle.reader_image.specs.Back.{KeysImageBack}
 use Rattle.reader_image.specs.Form.{formOf}
 use Rattle.writer_reply.specs.declared.Written.{Written}
 use Rattle.writer_reply.specs.declared.Written.the-variants as written
-use Rattle.writer_plain.specs.Plain.{plainReply, plainLeft, isPlain}
-use Rattle.comment_change.specs.Change.{afresh, changeReply, changeLeft, isChange}
-use Rattle.claims.specs.Reading.{Own, PlainAccepted, plain-accepted, plain-written}
-use Rattle.claims.specs.Again.{back-form}
+use Rattle.writer_plain.specs.Plain.{plainReply, plainLeft, isPlain, plain-alone, left-alone}
+use Rattle.edit_shells.specs.Keys.{changeKey}
+use Rattle.edit_file.specs.Edits.{fileKeys, changeReply, changeLeft, isChange}
+use Rattle.claims.specs.Reading.{AllOwn, trimmedKey, PlainAccepted, plain-accepted, plain-written, written-stands, plain-admitted, written-within}
+use Rattle.claims.specs.Form.{keys-form}
 use Rattle.claims.specs.Demand.{Asked, demand-three}
-use Rattle.claims.specs.Sizes.{Key, Ascii, ed25519-takes}
+use Rattle.claims.specs.Sizes.{Key as KeyParts, Ascii, ed25519-takes}
 use Rattle.claims.specs.Marked.{p256Image, other-scalars, marked}
 
 -- ---- plain writers
@@ -67,7 +70,7 @@ public32 = ofPoint bytes32
 abbrev private32 : PrivateBytes
 private32 = ofScalar bytes32
 
-parts : Key Ed25519 bytes32 bytes32
+parts : KeyParts Ed25519 bytes32 bytes32
 parts = record { long = refl; tag = refl; private = refl; some = refl }
 
 -- comments of c letters
@@ -148,7 +151,8 @@ module _ (w : Writer) (meets : MeetsPlain w) where
   stores-nothing same =
       let kept : plainLeft ed25519 public32 private32 7 [] buffer ≡ buffer = sym (meets ed25519 public32 private32 7 [] buffer given-none .1) ∙ same ed25519 public32 private32 7 [] buffer given-none in
       let image : take 234 buffer ≡ writtenImage 7 (alone (keyOf ed25519 public32 private32 [])) =
-      ap (take 234) (sym kept) ∙ plain-written ed25519 public32 private32 7 [] buffer 234 takes-234 in
+      ap (take 234) (sym kept ∙ left-alone ed25519 public32 private32 7 [] buffer)
+      ∙ plain-written (alone (keyOf ed25519 public32 private32 [])) 7 buffer 234 (sym (plain-alone ed25519 public32 private32 7 [] 300) ∙ takes-234) in
       let e : _≡_ {A = ℕ} 0 111 = ap (λ (l : List ℕ). getD l 0 0) image in
       omega arith
 
@@ -173,71 +177,92 @@ made-up-count reader meets count same =
 
 -- ---- comment changes
 
--- what a comment change is given: the buffer, the image's length, the comment
+-- what a comment change is given: the buffer, the image's length, the key's number, the comment
 pub record Changer : Type 0 where
-  pub reply : List ℕ → ℕ → List ℕ → Written
-  pub leaves : List ℕ → ℕ → List ℕ → List ℕ
+  pub reply : List ℕ → ℕ → ℕ → List ℕ → Written
+  pub leaves : List ℕ → ℕ → ℕ → List ℕ → List ℕ
 
 -- that it meets the contract of a change, whatever it is given
 abbrev pub MeetsChange : Changer → Type 0
 MeetsChange w =
-    (old : List ℕ) (n : ℕ) (comment : List ℕ) → AllBytes old → n < 2 ^ 64 → AllBytes comment
-    → isChange old n comment (w .reply old n comment) (w .leaves old n comment)
+    (old : List ℕ) (n k : ℕ) (comment : List ℕ) → AllBytes old → n < 2 ^ 64 → k < 2 ^ 64 → AllBytes comment
+    → isChange old n k comment (w .reply old n k comment) (w .leaves old n k comment)
 
--- a written image in a buffer of its length, changed to a comment that takes the same length, becomes the image with that comment
-module _ (a : Algorithm) (key : PublicBytes) (x : PrivateBytes) (n : ℕ) (fit : n < 2 ^ 32) (own : Own a key x) (first second : List ℕ) (k : ℕ)
-    (was : PlainAccepted a key x n first k k) (fits : plainReply a key x n second k ≡ written.Length k) where
+-- a written image of any keys in a buffer of its length, the comment of key j changed to one that takes the same length, becomes the image with that comment
+module _ (n : ℕ) (fit : n < 2 ^ 32) (x : Key) (others : List Key) (own : AllOwn (x ∷ others)) (k : ℕ) (was : PlainAccepted (x ∷ others) n k k)
+    (j : ℕ) (some : 1 ≤ j) (there : j ≤ suc (length others)) (comment : List ℕ) (text : utf8 comment ≡ true)
+    (will : PlainAccepted (changeKey j comment (x ∷ others)) n k k) where
+  abbrev keys : List Key
+  keys = x ∷ others
+
   abbrev s : List ℕ
-  s = writtenImage n (alone (keyOf a key x first))
+  s = writtenImage n keys
 
-  back : PlainImageBack s n a key (trimmed a x) first (paddingLength (length (content n (alone (entry (writtenPair a key x) first)))))
-  unfolding writtenImage
-  back = plain-image-back s n a (zerosAsked a (trimmed a x)) key (trimmed a x) first (was .small) fit (was .fits own) refl
+  abbrev rule : List ℕ
+  rule = map keyZeros (map trimmedKey keys)
 
-  -- the record's material is what the image was written of
-  material : filled a (trimmed a x) ≡ x
-  material = was .material own
+  back : KeysImageBack s n (trimmedKey x) (map trimmedKey others) (paddingLength (length (content n (standingEntries rule (map trimmedKey keys)))))
+  back =
+      rw (written-stands n keys)
+      (plain-admitted n (keyZeros (trimmedKey x)) (map keyZeros (map trimmedKey others)) (trimmedKey x) (map trimmedKey others)
+      (written-within keys n k k fit own was))
 
   all : take k s ≡ s
   all = ap (λ (i : ℕ). take i s) (was .size) ∙ take-length s
 
   in-form : formOf s (back .fields) ≡ true
-  in-form = back-form s n a key (trimmed a x) first _ (ap (λ (y : PrivateBytes). writtenImage n (alone (keyOf a key y first))) (sym material)) back
+  in-form =
+      keys-form s (back .fields) n rule (map trimmedKey keys) (back .plain) (back .same-checkint) (back .same-keys) (was .fits own) (written-stands n keys)
+      ∙ same-self rule
+
+  -- the record's keys, filled, are those that the image was written of
+  keys-are : fileKeys s (back .fields) ≡ keys
+  unfolding fileKeys
+  keys-are = ap (map filledKey) (back .same-keys) ∙ was .material own
 
   -- written afresh, it is the image with that comment
-  afresh-is : afresh (take k s) (back .fields) second ≡ writtenImage n (alone (keyOf a key x second))
-  unfolding afresh
-  afresh-is = rw (all, back .same-checkint, back .same-algorithm, back .same-public, back .same-private, material)
+  abbrev afresh : List ℕ
+  afresh = writtenImage (back .fields .section .checkint) (changeKey j comment (fileKeys (take k s) (back .fields)))
+
+  afresh-is : afresh ≡ writtenImage n (changeKey j comment keys)
+  afresh-is = rw (all, keys-are, back .same-checkint)
 
   -- what demand 3 begins with
-  asked : AllBytes s → Asked s k (back .fields) second
+  asked : AllBytes s → Asked s k (back .fields) j comment
   asked bytes =
-      let will = plain-accepted a key x n second k k fits in
+      let counted : length (map trimmedKey others) ≡ length others = length-map others trimmedKey in
       record {
         bytes = bytes;
         inside = omega (arith, was .size);
         image = rw all (record { was-read = back .read; plain = back .plain; form = in-form });
-        text = will .text;
+        some = some;
+        there = omega (arith, there, counted, back .same-count);
+        text = text;
         small = rw afresh-is (will .small);
         fits = rw afresh-is (omega (arith, will .room-enough, was .size));
       }
 
-  changes-to : AllBytes s → (changeReply s k second ≡ written.Length k) × (changeLeft s k second ≡ writtenImage n (alone (keyOf a key x second)))
+  changes-to : AllBytes s → (changeReply s k j comment ≡ written.Length k) × (changeLeft s k j comment ≡ writtenImage n (changeKey j comment keys))
   changes-to bytes =
-      let will = plain-accepted a key x n second k k fits in
-      let d = demand-three s k (back .fields) second (asked bytes) (changeReply s k second) (changeLeft s k second) (refl, refl, refl) in
-      let size : length (afresh (take k s) (back .fields) second) ≡ k = ap length afresh-is ∙ sym (will .size) in
-      let long : length (changeLeft s k second) ≡ k = d .same-length ∙ sym (was .size) in (
-        rw size at (d .answered),
-        sym (take-length (changeLeft s k second)) ∙ ap (λ (i : ℕ). take i (changeLeft s k second)) (long ∙ sym size) ∙ d .image ∙ afresh-is,
+      let d = demand-three s k (back .fields) j comment (asked bytes) (changeReply s k j comment) (changeLeft s k j comment) (refl, refl, refl) in
+      let size : length afresh ≡ k = ap length afresh-is ∙ sym (will .size) in
+      let long : length (changeLeft s k j comment) ≡ k = d .same-length ∙ sym (was .size) in (
+        d .answered ∙ ap written.Length size,
+        sym (take-length (changeLeft s k j comment)) ∙ ap (λ (i : ℕ). take i (changeLeft s k j comment)) (long ∙ sym size) ∙ d .image ∙ afresh-is,
       )
 
--- the key's image with a comment of one letter
-abbrev lettered : ℕ → List ℕ
-lettered letter = writtenImage 7 (alone (keyOf ed25519 public32 private32 (letter ∷ [])))
+-- the key with a comment of one letter, and its image
+abbrev letterKey : ℕ → Key
+letterKey letter = keyOf ed25519 public32 private32 (letter ∷ [])
 
-takes-letter : (letter : ℕ) → letter < 0x80 → plainReply ed25519 public32 private32 7 (letter ∷ []) 234 ≡ written.Length 234
-takes-letter letter h = ed25519-takes 1 234 4 refl (omega arith) refl bytes32 bytes32 7 (letter ∷ []) parts text refl .answer 234 (omega arith)
+abbrev lettered : ℕ → List ℕ
+lettered letter = writtenImage 7 (alone (letterKey letter))
+
+takes-letter : (letter : ℕ) → letter < 0x80 → PlainAccepted (alone (letterKey letter)) 7 234 234
+takes-letter letter h =
+    plain-accepted (alone (letterKey letter)) 7 234 234
+    (sym (plain-alone ed25519 public32 private32 7 (letter ∷ []) 234)
+    ∙ ed25519-takes 1 234 4 refl (omega arith) refl bytes32 bytes32 7 (letter ∷ []) parts text refl .answer 234 (omega arith))
   where
     text : Ascii (letter ∷ [])
     text zero l = h
@@ -246,10 +271,12 @@ takes-letter letter h = ed25519-takes 1 234 4 refl (omega arith) refl bytes32 by
 -- one letter changed to another
 relettered :
     (x y : ℕ) → x < 0x80 → y < 0x80 → AllBytes (lettered x)
-    → (changeReply (lettered x) 234 (y ∷ []) ≡ written.Length 234) × (changeLeft (lettered x) 234 (y ∷ []) ≡ lettered y)
+    → (changeReply (lettered x) 234 1 (y ∷ []) ≡ written.Length 234) × (changeLeft (lettered x) 234 1 (y ∷ []) ≡ lettered y)
+unfolding changeKey
 relettered x y hx hy bytes =
-    let h = plain-accepted ed25519 public32 private32 7 (x ∷ []) 234 234 (takes-letter x hx) in
-    changes-to ed25519 public32 private32 7 (omega arith) (refl, refl) (x ∷ []) (y ∷ []) 234 h (takes-letter y hy) bytes
+    let own : AllOwn (alone (letterKey y)) = ((refl, refl), tt) in
+    let will = takes-letter y hy in
+    changes-to 7 (omega arith) (letterKey x) [] own 234 (takes-letter x hx) 1 (omega arith) (omega arith) (y ∷ []) (will .fits own .0 .text) will bytes
 
 -- the letter stands in the image
 letter-at : (letter : ℕ) → getD (lettered letter) 229 0 ≡ letter
@@ -266,22 +293,22 @@ unfolding below
 letter-bytes = (all-below (98 ∷ []) refl, all-below (99 ∷ []) refl)
 
 -- no comment change that meets the contract changes the first comment and only says so for later ones, leaving the buffer as the
--- first change left it wherever it accepts the next
+-- first change left it wherever it accepts the next; not even of key 1 alone
 pub first-only :
     (w : Changer) → MeetsChange w
     → ((old : List ℕ) (n : ℕ) (first second : List ℕ) (k m : ℕ) → AllBytes old → n < 2 ^ 64 → AllBytes first → AllBytes second
-    → w .reply old n first ≡ written.Length k → w .reply (w .leaves old n first) k second ≡ written.Length m
-    → w .leaves (w .leaves old n first) k second ≡ w .leaves old n first)
+    → w .reply old n 1 first ≡ written.Length k → w .reply (w .leaves old n 1 first) k 1 second ≡ written.Length m
+    → w .leaves (w .leaves old n 1 first) k 1 second ≡ w .leaves old n 1 first)
     → ⊥
 first-only w meets stays =
     let to-b = relettered 97 98 (omega arith) (omega arith) (lettered-bytes .0) in
     let to-c = relettered 98 99 (omega arith) (omega arith) (lettered-bytes .1) in
     let small : 234 < 2 ^ 64 = omega arith in
-    let first = meets (lettered 97) 234 (98 ∷ []) (lettered-bytes .0) small (letter-bytes .0) in
-    let second = meets (lettered 98) 234 (99 ∷ []) (lettered-bytes .1) small (letter-bytes .1) in
-    let b : w .leaves (lettered 97) 234 (98 ∷ []) ≡ lettered 98 = first .1 ∙ to-b .1 in
-    let c : w .leaves (lettered 98) 234 (99 ∷ []) ≡ lettered 99 = second .1 ∙ to-c .1 in
-    let same : w .leaves (lettered 98) 234 (99 ∷ []) ≡ lettered 98 =
+    let first = meets (lettered 97) 234 1 (98 ∷ []) (lettered-bytes .0) small (omega arith) (letter-bytes .0) in
+    let second = meets (lettered 98) 234 1 (99 ∷ []) (lettered-bytes .1) small (omega arith) (letter-bytes .1) in
+    let b : w .leaves (lettered 97) 234 1 (98 ∷ []) ≡ lettered 98 = first .1 ∙ to-b .1 in
+    let c : w .leaves (lettered 98) 234 1 (99 ∷ []) ≡ lettered 99 = second .1 ∙ to-c .1 in
+    let same : w .leaves (lettered 98) 234 1 (99 ∷ []) ≡ lettered 98 =
     rw b at
     (stays (lettered 97) 234 (98 ∷ []) (99 ∷ []) 234 234 (lettered-bytes .0) small (letter-bytes .0) (letter-bytes .1) (first .0 ∙ to-b .0)
     (rw b (second .0 ∙ to-c .0))) in

@@ -1,103 +1,77 @@
-// The comment changed in place. All before the comment's length field stays, but the four bytes of the
-// section's length; what the old image had more than the new one becomes zero.
+// A key's comment changed in place. All before the comment's field stays, but the four bytes of the section's
+// length; what follows the comment moves, and what the old image had more than the new one becomes zero.
 ghost use mathlib.Core.Path.{_≡_};
-ghost use Prim.Native.Nat.{_+_, _-_, _≤_};
-ghost use lib.ListN.{length, take};
-ghost use Rattle.reader_image.specs.Container.{readAt};
-ghost use Rattle.reader_image.specs.Form.{formOf};
-ghost use Rattle.reader_image.specs.declared.ImageRead.the-variants as read;
-ghost use Rattle.comment_change.specs.Change.{acceptedReply, acceptedLeft, isChange};
-ghost use Rattle.comment_change.specs.Shell.{shellAt, isRenewed};
+ghost use Prim.Native.Nat.{_+_, _≤_};
+ghost use Rattle.edit_file.specs.declared.Editable.the-variants as editable;
+ghost use Rattle.edit_file.specs.Edits.{editableAt, isChange};
+ghost use Rattle.comment_change.specs.At.{isChangeAt};
+use edit_file::Editable;
 use fields::Fault;
+use fields::Part;
 use fields::Refusal;
 use reader_image::Fields;
-use reader_image::ImageRead;
-use reader_section::Kind;
+use reader_keys::Looked;
 use writer_reply::Written;
 
-// What n has more than m.
-fn more(n: usize, m: usize) -> usize
-    ensures { λ r. ⌜ r ≡ n - m ⌝ }
+// Puts a comment where one stands. The section's length field is at `section`, and the padding begins at `end`.
+fn change_at(
+    lent: &mut [u8],
+    n: usize,
+    section: usize,
+    old: Part,
+    end: usize,
+    comment: &[u8],
+) -> Written
+    requires { ⌜ (4 ≤ old .start) × (old .start + old .length ≤ 65535) ⌝ }
+    ensures { λ r. ⌜ isChangeAt section old end (now (comment .entry)) n (now (lent .entry)) r (now (lent .exit)) ⌝ }
 {
-    if m < n {
-        return n - m;
+    let field = old.start - 4;
+    if !utf8::is_utf8(comment) {
+        return Written::Refused(Fault {
+            why: Refusal::CharacterEncoding,
+            at: field,
+        });
     }
-    0
+    let past = old.start + old.length;
+    edit_change::change(lent, n, section, field, past, end, comment)
 }
 
-// Renews the comment of the image that the first n bytes are, whose section's length field is at `section`
-// and whose comment's is at `field`.
-fn renew(lent: &mut [u8], n: usize, section: usize, field: usize, comment: &[u8]) -> Written
-    requires { ⌜ (section + 4 ≤ field) × (field ≤ n) × (n ≤ 65535) × (n ≤ length (now lent)) ⌝ }
-    ensures { λ r. ⌜ isRenewed (shellAt (now (lent .entry)) section field (now (comment .entry))) n (now (lent .entry)) r (now (lent .exit)) ⌝ }
-{
-    if 65535 < comment.len() {
-        return writer_reply::refused(Refusal::Size);
-    }
-    let content = field - (section + 4) + (4 + comment.len());
-    let padding = buffer::padding(content);
-    let size = section + 4 + (content + padding);
-    if 65535 < size {
-        return writer_reply::refused(Refusal::Size);
-    }
-    if lent.len() < size {
-        return writer_reply::refused(Refusal::Room);
-    }
-    buffer::put_uint32(lent, section, content + padding);
-    let a = buffer::put_string(lent, field, comment);
-    let end = buffer::put_padding(lent, a, padding);
-    buffer::put_zeros(lent, end, more(n, end));
-    Written::Length(end)
-}
-
-// The change of an accepted image, the first n bytes, whose record is f.
-fn change_record(lent: &mut [u8], n: usize, f: Fields, form: bool, comment: &[u8]) -> Written
-    requires { ⌜ (n ≤ 65535) × (n ≤ length (now lent)) ⌝ }
-    requires { ⌜ (readAt (take n (now lent)) ≡ read.Record f) × (form ≡ formOf (take n (now lent)) f) ⌝ }
-    ensures { λ r. ⌜ (r ≡ acceptedReply (take n (now (lent .entry))) f (now (comment .entry)) (length (now (lent .entry)))) × (now (lent .exit) ≡ acceptedLeft (take n (now (lent .entry))) f (now (comment .entry)) n (now (lent .entry))) ⌝ }
+// The change in an image that may be edited, the first n bytes, whose record is f. The first key's comment stands in the
+// record, so that nothing is read again for it.
+fn change_key(lent: &mut [u8], n: usize, f: Fields, k: usize, comment: &[u8]) -> Written
+    requires { ⌜ editableAt (now lent) n ≡ editable.Image f ⌝ }
+    ensures { λ r. ⌜ isChange (now (lent .entry)) n k (now (comment .entry)) r (now (lent .exit)) ⌝ }
 {
     let header = f.header;
     let section = f.section;
-    let kind = section.kind;
-    let old = section.comment;
-    match kind {
-        Kind::Encrypted => writer_reply::refused(Refusal::Encrypted),
-        Kind::Plain => {
-            if !form {
-                return writer_reply::refused(Refusal::Form);
-            }
-            let field = old.start - 4;
-            if !utf8::is_utf8(comment) {
-                return Written::Refused(Fault {
-                    why: Refusal::CharacterEncoding,
-                    at: field,
-                });
-            }
-            renew(lent, n, header.section, field, comment)
+    let first = section.comment;
+    let end = n - section.padding;
+    if k == 1 {
+        return change_at(lent, n, header.section, first, end, comment);
+    }
+    match reader_keys::key_of(&lent[..n], f, k) {
+        Looked::Nothing => writer_reply::refused(Refusal::Length),
+        Looked::Key(key) => {
+            let old = key.comment;
+            change_at(lent, n, header.section, old, end, comment)
         }
     }
 }
 
-// Changes the comment of the image that the first n bytes of a lent buffer are, and answers the new length.
-pub fn change_comment(lent: &mut [u8], n: usize, comment: &[u8]) -> Written
-    ensures { λ r. ⌜ isChange (now (lent .entry)) n (now (comment .entry)) r (now (lent .exit)) ⌝ }
+// Changes the comment of key k of the image that the first n bytes of a lent buffer are, and answers the new
+// length. Keys count from 1.
+pub fn change_comment_of(lent: &mut [u8], n: usize, k: usize, comment: &[u8]) -> Written
+    ensures { λ r. ⌜ isChange (now (lent .entry)) n k (now (comment .entry)) r (now (lent .exit)) ⌝ }
 {
-    if 65535 < n {
-        return writer_reply::refused(Refusal::Size);
+    match edit_file::read_to_edit(lent, n) {
+        Editable::Refused(f) => Written::Refused(f),
+        Editable::Image(f) => change_key(lent, n, f, k, comment),
     }
-    if lent.len() < n {
-        return writer_reply::refused(Refusal::Length);
-    }
-    match reader_image::read(&lent[..n]) {
-        ImageRead::Refused(f) => Written::Refused(f),
-        ImageRead::Record(f) => {
-            let header = f.header;
-            let section = f.section;
-            let private = section.private;
-            let kind = section.kind;
-            let algorithm = header.algorithm;
-            let form = reader_image::scalar_in_form(&lent[..n], kind, algorithm, private.scalar);
-            change_record(lent, n, f, form, comment)
-        }
-    }
+}
+
+// The same of the first key.
+pub fn change_comment(lent: &mut [u8], n: usize, comment: &[u8]) -> Written
+    ensures { λ r. ⌜ isChange (now (lent .entry)) n 1 (now (comment .entry)) r (now (lent .exit)) ⌝ }
+{
+    change_comment_of(lent, n, 1, comment)
 }

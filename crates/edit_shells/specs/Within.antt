@@ -65,20 +65,25 @@ module _ (c : ℕ) (keys : List Key) (old : List ℕ) (n : ℕ) (stands : take n
 
   module _ (small : n ≤ 65535) (k : ℕ) (some : 0 < k) (there : k ≤ length keys) where
     module _ (blob after section pair field past end : ℕ) (places : KeyPlaces keys k blob after section pair field past end) where
+      -- its places are in order, and changed there the image is that of the edited keys
+      pub change-rises : Rises 0 (changePlaces section field past end ++ n ∷ length old ∷ [])
+      change-rises =
+          let i : k - 1 < length (map writtenEntry keys) = omega (arith, some, there, length-map keys writtenEntry) in
+          rw (places .section-is, places .field-is, places .past-is, places .end-is)
+          (change-order c (map keyBlob keys) (map writtenEntry keys) n (length old) as-long inside (k - 1) i)
+
+      pub change-there : (comment : List ℕ) → changedAt old section field past end comment ≡ writtenImage c (changeKey k comment keys)
+      change-there comment =
+          rw (places .section-is, places .field-is, places .past-is, places .end-is)
+          (change-written c keys (drop n old) old begins k comment some there)
+
       pub change-key :
           (comment : List ℕ) (r : Written) (out : List ℕ)
           → isEdit (changePlaces section field past end) (changedAt old section field past end comment) n old r out
           → isRenewed (writtenImage c (changeKey k comment keys)) n old r out
       change-key comment r out p =
-          let b = map keyBlob keys in
-          let e = map writtenEntry keys in
-          let i : k - 1 < length e = omega (arith, some, there, length-map keys writtenEntry) in
-          let order : Rises 0 (changePlaces section field past end ++ n ∷ length old ∷ []) =
-          rw (places .section-is, places .field-is, places .past-is, places .end-is) (change-order c b e n (length old) as-long inside (k - 1) i) in
-          let image : changedAt old section field past end comment ≡ writtenImage c (changeKey k comment keys) =
-          rw (places .section-is, places .field-is, places .past-is, places .end-is)
-          (change-written c keys (drop n old) old begins k comment some there) in
-          rw image at (edit-renewed (changedAt old section field past end comment) n old (changePlaces section field past end) r out small order p)
+          rw (change-there comment) at
+          (edit-renewed (changedAt old section field past end comment) n old (changePlaces section field past end) r out small change-rises p)
 
       pub remove-key :
           (count : ℕ) (r : Written) (out : List ℕ) → count ≡ length keys - 1

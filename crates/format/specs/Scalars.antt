@@ -211,27 +211,29 @@ entry-own k fits =
     ap (λ (y : PrivateBytes). entry (keypair (k .algorithm) (zerosAsked (k .algorithm) y) (k .public) y) (k .comment))
     (trimmed-filled (k .algorithm) (k .public) (k .private) fits)
 
+-- a record's keys, as the writer writes them: so many zeros before each scalar as the rule asks for
+pub written-entries : (keys : List Key) → AllPrivate keys → map writtenEntry keys ≡ standingEntries (map keyZeros keys) keys
+written-entries [] fits = refl
+written-entries (k ∷ keys) fits =
+    ap₂ (λ (e : Entry) (l : List Entry). e ∷ l) (sym (entry-filled k) ∙ entry-own k (fits .0)) (written-entries keys (fits .1))
+
 -- zeros before a scalar don't show in its blob
-blobs-filled : (keys : List Key) → map keyBlob (map filledKey keys) ≡ map keyBlob keys
+pub blobs-filled : (keys : List Key) → map keyBlob (map filledKey keys) ≡ map keyBlob keys
 blobs-filled [] = refl
 blobs-filled (k ∷ keys) = ap (λ (l : List (List ℕ)). keyBlob k ∷ l) (blobs-filled keys)
 
 -- zeros in front change nothing of it
+pub entries-filled : (keys : List Key) → map writtenEntry (map filledKey keys) ≡ map writtenEntry keys
+entries-filled [] = refl
+entries-filled (k ∷ keys) = ap₂ (λ (e : Entry) (l : List Entry). e ∷ l) (entry-filled k) (entries-filled keys)
+
 pub written-filled : (n : ℕ) (keys : List Key) → writtenImage n (map filledKey keys) ≡ writtenImage n keys
 unfolding writtenImage
-written-filled n keys = ap₂ (plainImage n) (blobs-filled keys) (entries keys)
-  where
-    entries : (ks : List Key) → map writtenEntry (map filledKey ks) ≡ map writtenEntry ks
-    entries [] = refl
-    entries (k ∷ ks) = ap₂ (λ (e : Entry) (l : List Entry). e ∷ l) (entry-filled k) (entries ks)
+written-filled n keys = ap₂ (plainImage n) (blobs-filled keys) (entries-filled keys)
 
 -- of a record's private bytes it has the zeros that the rule asks for, and the bytes
 pub written-own :
     (n : ℕ) (keys : List Key) → AllPrivate keys
     → writtenImage n (map filledKey keys) ≡ plainImage n (map keyBlob keys) (standingEntries (map keyZeros keys) keys)
 unfolding writtenImage
-written-own n keys fits = ap₂ (plainImage n) (blobs-filled keys) (entries keys fits)
-  where
-    entries : (ks : List Key) → AllPrivate ks → map writtenEntry (map filledKey ks) ≡ standingEntries (map keyZeros ks) ks
-    entries [] fit = refl
-    entries (k ∷ ks) fit = ap₂ (λ (e : Entry) (l : List Entry). e ∷ l) (entry-own k (fit .0)) (entries ks (fit .1))
+written-own n keys fits = ap₂ (plainImage n) (blobs-filled keys) (entries-filled keys ∙ written-entries keys fits)

@@ -1,6 +1,8 @@
 // Scalars and keypairs, as a plain section has them.
 ghost use mathlib.Core.Path.{_≡_};
+ghost use Prim.Native.Nat.{_-_};
 ghost use mathlib.Core.Bool.{cond};
+ghost use lib.Dec.{ltb};
 ghost use Rattle.fields.specs.Fields.{fault, absent, viewOf};
 ghost use Rattle.fields.specs.declared.Field.the-variants as field;
 ghost use Rattle.fields.specs.declared.Refusal.the-variants.{FormatEncoding};
@@ -57,6 +59,16 @@ fn scalar_in(image: &[u8], stored: Part, next: Cursor, size: usize, at: usize) -
     })
 }
 
+// Is a length above size by more than one?
+fn is_longer(length: usize, size: usize) -> bool
+    ensures { λ r. ⌜ r ≡ ltb 1 (length - size) ⌝ }
+{
+    if size < length {
+        return length - size > 1;
+    }
+    false
+}
+
 // A scalar of any size: 1 to size bytes, or size + 1 that begin with a zero. What is read has no leading zeros.
 // A longer string is refused like a fixed field of size.
 pub fn read_scalar(c: Cursor, image: &[u8], size: usize) -> Field
@@ -73,13 +85,10 @@ pub fn read_scalar(c: Cursor, image: &[u8], size: usize) -> Field
                     at: at,
                 });
             }
-            if length <= size {
-                return scalar_in(image, p, d, size, at);
+            if is_longer(length, size) {
+                return c.fixed(image, size);
             }
-            if length - size == 1 {
-                return scalar_in(image, p, d, size, at);
-            }
-            c.fixed(image, size)
+            scalar_in(image, p, d, size, at)
         }
     }
 }

@@ -19,6 +19,7 @@ use Rattle.fields.specs.declared.Fault.{Fault}
 use Rattle.fields.specs.declared.Refusal.the-variants.{AlgorithmUnknown, Size}
 use Rattle.fields.specs.declared.Field.{Field}
 use Rattle.fields.specs.declared.Field.the-variants as field
+use Rattle.names.specs.declared.Cipher.{Cipher}
 use Rattle.names.specs.declared.Kdf.{Kdf}
 use Rattle.names.specs.declared.Kdf.the-variants as kdf
 use Rattle.names.specs.Ciphers.{cipherName, cipherNamed, kdfNamed, cipher-read}
@@ -111,14 +112,14 @@ kdf-lies s c good =
     moved-on d a (kdf-field.Refused f) l = lies-after c d f a l
     moved-on d a (kdf-field.Options k salt rounds e) l = after-after c d e a l
 
-count-lies : (s : List ℕ) (c : Cursor) → Good s c → Uint32Lies c (countAt s c)
+count-lies : (s : List ℕ) (c : Cursor) (cipher : Cipher) → Good s c → Uint32Lies c (countAt s c cipher)
 unfolding countAt
-count-lies s c good =
+count-lies s c cipher good =
     by-uint32 (uint32At s c)
     (λ f w. rw w (rw w at (uint32-lies s c good)))
     (λ n d w.
     rw w
-    (by-bool (keysAllowed n)
+    (by-bool (keysAllowed cipher n)
     (λ v. rw v (rw w at (uint32-lies s c good)))
     (λ v. rw v (omega (arith, good)))))
 
@@ -283,10 +284,10 @@ header-said s =
     let good₂ = good-after s c d good₁ b₂ in
     let a₂ = after-after start c d a₁ b₂ in
     rw v
-    (by-uint32 (countAt s d)
-    (λ f u. rw u (said-field s f (m .0) (lies-after start d f a₂ (rw u at (count-lies s d good₂)))))
+    (by-uint32 (countAt s d cipher)
+    (λ f u. rw u (said-field s f (m .0) (lies-after start d f a₂ (rw u at (count-lies s d cipher good₂)))))
     (λ n e u.
-    let b₃ = rw u at (count-lies s d good₂) in
+    let b₃ = rw u at (count-lies s d cipher good₂) in
     let good₃ = good-after s d e good₂ b₃ in
     let a₃ = after-after start d e a₂ b₃ in
     rw u

@@ -1,5 +1,6 @@
 -- docs/RULES.md, 9.4: a record holds sixteen places. Sixteen numbers as a list, and a list as sixteen numbers.
-use Prim.Native.Nat.{ℕ, zero, suc, _≤_}
+use Prim.Native.Nat.{ℕ, zero, suc, _+_, _-_, _≤_}
+use native.Mathlib.Numerals.{add-one}
 use native.Mathlib.Omega.{arith}
 use mathlib.Core.Path.{_≡_, refl, sym, _∙_, ap, ap₂}
 use mathlib.Core.Bool.{Bool, true, cond, _&&_}
@@ -7,6 +8,7 @@ use mathlib.Core.List.{List, [], _∷_}
 use borrow.Author.Tests.{eq-eqb, lt-ltb}
 use lib.Dec.{eqb, ltb}
 use lib.ListN.{length, getD, take, drop}
+use lib.Seq.{drop-cons}
 use Rattle.fields.specs.Bytes.{sameBytes, same-true, and-next, and-true}
 use Rattle.places.specs.declared.Places.{Places}
 
@@ -134,6 +136,13 @@ afterFirst p = drop 1 (listOf p)
 -- a list of at most fifteen stands there
 pub listed-after : (x : ℕ) (l : List ℕ) → length l ≤ 15 → AllWithin 65535 l → take (length l) (afterFirst (placesOf (x ∷ l))) ≡ l
 listed-after x l h w = ap (take (length l)) (firsts-next 15 0 x l) ∙ firsts-all 15 l h w
+
+-- n from the i-th on, as code goes on from one to the next
+pub places-next : (l : List ℕ) (i n : ℕ) → (n ≡ 0 → ⊥) → i + n ≤ length l → take n (drop i l) ≡ getD l i 0 ∷ take (n - 1) (drop (i + 1) l)
+places-next l i zero some h = absurd (some refl)
+places-next l i (suc n) some h =
+    let less : suc n - 1 ≡ n = omega arith in
+    rw (drop-cons l i 0 (omega arith), add-one i, less)
 
 -- no place past the sixteenth
 pub past-all : (l : List ℕ) (k : ℕ) → length l ≤ k → getD l k 0 ≡ 0

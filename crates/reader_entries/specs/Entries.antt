@@ -1,14 +1,15 @@
 -- docs/RULES.md, 5.3 to 5.5, and of the places 7.3: what reading the keys of a plain section finds, in order. RSA keys are compared by n and e.
-use Prim.Native.Nat.{ℕ, zero, suc, _-_}
-use native.Mathlib.Omega.{arith}
+use Prim.Native.Nat.{ℕ, zero, suc}
 use mathlib.Core.Path.{_≡_, refl}
 use mathlib.Core.List.{List, [], _∷_}
-use mathlib.Core.Bool.{Bool, cond, _&&_}
+use mathlib.Core.Bool.{Bool, true, false, cond, _&&_}
 use lib.ListN.{length}
 use Rattle.fields.specs.Bytes.{sameBytes}
 use Rattle.fields.specs.Fields.{fault, onField, stringAt, viewOf}
 use Rattle.fields.specs.declared.Cursor.{Cursor}
 use Rattle.fields.specs.declared.Fault.{Fault}
+use Rattle.fields.specs.declared.Field.{Field}
+use Rattle.fields.specs.declared.Field.the-variants as field
 use Rattle.fields.specs.declared.Part.{Part}
 use Rattle.fields.specs.declared.Refusal.the-variants.{PublicKey, CharacterEncoding}
 use Rattle.names.specs.declared.Algorithm.{Algorithm}
@@ -19,14 +20,17 @@ use Rattle.utf8.specs.Utf8.{utf8}
 use Rattle.format.specs.Format.{Key, keyOf, ofPoint, ofScalar}
 use Rattle.key_public.specs.declared.Public.{Public}
 use Rattle.key_public.specs.Keys.{publicBytes}
+use Rattle.key_pairs.specs.declared.Keypair.the-variants as keypair
 use Rattle.key_pairs.specs.declared.Private.{Private}
 use Rattle.key_pairs.specs.Pairs.{onKeypair, privateBytes, keypairAt}
 use Rattle.places.specs.declared.Places.{Places}
-use Rattle.places.specs.Places.{placesOf, pushed}
-use Rattle.reader_blobs.specs.declared.BlobField.the-variants as blob-field
+use Rattle.places.specs.Places.{placesOf}
 use Rattle.reader_blobs.specs.Blobs.{onBlobField, blobFieldAt}
 use Rattle.reader_entries.specs.declared.Entry.{Entry}
 use Rattle.reader_entries.specs.declared.Entry.the-variants as entry
+use Rattle.reader_entries.specs.declared.KeyFields.{KeyFields}
+use Rattle.reader_entries.specs.declared.KeyRead.{KeyRead}
+use Rattle.reader_entries.specs.declared.KeyRead.the-variants as key-read
 
 -- by what was read
 abbrev pub onEntry : {R : Type 0} → Entry → (Fault → R) → (Private → Part → Cursor → R) → R
@@ -109,53 +113,45 @@ keyRead s at =
     onField (stringAt s d) (λ f. noKey) (λ comment e.
     keyOf a (publicBytes s public) (privateBytes s private) (viewOf s comment)))
 
--- ---- laws: by the number that is left to read, as the code counts it
+-- ---- a key by two places: its blob's string begins at b, its keypair at a place, and reading goes up to the image's end
 
--- the first key before those that follow it
-abbrev pub before : ℕ → Private → Part → Keys → Keys
-before at private comment (Keys-not f) = Keys-not f
-before at private comment (Keys-are x m places c) = Keys-are private comment (pushed at places) c
+abbrev pub onKeyRead : {R : Type 0} → KeyRead → R → (KeyFields → Cursor → R) → R
+onKeyRead key-read.Nothing nothing key = nothing
+onKeyRead (key-read.Key k d) nothing key = key k d
 
--- one key
-pub keys-last :
-    (s : List ℕ) (c : Cursor) (algorithm : Algorithm) (public : Public) (b : Cursor) (private : Private) (comment : Part) (d : Cursor)
-    → entryAt s c algorithm public ≡ entry.Key private comment d
-    → keysAt s c algorithm public b 0 ≡ Keys-are private comment (pushed (c .at) (placesOf [])) d
-unfolding keysAt moreAt
-keys-last s c algorithm public b private comment d e = rw e
+-- with the place after its blob
+unfoldable pub keyPlaced : List ℕ → Cursor → ℕ → KeyRead
+keyPlaced s b at =
+    onBlobField (blobFieldAt s b) (λ f. key-read.Nothing) (λ a p public d.
+    onEntry (entryAt s (record { at = at; end = length s }) a public) (λ f. key-read.Nothing) (λ private comment e.
+    key-read.Key (record { algorithm = a; blob = p; public = public; begins = at; private = private; comment = comment }) d))
 
--- another, and its blob
-pub keys-next :
-    (s : List ℕ) (c : Cursor) (algorithm : Algorithm) (public : Public) (b : Cursor) (n : ℕ) (private : Private) (comment : Part) (d : Cursor) (a : Algorithm)
-    (p : Part) (q : Public) (e : Cursor) → (n ≡ 0 → ⊥) → entryAt s c algorithm public ≡ entry.Key private comment d → blobFieldAt s b ≡ blob-field.Key a p q e
-    → keysAt s c algorithm public b n ≡ before (c .at) private comment (keysAt s d a q e (n - 1))
-unfolding keysAt moreAt nextAt
-keys-next s c algorithm public b zero private comment d a p q e h w v = absurd (h refl)
-keys-next s c algorithm public b (suc n) private comment d a p q e h w v =
-    let less : suc n - 1 ≡ n = omega arith in
-    rw (w, v, less) (go (entryAt s d a q))
+-- ---- as the code reads a key
+
+-- a comment string; not UTF-8: 7
+unfoldable pub commentAt : List ℕ → Cursor → Field
+commentAt s c =
+    onField (stringAt s c) field.Refused (λ comment d.
+    cond (utf8 (viewOf s comment)) (field.Part comment d) (field.Refused (fault CharacterEncoding (c .at))))
+
+pub entry-comment :
+    (s : List ℕ) (c : Cursor) (algorithm : Algorithm) (public : Public) (a : Algorithm) (p : Public) (private : Private) (d : Cursor)
+    → keypairAt s c ≡ keypair.Pair a p private d → sameKey s a p algorithm public ≡ true
+    → entryAt s c algorithm public ≡ onField (commentAt s d) entry.Refused (entry.Key private)
+unfolding entryAt commentAt
+entry-comment s c algorithm public a p private d k e = rw (k, e) (by (stringAt s d))
   where
-    go :
-        (r : Entry)
-        → onListed (onNext (onEntry r Next-not (λ x m g. Next-key g e)) Not (λ g o. onListed (moreAt s g o n) Not (λ l k. Are (d .at ∷ l) k))) Keys-not
-        (λ l k. Keys-are private comment (placesOf (c .at ∷ l)) k)
-        ≡ before (c .at) private comment
-        (onEntry r Keys-not (λ x m g. onListed (moreAt s g e n) Keys-not (λ l k. Keys-are x m (placesOf (d .at ∷ l)) k)))
-    go (entry.Refused f) = refl
-    go (entry.Key x m g) = told x m (moreAt s g e n)
+    by :
+        (r : Field)
+        → onField r entry.Refused (λ comment e. cond (utf8 (viewOf s comment)) (entry.Key private comment e) (entry.Refused (fault CharacterEncoding (d .at))))
+        ≡ onField (onField r field.Refused (λ comment e. cond (utf8 (viewOf s comment)) (field.Part comment e) (field.Refused (fault CharacterEncoding (d .at))))) entry.Refused
+        (entry.Key private)
+    by (field.Refused f) = refl
+    by (field.Part comment e) = told (utf8 (viewOf s comment))
       where
         told :
-            (x : Private) (m : Part) (r : Listed)
-            → onListed (onListed r Not (λ l k. Are (d .at ∷ l) k)) Keys-not (λ l k. Keys-are private comment (placesOf (c .at ∷ l)) k)
-            ≡ before (c .at) private comment (onListed r Keys-not (λ l k. Keys-are x m (placesOf (d .at ∷ l)) k))
-        told x m (Not f) = refl
-        told x m (Are l k) = refl
-
--- a blob that is refused
-pub keys-blob :
-    (s : List ℕ) (c : Cursor) (algorithm : Algorithm) (public : Public) (b : Cursor) (n : ℕ) (private : Private) (comment : Part) (d : Cursor) (f : Fault)
-    → (n ≡ 0 → ⊥) → entryAt s c algorithm public ≡ entry.Key private comment d → blobFieldAt s b ≡ blob-field.Refused f
-    → keysAt s c algorithm public b n ≡ Keys-not f
-unfolding keysAt moreAt nextAt
-keys-blob s c algorithm public b zero private comment d f h w v = absurd (h refl)
-keys-blob s c algorithm public b (suc n) private comment d f h w v = rw (w, v)
+            (b : Bool)
+            → cond b (entry.Key private comment e) (entry.Refused (fault CharacterEncoding (d .at)))
+            ≡ onField (cond b (field.Part comment e) (field.Refused (fault CharacterEncoding (d .at)))) entry.Refused (entry.Key private)
+        told true = refl
+        told false = refl

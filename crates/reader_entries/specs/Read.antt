@@ -30,11 +30,14 @@ use Rattle.laws_keys.specs.ReadPair.{IfScalar, Begins, PairRead, keypair-read}
 use Rattle.places.specs.declared.Places.{Places}
 use Rattle.places.specs.Places.{AllWithin, placesOf}
 use Rattle.reader_blobs.specs.Blobs.{blobFieldAt, blobBytes}
-use Rattle.reader_blobs.specs.Read.{by-blob-field, blob-text}
+use Rattle.reader_blobs.specs.declared.BlobField.the-variants as blob-field
+use Rattle.reader_blobs.specs.Read.{by-blob-field, BlobText, blob-text}
 use Rattle.reader_entries.specs.declared.Entry.{Entry}
 use Rattle.reader_entries.specs.declared.Entry.the-variants as entry
-use Rattle.reader_entries.specs.Entries.{Listed, Are, Not, Next-key, Keys, Keys-are, Keys-not, sameKey, entryAt, nextAt, moreAt, keysAt, keyRead}
-use Rattle.reader_entries.specs.Back.{KeyFits, AllFit, whole-place}
+use Rattle.reader_entries.specs.declared.KeyFields.{KeyFields}
+use Rattle.reader_entries.specs.declared.KeyRead.the-variants as key-read
+use Rattle.reader_entries.specs.Entries.{Listed, Are, Not, Keys, Keys-are, Keys-not, sameKey, entryAt, nextAt, moreAt, keysAt, keyRead, keyPlaced}
+use Rattle.reader_entries.specs.Back.{KeyFits, AllFit, placeAt, whole-place}
 
 -- by cases, with the equation in hand
 pub by-keys :
@@ -69,6 +72,8 @@ module _ (s : List ℕ) (all : AllBytes s) where
     pub end : d .end ≡ c .end
     pub there : c .end ≡ length s → keyRead s (c .at) ≡ keyOf a (publicBytes s q) (privateBytes s x) (viewOf s m)
     pub place : m .start ≡ c .at + length (pair a zeros (publicBytes s q) (privateBytes s x)) + 4
+    pub size : length (viewOf s m) ≡ m .length
+    pub ends : m .start + m .length ≡ d .at
 
   -- where the comment of an accepted key begins
   comment-starts :
@@ -104,6 +109,8 @@ module _ (s : List ℕ) (all : AllBytes s) where
         good = omega (arith, comment .place .placed);
         end = comment .place .placed .end ∙ read .end;
         there = there;
+        size = comment .size;
+        ends = sym (comment .place .placed .after);
       }
 
   -- a key that is the same has the same kind and bytes
@@ -153,12 +160,54 @@ module _ (s : List ℕ) (all : AllBytes s) where
       (λ r. let k = rw r at i in clash cc)))
       (λ v. let h = rw v at g in clash cc))
 
+  -- a key that was read at c, with its blob at b: its places, and so many zeros before its scalar
+  pub record KeyStands (c b : Cursor) (zeros : ℕ) : Type 0 where
+    pub algorithm : Algorithm
+    pub blob : Part
+    pub public : Public
+    pub blob-after : Cursor
+    pub private : Private
+    pub comment : Part
+    pub after : Cursor
+    pub blob-read : blobFieldAt s b ≡ blob-field.Key algorithm blob public blob-after
+    pub blob-text : BlobText s all b algorithm blob public blob-after
+    pub entry-read : entryAt s c algorithm public ≡ entry.Key private comment after
+    pub entry-text : EntryRead c algorithm public private comment after
+    pub same-zeros : entry-text .zeros ≡ zeros
+    pub key : keyRead s (c .at) ≡ keyOf algorithm (publicBytes s public) (privateBytes s private) (viewOf s comment)
+
+  -- it is found by its two places
+  abbrev pub foundKey : {c b : Cursor} {zeros : ℕ} → KeyStands c b zeros → KeyFields
+  foundKey {c} k =
+      record {
+        algorithm = k .algorithm;
+        blob = k .blob;
+        public = k .public;
+        begins = c .at;
+        private = k .private;
+        comment = k .comment;
+      }
+
+  pub stands-found :
+      (c b : Cursor) (zeros at : ℕ) (k : KeyStands c b zeros) → at ≡ c .at → c .end ≡ length s → keyPlaced s b at ≡ key-read.Key (foundKey k) (k .blob-after)
+  unfolding keyPlaced
+  stands-found c b zeros at k same end =
+      let place : record { at = at; end = length s } ≡ c = ap (λ (i : ℕ). placeAt i (length s)) same ∙ whole-place s c end in
+      rw (k .blob-read, place, k .entry-read, same)
+
+  -- keys one after the other, from c on, their blobs from b on: where each begins, and that it stands there
+  abbrev pub AllStand : Cursor → Cursor → List ℕ → List ℕ → Type 0
+  AllStand c b [] zs = Unit {0}
+  AllStand c b (x ∷ l) [] = ⊥
+  AllStand c b (x ∷ l) (z ∷ zs) = (x ≡ c .at) × ((k : KeyStands c b z) × AllStand (k .after) (k .blob-after) l zs)
+
   -- accepted keys, each with the blob of its number
   pub record MoreRead (c b : Cursor) (n : ℕ) (l : List ℕ) (d : Cursor) : Type 0 where
     pub zeros : List ℕ
     pub text : rest s c ≡ join (entryFields (standingEntries zeros (map (keyRead s) l))) ++ rest s d
     pub blobs : blobBytes s b n ≡ map keyBlob (map (keyRead s) l)
     pub fits : AllFit zeros (map (keyRead s) l)
+    pub stand : AllStand c b l zeros
     pub counted : length l ≡ n
     pub inside : AllWithin (length s) l
     pub good : Good s d
@@ -170,7 +219,7 @@ module _ (s : List ℕ) (all : AllBytes s) where
       let none : [] ≡ l = cc in
       let same : c ≡ d = cc in
       rw (← none, ← same)
-      (record { zeros = []; text = refl; blobs = refl; fits = tt; counted = refl; inside = tt; good = good; end = end })
+      (record { zeros = []; text = refl; blobs = refl; fits = tt; stand = tt; counted = refl; inside = tt; good = good; end = end })
   more-read c b (suc n) l d good end e =
       by-blob-field (blobFieldAt s b)
       (λ f w. let g : Not f ≡ Are l d = rw w at e in clash cc)
@@ -192,6 +241,22 @@ module _ (s : List ℕ) (all : AllBytes s) where
       let there : keyRead s (c .at) ≡ key = r .there end in
       let keys = map (keyRead s) k in
       let blob = blob-text s all b a p q x w in
+      let stands : KeyStands c b (r .zeros) =
+      record {
+        algorithm = a;
+        blob = p;
+        public = q;
+        blob-after = x;
+        private = y;
+        comment = m;
+        after = z;
+        blob-read = w;
+        blob-text = blob;
+        entry-read = v;
+        entry-text = r;
+        same-zeros = refl;
+        key = there;
+      } in
       let text : rest s c ≡ join (entryFields (standingEntry (r .zeros) key ∷ standingEntries (t .zeros) keys)) ++ rest s d =
       r .text
       ∙ ap (λ (j : List ℕ). standingEntry (r .zeros) key .pair ++ (string (viewOf s m) ++ j)) (t .text)
@@ -202,6 +267,7 @@ module _ (s : List ℕ) (all : AllBytes s) where
         text = rw there text;
         blobs = rw (w, there) (ap₂ (λ (j : List ℕ) (js : List (List ℕ)). j ∷ js) (blob .content) (t .blobs));
         fits = rw there (r .fits, t .fits);
+        stand = (refl, (stands, t .stand));
         counted = ap suc (t .counted);
         inside = (omega (arith, good), t .inside);
         good = t .good;
@@ -224,6 +290,12 @@ module _ (s : List ℕ) (all : AllBytes s) where
     pub fits : AllFit (zeros ∷ more-zeros) (firstKey a q x m ∷ map (keyRead s) others)
     pub begins : IfScalar a (Begins s (x .scalar) zeros)
     pub place : m .start ≡ c .at + length (standingEntry zeros (firstKey a q x m) .pair) + 4
+    pub size : length (viewOf s m) ≡ m .length
+    pub comment-within : m .start ≤ length s
+    pub second : Cursor
+    pub second-starts : second .at ≡ m .start + m .length
+    pub second-ends : second .end ≡ length s
+    pub stand : AllStand second b others more-zeros
     pub counted : length others ≡ more
     pub inside : AllWithin (length s) others
     pub good : Good s d
@@ -263,6 +335,12 @@ module _ (s : List ℕ) (all : AllBytes s) where
         fits = (r .fits, t .fits);
         begins = r .begins;
         place = r .place;
+        size = r .size;
+        comment-within = omega (arith, r .ends, r .good);
+        second = z;
+        second-starts = sym (r .ends);
+        second-ends = r .end ∙ end;
+        stand = t .stand;
         counted = t .counted;
         inside = t .inside;
         good = t .good;

@@ -135,9 +135,11 @@ kdf-options-back s c good small k salt rounds t fit e =
         let o = bcrypt-back s d good′ salt′ rounds′ t small fit′ e′ short salty in
         (o, o .read)
 
-count-back : (s : List ℕ) (c : Cursor) → Good s c → (n : ℕ) (t : List ℕ) → n < 2 ^ 32 → keysAllowed n ≡ true → rest s c ≡ uint32 n ++ t → Uint32Back s (countAt s c) n t
+count-back :
+    (s : List ℕ) (c : Cursor) → Good s c → (cipher : Cipher) (n : ℕ) (t : List ℕ) → n < 2 ^ 32 → keysAllowed cipher n ≡ true → rest s c ≡ uint32 n ++ t
+    → Uint32Back s (countAt s c cipher) n t
 unfolding countAt
-count-back s c good n t fits allowed e =
+count-back s c good cipher n t fits allowed e =
     let k = uint32-back s c good n t fits e in
     record {
       next = k .next;
@@ -213,7 +215,7 @@ pub record HeaderBack (s : List ℕ) (cipher : Cipher) (k : Kdf) (salt : List �
 
 pub header-back :
     (s : List ℕ) (cipher : Cipher) (k : Kdf) (salt : List ℕ) (rounds : ℕ) (key : Key) (others : List Key) (t : List ℕ) → length s ≤ 65535
-    → OptionsFit k salt rounds → AllPublic (key ∷ others) → keysAllowed (suc (length others)) ≡ true
+    → OptionsFit k salt rounds → AllPublic (key ∷ others) → keysAllowed cipher (suc (length others)) ≡ true
     → s ≡ header cipher k salt rounds (map keyBlob (key ∷ others)) ++ t → HeaderBack s cipher k salt rounds key others t
 unfolding headerAt
 header-back s cipher k salt rounds key others t small fit fits allowed e =
@@ -225,9 +227,9 @@ header-back s cipher k salt rounds key others t small fit fits allowed e =
     let after-cipher = string (kdfName k) ++ (string (options k salt rounds) ++ after-kdf) in
     let c = cipher-back s cipher after-cipher small (e ∙ header-then cipher k salt rounds keys t) in
     let o = kdf-options-back s (c .next) (c .good) small k salt rounds after-kdf fit (c .more) in
-    let few : suc (length others) < 2 ^ 32 = omega (arith, keys-most (suc (length others)) allowed) in
-    let m = count-back s (o .next) (o .good) (suc (length others)) after-count few allowed (o .more ∙ ap (λ (i : ℕ). uint32 i ++ after-count) counted) in
-    let ends = count-place s (o .next) (suc (length others)) (m .next) (m .read) .end ∙ kdf-place s (c .next) k (o .place) rounds (o .next) (o .read) .end ∙ cipher-place s cipher (c .next) (c .read) .end in
+    let few : suc (length others) < 2 ^ 32 = omega (arith, keys-most cipher (suc (length others)) allowed) in
+    let m = count-back s (o .next) (o .good) cipher (suc (length others)) after-count few allowed (o .more ∙ ap (λ (i : ℕ). uint32 i ++ after-count) counted) in
+    let ends = count-place s (o .next) cipher (suc (length others)) (m .next) (m .read) .end ∙ kdf-place s (c .next) k (o .place) rounds (o .next) (o .read) .end ∙ cipher-place s cipher (c .next) (c .read) .end in
     let less : suc (length others) - 1 ≡ length others = omega arith in
     let b = keys-back s (m .next) (m .good) ends small key others t fits (m .more) in
     record {

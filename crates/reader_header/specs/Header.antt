@@ -3,9 +3,9 @@
 use Prim.Native.Nat.{ℕ, _+_, _-_}
 use mathlib.Core.Path.{_≡_}
 use mathlib.Core.List.{List}
-use mathlib.Core.Bool.{Bool, cond}
+use mathlib.Core.Bool.{Bool, cond, _&&_}
 use lib.ListN.{length}
-use lib.Dec.{eqb, ltb}
+use lib.Dec.{eqb, leb, ltb}
 use Rattle.fields.specs.Bytes.{sameBytes}
 use Rattle.fields.specs.Fields.{fault, absent, whole, within, onField, onUint32, onEnding, uint32At, bytesAt, stringAt, endAt, viewOf}
 use Rattle.fields.specs.Refusals.{numberOf, countOf}
@@ -28,7 +28,7 @@ use Rattle.names.specs.declared.Kdf.{Kdf}
 use Rattle.names.specs.declared.Kdf.the-variants as kdf
 use Rattle.names.specs.declared.KdfName.{KdfName}
 use Rattle.names.specs.declared.KdfName.the-variants as kdf-name
-use Rattle.names.specs.Ciphers.{cipherNamed, kdfNamed}
+use Rattle.names.specs.Ciphers.{cipherNamed, kdfNamed, isNone}
 use Rattle.format.specs.Format.{magic}
 use Rattle.key_public.specs.declared.Public.{Public}
 use Rattle.key_public.specs.Keys.{pointPlace}
@@ -105,14 +105,17 @@ kdfAt s c =
     onKdfName (kdfNamed (viewOf s name)) (kdf-field.Refused (fault AlgorithmUnknown (c .at))) (λ k.
     onKdf k (noneAt s d) (bcryptAt s d)))
 
--- 4.5: key count, uint32; not 1: 1.
-abbrev pub keysAllowed : ℕ → Bool
-keysAllowed n = eqb n 1
+-- 4.5: key count, uint32; 0 or above 16, or other than 1 with a cipher: 1.
+abbrev pub mostKeys : ℕ
+mostKeys = 16
 
-unfoldable pub countAt : List ℕ → Cursor → Uint32
-countAt s c =
+abbrev pub keysAllowed : Cipher → ℕ → Bool
+keysAllowed cipher n = cond (isNone cipher) (leb 1 n && leb n mostKeys) (eqb n 1)
+
+unfoldable pub countAt : List ℕ → Cursor → Cipher → Uint32
+countAt s c cipher =
     onUint32 (uint32At s c) uint32.Refused (λ n d.
-    cond (keysAllowed n) (uint32.Value n d) (uint32.Refused (fault Length (c .at))))
+    cond (keysAllowed cipher n) (uint32.Value n d) (uint32.Refused (fault Length (c .at))))
 
 -- 4.6: the first public blob, and the place after the others
 unfoldable pub keysAt : List ℕ → Cursor → ℕ → BlobField
@@ -125,7 +128,7 @@ unfoldable pub headerAt : List ℕ → HeaderRead
 headerAt s =
     onCipherField (cipherAt s) header-read.Refused (λ cipher c.
     onKdfField (kdfAt s c) header-read.Refused (λ k salt rounds d.
-    onUint32 (countAt s d) header-read.Refused (λ n e.
+    onUint32 (countAt s d cipher) header-read.Refused (λ n e.
     onBlobField (keysAt s e (n - 1)) header-read.Refused (λ a blob key g.
     header-read.Header
     (record {

@@ -2,12 +2,12 @@
 use Prim.Native.Nat.{ℕ, _+_, _-_, _≤_, _<_, _^_}
 use native.Mathlib.Omega.{arith}
 use mathlib.Core.Path.{_≡_, refl, sym, _∙_, ap}
-use mathlib.Core.Bool.{true}
+use mathlib.Core.Bool.{true, false, _&&_}
 use mathlib.Core.List.{List}
-use borrow.Author.Tests.{ltb-false, eqb-true}
-use lib.Dec.{eqb, ltb}
+use borrow.Author.Tests.{ltb-false, le-leb, leb-true, eqb-true}
+use lib.Dec.{eqb, leb, ltb}
 use lib.ListN.{length}
-use Rattle.fields.specs.Bytes.{sameBytes, same-true}
+use Rattle.fields.specs.Bytes.{sameBytes, same-true, both-true}
 use Rattle.fields.specs.Fields.{absent, whole, within, uint32At, bytesAt, stringAt, endAt, viewOf}
 use Rattle.fields.specs.Place.{clash, by-field, by-uint32, by-ending, by-bool, string-place, bytes-place, uint32-place}
 use Rattle.fields.specs.declared.Cursor.{Cursor}
@@ -24,7 +24,7 @@ use Rattle.names.specs.declared.Kdf.{Kdf}
 use Rattle.names.specs.declared.Kdf.the-variants as kdf
 use Rattle.names.specs.declared.KdfName.{KdfName}
 use Rattle.names.specs.declared.KdfName.the-variants as kdf-name
-use Rattle.names.specs.Ciphers.{cipherName, kdfName, cipherNamed, kdfNamed, cipher-read, kdf-read}
+use Rattle.names.specs.Ciphers.{cipherName, kdfName, cipherNamed, kdfNamed, isNone, cipher-read, kdf-read}
 use Rattle.format.specs.Format.{magic}
 use Rattle.key_public.specs.declared.Public.{Public}
 use Rattle.reader_blobs.specs.declared.BlobField.the-variants as blob-field
@@ -37,7 +37,7 @@ use Rattle.reader_header.specs.declared.KdfField.{KdfField}
 use Rattle.reader_header.specs.declared.KdfField.the-variants as kdf-field
 use Rattle.reader_header.specs.declared.Header.{Header}
 use Rattle.reader_header.specs.declared.HeaderRead.the-variants as header-read
-use Rattle.reader_header.specs.Header.{onKdf, magicAt, cipherAt, noneAt, bcryptAt, kdfAt, keysAllowed, countAt, keysAt, headerAt}
+use Rattle.reader_header.specs.Header.{onKdf, magicAt, cipherAt, noneAt, bcryptAt, kdfAt, mostKeys, keysAllowed, countAt, keysAt, headerAt}
 
 -- by cases, with the equation in hand
 pub by-cipher-name : {P : Type 0} (w : CipherName) → (w ≡ cipher-name.Unknown → P) → ((c : Cipher) → w ≡ cipher-name.Known c → P) → P
@@ -223,19 +223,19 @@ kdf-place s c k salt rounds d e =
     }))
 
 -- an accepted key count
-pub record CountPlace (s : List ℕ) (c : Cursor) (n : ℕ) (d : Cursor) : Type 0 where
+pub record CountPlace (s : List ℕ) (c : Cursor) (cipher : Cipher) (n : ℕ) (d : Cursor) : Type 0 where
   pub read : uint32At s c ≡ uint32.Value n d
-  pub allowed : keysAllowed n ≡ true
+  pub allowed : keysAllowed cipher n ≡ true
   pub end : d .end ≡ c .end
 
-pub count-place : (s : List ℕ) (c : Cursor) (n : ℕ) (d : Cursor) → countAt s c ≡ uint32.Value n d → CountPlace s c n d
+pub count-place : (s : List ℕ) (c : Cursor) (cipher : Cipher) (n : ℕ) (d : Cursor) → countAt s c cipher ≡ uint32.Value n d → CountPlace s c cipher n d
 unfolding countAt
-count-place s c n d e =
+count-place s c cipher n d e =
     by-uint32 (uint32At s c)
     (λ f w. let g : uint32.Refused f ≡ uint32.Value n d = rw w at e in clash cc)
     (λ m x w.
     let g = rw w at e in
-    by-bool (keysAllowed m)
+    by-bool (keysAllowed cipher m)
     (λ v.
     let h : uint32.Value m x ≡ uint32.Value n d = rw v at g in
     let same : m ≡ n = cc in
@@ -243,13 +243,33 @@ count-place s c n d e =
     record { read = r; allowed = rw same at v; end = uint32-place s c n d r .end })
     (λ v. let h = rw v at g in clash cc))
 
+-- with a cipher there is one key
+pub keys-sealed : (cipher : Cipher) (n : ℕ) → isNone cipher ≡ false → keysAllowed cipher n ≡ true → n ≡ 1
+keys-sealed cipher n w e = eqb-true n 1 (rw w at e)
+
+keys-within : (cipher : Cipher) (n : ℕ) → keysAllowed cipher n ≡ true → (1 ≤ n) × (n ≤ mostKeys)
+keys-within cipher n e =
+    by-bool (isNone cipher)
+    (λ w.
+    let both = both-true (leb 1 n) (leb n mostKeys) (rw w at e) in
+    (leb-true 1 n (both .0), leb-true n mostKeys (both .1)))
+    (λ w. omega (arith, keys-sealed cipher n w e))
+
+-- one key may be there, with a cipher and without
+pub one-allowed : (cipher : Cipher) → keysAllowed cipher 1 ≡ true
+one-allowed cipher = by-bool (isNone cipher) (λ w. rw w) (λ w. rw w)
+
 -- there is a key
-pub keys-some : (n : ℕ) → keysAllowed n ≡ true → 0 < n
-keys-some n e = omega (arith, eqb-true n 1 e)
+pub keys-some : (cipher : Cipher) (n : ℕ) → keysAllowed cipher n ≡ true → 0 < n
+keys-some cipher n e = omega (arith, keys-within cipher n e)
 
 -- and no more than sixteen
-pub keys-most : (n : ℕ) → keysAllowed n ≡ true → n ≤ 16
-keys-most n e = omega (arith, eqb-true n 1 e)
+pub keys-most : (cipher : Cipher) (n : ℕ) → keysAllowed cipher n ≡ true → n ≤ 16
+keys-most cipher n e = omega (arith, keys-within cipher n e)
+
+-- 1 to 16 without a cipher
+pub plain-allowed : (n : ℕ) → 1 ≤ n → n ≤ 16 → (leb 1 n && leb n 16) ≡ true
+plain-allowed n some few = rw (le-leb 1 n some, le-leb n 16 few)
 
 -- accepted blobs: the first, and the others
 pub record KeysPlace (s : List ℕ) (c : Cursor) (more : ℕ) (a : Algorithm) (b : Part) (public : Public) (d : Cursor) : Type 0 where
@@ -288,7 +308,7 @@ header-second s h e =
     (λ f w. let g : header-read.Refused f ≡ header-read.Header h = rw w at g₁ in clash cc)
     (λ k salt rounds d p₂.
     let g₂ = rw p₂ at g₁ in
-    by-uint32 (countAt s d)
+    by-uint32 (countAt s d cipher)
     (λ f w. let g : header-read.Refused f ≡ header-read.Header h = rw w at g₂ in clash cc)
     (λ n i p₃.
     let g₃ = rw p₃ at g₂ in
@@ -302,4 +322,4 @@ header-second s h e =
     let o : record { cipher = cipher; kdf = k; salt = salt; rounds = rounds; count = n; algorithm = a; blob = b; public = public; section = j .at } ≡ h = cc in
     let first = keys-place s i (n - 1) a b public j p₄ .first in
     let place = string-place s i b _ (blob-place s i a b public _ first .0) .placed in
-    rw (← o) (omega (arith, place), keys-some n (count-place s d n i p₃ .allowed))))))
+    rw (← o) (omega (arith, place), keys-some cipher n (count-place s d cipher n i p₃ .allowed))))))

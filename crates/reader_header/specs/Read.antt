@@ -107,7 +107,7 @@ module _ (s : List ℕ) (all : AllBytes s) where
         ≡ header (h .cipher) (h .kdf) (viewOf s (h .salt)) (h .rounds) (blob (h .algorithm) (publicBytes s (h .public)) ∷ otherBlobs h)
         ++ rest s (record { at = h .section; end = length s })
     pub options-fit : OptionsFit (h .kdf) (viewOf s (h .salt)) (h .rounds)
-    pub allowed : keysAllowed (h .count) ≡ true
+    pub allowed : keysAllowed (h .cipher) (h .count) ≡ true
     pub others : List Key
     pub others-held : otherBlobs h ≡ map keyBlob others
     pub counted : length others ≡ h .count - 1
@@ -128,14 +128,14 @@ module _ (s : List ℕ) (all : AllBytes s) where
   -- the reads, one after the other
   joined :
       (cipher : Cipher) (c : Cursor) (k : Kdf) (salt : Part) (rounds : ℕ) (d : Cursor) (n : ℕ) (e : Cursor) (a : Algorithm) (b : Part) (public : Public) (g : Cursor)
-      → cipherAt s ≡ cipher-field.Cipher cipher c → kdfAt s c ≡ kdf-field.Options k salt rounds d → countAt s d ≡ answer.Value n e
+      → cipherAt s ≡ cipher-field.Cipher cipher c → kdfAt s c ≡ kdf-field.Options k salt rounds d → countAt s d cipher ≡ answer.Value n e
       → keysAt s e (n - 1) ≡ blob-field.Key a b public g
       → HeaderText
       (record { cipher = cipher; kdf = k; salt = salt; rounds = rounds; count = n; algorithm = a; blob = b; public = public; section = g .at })
   joined cipher c k salt rounds d n e a b public g p₁ p₂ p₃ p₄ =
       let t₁ = cipher-text cipher c p₁ in
       let t₂ = kdf-text c k salt rounds d p₂ in
-      let q₃ = count-place s d n e p₃ in
+      let q₃ = count-place s d cipher n e p₃ in
       let t₃ = uint32-read s all d n e (q₃ .read) .0 in
       let q₄ = keys-place s e (n - 1) a b public g p₄ in
       let t₄ = blob-text s all e a b public (q₄ .after) (q₄ .first) in
@@ -146,7 +146,7 @@ module _ (s : List ℕ) (all : AllBytes s) where
       let second : record { at = b .start + b .length; end = length s } ≡ q₄ .after = second-is b (q₄ .after) (t₄ .ends) (t₄ .end ∙ end₃) in
       let key = blob a (publicBytes s public) in
       let others = blobBytes s (q₄ .after) (n - 1) in
-      let some = keys-some n (q₃ .allowed) in
+      let some = keys-some cipher n (q₃ .allowed) in
       let count-is : length (key ∷ others) ≡ n = omega (arith, some, t₅ .counted) in
       let left : rest s e ≡ join (blobFields (key ∷ others)) ++ rest s (record { at = g .at; end = length s }) =
       t₄ .text ∙ ap (λ (x : List ℕ). string key ++ x) (t₅ .text ∙ ap (λ (x : List ℕ). join (blobFields others) ++ x) tail)
@@ -188,7 +188,7 @@ module _ (s : List ℕ) (all : AllBytes s) where
       (λ f w. let g : header-read.Refused f ≡ header-read.Header h = rw w at g₁ in clash cc)
       (λ k salt rounds d p₂.
       let g₂ = rw p₂ at g₁ in
-      by-uint32 (countAt s d)
+      by-uint32 (countAt s d cipher)
       (λ f w. let g : header-read.Refused f ≡ header-read.Header h = rw w at g₂ in clash cc)
       (λ n i p₃.
       let g₃ = rw p₃ at g₂ in

@@ -1,6 +1,6 @@
 // The container's header: magic, cipher, KDF with its options, key count, public blobs.
 ghost use mathlib.Core.Path.{_≡_};
-ghost use Rattle.reader_header.specs.Header.{magicAt, cipherAt, noneAt, bcryptAt, kdfAt, countAt, keysAt, answersHeader};
+ghost use Rattle.reader_header.specs.Header.{magicAt, cipherAt, noneAt, bcryptAt, kdfAt, keysAllowed, countAt, keysAt, answersHeader};
 use fields::Cursor;
 use fields::Ending;
 use fields::Fault;
@@ -165,15 +165,30 @@ fn read_kdf(c: Cursor, image: &[u8]) -> KdfField
     }
 }
 
-// The key count, which must be 1.
-fn read_count(c: Cursor, image: &[u8]) -> Uint32
-    ensures { λ r. ⌜ r ≡ countAt (now (image .entry)) c ⌝ }
+const MOST_KEYS: u32 = 16;
+
+// May an image have so many keys? With a cipher one.
+fn keys_allowed(cipher: Cipher, n: u32) -> bool
+    ensures { λ r. ⌜ r ≡ keysAllowed cipher n ⌝ }
+{
+    if n == 1 {
+        return true;
+    }
+    if cipher.is_none() {
+        return (1 <= n) & (n <= MOST_KEYS);
+    }
+    false
+}
+
+// The key count.
+fn read_count(c: Cursor, image: &[u8], cipher: Cipher) -> Uint32
+    ensures { λ r. ⌜ r ≡ countAt (now (image .entry)) c cipher ⌝ }
 {
     let at = c.at;
     match c.uint32(image) {
         Uint32::Refused(f) => Uint32::Refused(f),
         Uint32::Value(n, d) => {
-            if n == 1 {
+            if keys_allowed(cipher, n) {
                 return Uint32::Value(n, d);
             }
             Uint32::Refused(Fault {
@@ -211,7 +226,7 @@ pub fn read_header(image: &[u8]) -> HeaderRead
         CipherField::Refused(f) => HeaderRead::Refused(f),
         CipherField::Cipher(cipher, c) => match read_kdf(c, image) {
             KdfField::Refused(f) => HeaderRead::Refused(f),
-            KdfField::Options(kdf, salt, rounds, d) => match read_count(d, image) {
+            KdfField::Options(kdf, salt, rounds, d) => match read_count(d, image, cipher) {
                 Uint32::Refused(f) => HeaderRead::Refused(f),
                 Uint32::Value(n, e) => match read_keys(e, image, n as usize - 1) {
                     BlobField::Refused(f) => HeaderRead::Refused(f),

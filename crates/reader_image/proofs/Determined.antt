@@ -3,8 +3,8 @@
 use Rattle.fields.specs.Determined.{Determined}
 use Rattle.reader_image.proofs.read.Reads as read
 use Rattle.reader_image.proofs.read.Kinds as read-kinds
-use Rattle.reader_image.proofs.scalar_in_form.Reads as scalar-in-form
-use Rattle.reader_image.proofs.scalar_in_form.Kinds as scalar-in-form-kinds
+use Rattle.reader_image.proofs.scalars_in_form.Reads as scalars-in-form
+use Rattle.reader_image.proofs.scalars_in_form.Kinds as scalars-in-form-kinds
 use Rattle.reader_image.proofs.read_with_form.Reads as read-with-form
 use Rattle.reader_image.proofs.read_with_form.Kinds as read-with-form-kinds
 use Rattle.reader_image.proofs.read_section.Reads as read-section
@@ -15,8 +15,8 @@ use Rattle.reader_image.proofs.read_section_with_form.Kinds as read-sec
 pub read-determined : Determined 1 read-kinds.ps read-kinds.r read.Post
 read-determined κs a r₁ r₂ s₁ s₂ p q = cc
 
-pub scalar-in-form-determined : Determined 1 scalar-in-form-kinds.ps scalar-in-form-kinds.r scalar-in-form.Post
-scalar-in-form-determined κs a r₁ r₂ s₁ s₂ p q = cc
+pub scalars-in-form-determined : Determined 1 scalars-in-form-kinds.ps scalars-in-form-kinds.r scalars-in-form.Post
+scalars-in-form-determined κs a r₁ r₂ s₁ s₂ p q = cc
 
 pub read-with-form-determined : Determined 1 read-with-form-kinds.ps read-with-form-kinds.r read-with-form.Post
 read-with-form-determined κs a r₁ r₂ s₁ s₂ p q = cc

@@ -19,7 +19,7 @@ use Rattle.places.specs.declared.Places.{Places}
 use Rattle.places.specs.Places.{AllWithin, placesOf, afterFirst, listed-after, within-more}
 use Rattle.reader_blobs.specs.Back.{AllPublic}
 use Rattle.reader_header.specs.Header.{keysAllowed, secondBlob}
-use Rattle.reader_header.specs.Place.{keys-most}
+use Rattle.reader_header.specs.Place.{one-allowed, keys-most}
 use Rattle.reader_header.specs.Back.{HeaderBack, header-back}
 use Rattle.reader_entries.specs.Entries.{keyRead}
 use Rattle.reader_entries.specs.Back.{KeyFits, AllFit}
@@ -49,17 +49,17 @@ pub record KeysImageBack (s : List ℕ) (n : ℕ) (k : Key) (others : List Key) 
 
 -- the places that are told of others are theirs
 pub others-told :
-    (count : ℕ) (places : Places) (first : ℕ) (l : List ℕ) (n : ℕ) → count ≡ suc n → length l ≡ n → keysAllowed count ≡ true → places ≡ placesOf (first ∷ l) → AllWithin 65535 l
-    → take (count - 1) (afterFirst places) ≡ l
-others-told count places first l n counted long allowed told inside =
-    let few : length l ≤ 15 = omega (arith, counted, long, keys-most count allowed) in
+    (cipher : Cipher) (count : ℕ) (places : Places) (first : ℕ) (l : List ℕ) (n : ℕ) → count ≡ suc n → length l ≡ n → keysAllowed cipher count ≡ true
+    → places ≡ placesOf (first ∷ l) → AllWithin 65535 l → take (count - 1) (afterFirst places) ≡ l
+others-told cipher count places first l n counted long allowed told inside =
+    let few : length l ≤ 15 = omega (arith, counted, long, keys-most cipher count allowed) in
     let more : count - 1 ≡ length l = omega (arith, counted, long) in
     ap₂ (λ (i : ℕ) (p : Places). take i (afterFirst p)) more told ∙ listed-after first l few inside
 
 -- the section after a header that was read back
 keys-after :
     (s : List ℕ) (n : ℕ) (k : Key) (others : List Key) (zeros : ℕ) (zs : List ℕ) → length s ≤ 65535 → n < 2 ^ 32 → AllFit (zeros ∷ zs) (k ∷ others)
-    → keysAllowed (suc (length others)) ≡ true
+    → keysAllowed cipher.None (suc (length others)) ≡ true
     → HeaderBack s cipher.None kdf.None [] 0 k others (string (section n (standingEntries (zeros ∷ zs) (k ∷ others))))
     → KeysImageBack s n k others (paddingLength (length (content n (standingEntries (zeros ∷ zs) (k ∷ others)))))
 unfolding readAt sectionAt keysIn
@@ -72,7 +72,7 @@ keys-after s n k others zeros zs small fit fits allowed h =
     (record { at = f .section; end = length s }) (h .good, omega arith) refl (h .more) in
     let fields : Fields = record { header = f; section = x .fields } in
     let places : otherPlaces fields ≡ x .places =
-    others-told (f .count) (x .fields .places) (x .first) (x .places) (length others) (h .same-count) (x .counted) (rw (h .same-count) allowed) (x .listed) (within-more (length s) 65535 (x .places) small (x .inside)) in
+    others-told cipher.None (f .count) (x .fields .places) (x .first) (x .places) (length others) (h .same-count) (x .counted) (rw (h .same-count) allowed) (x .listed) (within-more (length s) 65535 (x .places) small (x .inside)) in
     let first : firstIn s fields ≡ k = rw (h .same-algorithm, h .same-public, x .same-private, x .same-comment) in
     record {
       fields = fields;
@@ -98,7 +98,7 @@ all-public (z ∷ zs) (k ∷ keys) fits = (fits .0 .public, all-public zs keys (
 
 pub keys-image-back :
     (s : List ℕ) (n : ℕ) (k : Key) (others : List Key) (zeros : ℕ) (zs : List ℕ) → length s ≤ 65535 → n < 2 ^ 32 → AllFit (zeros ∷ zs) (k ∷ others)
-    → keysAllowed (suc (length others)) ≡ true → s ≡ plainImage n (map keyBlob (k ∷ others)) (standingEntries (zeros ∷ zs) (k ∷ others))
+    → keysAllowed cipher.None (suc (length others)) ≡ true → s ≡ plainImage n (map keyBlob (k ∷ others)) (standingEntries (zeros ∷ zs) (k ∷ others))
     → KeysImageBack s n k others (paddingLength (length (content n (standingEntries (zeros ∷ zs) (k ∷ others)))))
 unfolding plainImage
 keys-image-back s n k others zeros zs small fit fits allowed e =
@@ -188,7 +188,7 @@ pub encrypted-image-back :
 unfolding encryptedImage readAt sectionAt
 encrypted-image-back s cipher k salt rounds a key ciphertext tag small fits e =
     let after = string ciphertext ++ tag in
-    let h = header-back s cipher k salt rounds (keyOf a key (ofScalar []) []) [] after small (fits .options-fit) (fits .public, tt) refl
+    let h = header-back s cipher k salt rounds (keyOf a key (ofScalar []) []) [] after small (fits .options-fit) (fits .public, tt) (one-allowed cipher)
     (e ∙ ap (λ (l : List ℕ). header cipher k salt rounds (alone (blob a key)) ++ (string ciphertext ++ l)) (append-nil tag)) in
     let f = h .fields in
     let x = encrypted-back s (record { at = f .section; end = length s }) (omega (arith, h .good)) (omega arith) cipher ciphertext tag (fits .blocks)

@@ -1,11 +1,13 @@
 -- docs/RULES.md, 11.1: an image is in the writer's form if writing its record with its own checkint gives it back. The writer gives the
 -- minimal mpint (10.2), and the form follows from that.
-use Prim.Native.Nat.{ℕ}
+use Prim.Native.Nat.{ℕ, _+_, _-_}
 use mathlib.Core.Path.{_≡_}
-use mathlib.Core.Bool.{Bool, true, false}
-use mathlib.Core.List.{List, map}
+use mathlib.Core.Bool.{Bool, true, false, _&&_}
+use mathlib.Core.List.{List, [], _∷_, map}
+use lib.ListN.{length, take}
 use Rattle.fields.specs.Bytes.{sameBytes}
 use Rattle.fields.specs.Fields.{viewOf}
+use Rattle.fields.specs.declared.Cursor.{Cursor}
 use Rattle.fields.specs.declared.Fault.{Fault}
 use Rattle.format.specs.Format.{leadingZero, zeroLength, writtenImage, encryptedImage, filledKey}
 use Rattle.fields.specs.declared.Part.{Part}
@@ -13,6 +15,9 @@ use Rattle.names.specs.declared.Algorithm.{Algorithm}
 use Rattle.names.specs.declared.Elliptic.{Elliptic}
 use Rattle.key_public.specs.Keys.{onAlgorithm, onElliptic}
 use Rattle.key_pairs.specs.Pairs.{beginsBefore}
+use Rattle.places.specs.declared.Places.{Places}
+use Rattle.places.specs.Places.{afterFirst}
+use Rattle.reader_entries.specs.Entries.{onKeyRead, keyPlaced}
 use Rattle.reader_header.specs.declared.Header.{Header}
 use Rattle.reader_section.specs.declared.Kind.{Kind}
 use Rattle.reader_section.specs.declared.Kind.the-variants.{Plain, Encrypted}
@@ -67,7 +72,7 @@ answersForm s r = answersThis (formReadAt s) r
 abbrev pub answersSectionForm : List ℕ → Header → FormRead → Type 0
 answersSectionForm s half r = answersThis (sectionFormAt s half) r
 
--- ---- the form by the scalar alone, which is what the code looks at; `form-scalar` says that it is the same
+-- ---- the form by the scalars alone, which is what the code looks at; `form-scalar` says that it is the same
 
 -- before the scalar stands one zero if its first byte is 0x80 or more, and else none; a seed always stands right
 unfoldable pub scalarStands : List ℕ → Elliptic → Part → Bool
@@ -77,6 +82,20 @@ scalarStands s e scalar = onElliptic e true (λ k. beginsBefore s scalar (zeroLe
 unfoldable pub scalarInForm : List ℕ → Kind → Algorithm → Part → Bool
 scalarInForm s kind a scalar = onKind kind (onAlgorithm a (λ e. scalarStands s e scalar) true) true
 
+-- those of the keys at some places, whose blobs are from b on
+unfoldable pub othersInForm : List ℕ → Cursor → List ℕ → Bool
+othersInForm s b [] = true
+othersInForm s b (at ∷ more) =
+    onKeyRead (keyPlaced s b at) false (λ k d.
+    scalarInForm s Plain (k .algorithm) (k .private .scalar) && othersInForm s d more)
+
+-- the first key's, and those of the others, whose blobs are from `second` on
+unfoldable pub scalarsInForm : List ℕ → Kind → Algorithm → Part → ℕ → ℕ → Places → Bool
+scalarsInForm s kind a scalar second count places =
+    scalarInForm s kind a scalar && othersInForm s (record { at = second; end = length s }) (take (count - 1) (afterFirst places))
+
 -- of a record's own
 abbrev pub recordInForm : List ℕ → Fields → Bool
-recordInForm s f = scalarInForm s (f .section .kind) (f .header .algorithm) (f .section .private .scalar)
+recordInForm s f =
+    scalarsInForm s (f .section .kind) (f .header .algorithm) (f .section .private .scalar) (f .header .blob .start + f .header .blob .length)
+    (f .header .count) (f .section .places)

@@ -1,15 +1,16 @@
 -- The form by the scalars alone: for an accepted image, writing its record again gives it back exactly where each scalar stands by
 -- the writer's rule.
-use Prim.Native.Nat.{ℕ, _<_}
+use Prim.Native.Nat.{ℕ, suc, _+_, _-_, _≤_, _<_}
 use native.Mathlib.Omega.{arith}
 use mathlib.Core.Path.{_≡_, refl, sym, _∙_, ap}
-use mathlib.Core.Bool.{Bool, true, false}
+use mathlib.Core.Bool.{Bool, true, false, _&&_}
 use mathlib.Core.List.{List, [], _∷_, map}
-use borrow.Author.Tests.{eq-eqb, eqb-true}
+use borrow.Author.Tests.{eq-eqb}
 use lib.Dec.{eqb}
-use lib.ListN.{length}
+use lib.ListN.{length, take, drop, getD}
 use Rattle.fields.specs.Bytes.{AllBytes, sameBytes, same-true, same-self, and-true}
 use Rattle.fields.specs.Fields.{viewOf}
+use Rattle.fields.specs.declared.Cursor.{Cursor}
 use Rattle.fields.specs.declared.Fault.{Fault}
 use Rattle.fields.specs.Place.{clash, by-bool}
 use Rattle.names.specs.declared.Elliptic.the-variants.{Ed25519, Ecdsa}
@@ -18,20 +19,24 @@ use Rattle.names.specs.declared.Algorithm.the-variants.{Elliptic as OnCurve, Rs
 use Rattle.format.specs.Format.{PublicBytes, PrivateBytes, Key, PrivateFits, MayStand, leadingZero, zeroLength, zerosAsked, blob, keypair, keyOf, keyBlob, entry, alone, standingEntries, plainImage, writtenImage, encryptedImage, filledKey}
 use Rattle.format.specs.Laws.{AllMay, allowed-small, standing-same}
 use Rattle.format.specs.Scalars.{AllPrivate, keyZeros, rule-may, fits-allowed, written-own}
-use Rattle.fields.specs.declared.Part.{Part}
-use Rattle.key_public.specs.Keys.{onAlgorithm, onElliptic}
-use Rattle.key_pairs.specs.Pairs.{privateBytes, beginsBefore}
+use Rattle.key_public.specs.Keys.{publicBytes}
+use Rattle.key_pairs.specs.declared.Private.{Private}
+use Rattle.key_pairs.specs.Pairs.{privateBytes}
 use Rattle.laws_keys.specs.ReadPair.{IfScalar, Begins}
 use Rattle.reader_section.specs.declared.Kind.{Kind}
 use Rattle.reader_section.specs.declared.Kind.the-variants.{Plain, Encrypted}
+use Rattle.places.specs.Places.{places-next}
+use Rattle.reader_entries.specs.Entries.{keyRead, onKeyRead, keyPlaced}
 use Rattle.reader_entries.specs.Back.{KeyFits, AllFit}
+use Rattle.reader_entries.specs.Read.{AllStand, stands-found}
+use Rattle.reader_header.specs.Header.{secondBlob}
 use Rattle.reader_image.specs.declared.Fields.{Fields}
 use Rattle.reader_image.specs.declared.ImageRead.{ImageRead}
 use Rattle.reader_image.specs.declared.ImageRead.the-variants as read
 use Rattle.reader_image.specs.Back.{PlainImageBack}
-use Rattle.reader_image.specs.Container.{publicIn, privateIn, materialIn, keysIn, readAt}
-use Rattle.reader_image.specs.Form.{onKind, rewritten, formOf, scalarStands, scalarInForm, recordInForm}
-use Rattle.reader_image.specs.Read.{PlainText, EncryptedText, ImageText, keys-alone, plain-text, encrypted-text, image-text}
+use Rattle.reader_image.specs.Container.{otherPlaces, keysIn, readAt}
+use Rattle.reader_image.specs.Form.{onKind, rewritten, formOf, scalarStands, scalarInForm, othersInForm, scalarsInForm, recordInForm}
+use Rattle.reader_image.specs.Read.{KeysText, EncryptedText, ImageText, keys-alone, plain-text, encrypted-text, image-text}
 
 -- a scalar is short, and RSA has none
 pub scalar-short : (a : Algorithm) (key : PublicBytes) (x : PrivateBytes) → PrivateFits a key x → length (x .scalar) < 67
@@ -41,7 +46,7 @@ scalar-short Rsa key x fits =
     omega (arith, none)
 
 -- keys that fit have private bytes that fit, scalars that are short, and may have the zeros that the rule asks for
-fit-private : (zs : List ℕ) (keys : List Key) → AllFit zs keys → AllPrivate keys
+pub fit-private : (zs : List ℕ) (keys : List Key) → AllFit zs keys → AllPrivate keys
 fit-private [] [] fits = tt
 fit-private (z ∷ zs) (k ∷ keys) fits = (fits .0 .private, fit-private zs keys (fits .1))
 
@@ -72,12 +77,6 @@ pub rewritten-encrypted :
 unfolding rewritten
 rewritten-encrypted s f encrypted = on-encrypted (f .section .kind) _ _ encrypted
 
-pub rewritten-one :
-    (s : List ℕ) (f : Fields) → PlainText s f → f .section .kind ≡ Plain
-    → rewritten s f
-    ≡ writtenImage (f .section .checkint) (alone (keyOf (f .header .algorithm) (publicIn s f) (materialIn s f) (viewOf s (f .section .comment))))
-rewritten-one s f p plain = rewritten-plain s f plain ∙ ap (λ (keys : List Key). writtenImage (f .section .checkint) (map filledKey keys)) (p .one-key)
-
 -- the writer's image is the image itself exactly where the zeros that stand are those that the rule asks for
 pub form-stands :
     (s : List ℕ) (f : Fields) (zs : List ℕ)
@@ -107,15 +106,6 @@ form-stands s f zs text fits plain =
 one-form : (x y : ℕ) → sameBytes (alone x) (alone y) ≡ eqb x y
 one-form x y = sym (and-true (eqb x y))
 
-pub form-agrees :
-    (s : List ℕ) (f : Fields) (p : PlainText s f)
-    → f .section .kind ≡ Plain → formOf s f ≡ eqb (zerosAsked (f .header .algorithm) (privateIn s f)) (p .zeros)
-form-agrees s f p plain =
-    let one = p .one-key in
-    form-stands s f (alone (p .zeros)) (rw one (p .text)) (rw one (p .key-fits, tt)) plain
-    ∙ ap (λ (keys : List Key). sameBytes (map keyZeros keys) (alone (p .zeros))) one
-    ∙ one-form (zerosAsked (f .header .algorithm) (privateIn s f)) (p .zeros)
-
 -- the one key of an image that is read back
 pub back-keys :
     (s : List ℕ) (n : ℕ) (a : Algorithm) (key : PublicBytes) (x : PrivateBytes) (comment : List ℕ) (padding : ℕ) (b : PlainImageBack s n a key x comment padding)
@@ -138,39 +128,75 @@ zero-small : (b : Bool) → zeroLength b < 2
 zero-small true = omega arith
 zero-small false = omega arith
 
--- the same, by the byte at which the length of the scalar's string would end
+-- one scalar, by the byte at which the length of its string would end
 scalar-agrees :
-    (s : List ℕ) (f : Fields) (p : PlainText s f) → f .section .kind ≡ Plain
-    → recordInForm s f ≡ eqb (zerosAsked (f .header .algorithm) (privateIn s f)) (p .zeros)
+    (s : List ℕ) (a : Algorithm) (x : Private) (zeros : ℕ) → MayStand a zeros (privateBytes s x) → IfScalar a (Begins s (x .scalar) zeros)
+    → scalarInForm s Plain a (x .scalar) ≡ eqb (zerosAsked a (privateBytes s x)) zeros
 unfolding scalarInForm scalarStands privateBytes
-scalar-agrees s f p plain = rw plain (go (f .header .algorithm) (p .key-fits .may) (p .begins))
-  where
-    place : Part
-    place = f .section .private .scalar
+scalar-agrees s (OnCurve Ed25519) x zeros may begins = sym (eq-eqb 0 zeros (sym may))
+scalar-agrees s (OnCurve (Ecdsa k)) x zeros may begins =
+    begins (zeroLength (leadingZero (viewOf s (x .scalar)))) (zero-small (leadingZero (viewOf s (x .scalar))))
+scalar-agrees s Rsa x zeros may begins = sym (eq-eqb 0 zeros (sym may))
 
-    go :
-        (a : Algorithm) → MayStand a (p .zeros) (privateIn s f) → IfScalar a (Begins s place (p .zeros))
-        → onAlgorithm a (λ e. onElliptic e true (λ k. beginsBefore s place (zeroLength (leadingZero (viewOf s place))))) true
-        ≡ eqb (zerosAsked a (privateIn s f)) (p .zeros)
-    go (OnCurve Ed25519) may begins = sym (eq-eqb 0 (p .zeros) (sym may))
-    go (OnCurve (Ecdsa k)) may begins = begins (zeroLength (leadingZero (viewOf s place))) (zero-small (leadingZero (viewOf s place)))
-    go Rsa may begins = sym (eq-eqb 0 (p .zeros) (sym may))
+-- the scalars of keys that stand one after the other
+others-agree :
+    (s : List ℕ) (all : AllBytes s) (c b : Cursor) (l zs : List ℕ) → c .end ≡ length s → AllStand s all c b l zs → length zs ≡ length l
+    → othersInForm s b l ≡ sameBytes (map keyZeros (map (keyRead s) l)) zs
+unfolding othersInForm
+others-agree s all c b [] [] end stand long = refl
+others-agree s all c b [] (z ∷ zs) end stand long = absurd (omega arith)
+others-agree s all c b (x ∷ l) (z ∷ zs) end stand long =
+    let k = stand .1 .0 in
+    let r = k .entry-text in
+    let key : keyRead s x ≡ keyOf (k .algorithm) (publicBytes s (k .public)) (privateBytes s (k .private)) (viewOf s (k .comment)) =
+    ap (keyRead s) (stand .0) ∙ k .key in
+    let one : scalarInForm s Plain (k .algorithm) (k .private .scalar) ≡ eqb (zerosAsked (k .algorithm) (privateBytes s (k .private))) z =
+    scalar-agrees s (k .algorithm) (k .private) (r .zeros) (r .fits .may) (r .begins)
+    ∙ ap (eqb (zerosAsked (k .algorithm) (privateBytes s (k .private)))) (k .same-zeros) in
+    let more = others-agree s all (k .after) (k .blob-after) l zs (r .end ∙ end) (stand .1 .1) (omega arith) in
+    rw (stands-found s all c b z x k (stand .0) end, one, more, key)
+
+-- as the code goes on from key to key
+pub others-next :
+    (s : List ℕ) (b : Cursor) (l : List ℕ) (i n : ℕ) → (n ≡ 0 → ⊥) → i + n ≤ length l
+    → othersInForm s b (take n (drop i l))
+    ≡ onKeyRead (keyPlaced s b (getD l i 0)) false (λ k d.
+    scalarInForm s Plain (k .algorithm) (k .private .scalar) && othersInForm s d (take (n - 1) (drop (i + 1) l)))
+unfolding othersInForm
+others-next s b l i n some h = rw (places-next l i n some h)
+
+-- all scalars of a record
+scalars-agree :
+    (s : List ℕ) (f : Fields) (p : KeysText s f) → f .section .kind ≡ Plain
+    → recordInForm s f ≡ sameBytes (map keyZeros (keysIn s f)) (p .zeros ∷ p .more-zeros)
+unfolding scalarsInForm keysIn
+scalars-agree s f p plain =
+    let first = scalar-agrees s (f .header .algorithm) (f .section .private) (p .zeros) (p .keys-fit .0 .may) (p .begins) in
+    let long : length (p .more-zeros) ≡ length (otherPlaces f) = as-many s (otherPlaces f) (p .more-zeros) (p .keys-fit .1) in
+    let more = others-agree s (p .bytes) (p .second) (secondBlob s (f .header)) (otherPlaces f) (p .more-zeros) (p .second-ends) (p .stand) long in
+    rw (plain, first, more)
+  where
+    as-many : (s l zs : List ℕ) → AllFit zs (map (keyRead s) l) → length zs ≡ length l
+    as-many s [] [] fits = refl
+    as-many s (x ∷ l) (z ∷ zs) fits = ap suc (as-many s l zs (fits .1))
 
 -- every accepted encrypted image is in the form
 pub form-encrypted : (s : List ℕ) (f : Fields) → EncryptedText s f → f .section .kind ≡ Encrypted → formOf s f ≡ true
 unfolding formOf rewritten
 form-encrypted s f p encrypted = rw encrypted (ap (λ (t : List ℕ). sameBytes t s) (sym (p .text)) ∙ same-self s)
 
-scalar-encrypted : (s : List ℕ) (f : Fields) → f .section .kind ≡ Encrypted → recordInForm s f ≡ true
-unfolding scalarInForm
-scalar-encrypted s f encrypted = rw encrypted
+scalar-encrypted : (s : List ℕ) (f : Fields) → EncryptedText s f → f .section .kind ≡ Encrypted → recordInForm s f ≡ true
+unfolding scalarsInForm scalarInForm othersInForm
+scalar-encrypted s f p encrypted =
+    let none : f .header .count - 1 ≡ 0 = omega (arith, p .one-key) in
+    rw (encrypted, none)
 
 pub form-scalar : (s : List ℕ) → AllBytes s → (f : Fields) → readAt s ≡ read.Record f → formOf s f ≡ recordInForm s f
 form-scalar s all f e = go (image-text s all f e)
   where
     go : ImageText s all f e → formOf s f ≡ recordInForm s f
-    go (plain-text plain p) = form-agrees s f p plain ∙ sym (scalar-agrees s f p plain)
-    go (encrypted-text encrypted p) = form-encrypted s f p encrypted ∙ sym (scalar-encrypted s f encrypted)
+    go (plain-text plain p) = form-stands s f (p .zeros ∷ p .more-zeros) (p .text) (p .keys-fit) plain ∙ sym (scalars-agree s f p plain)
+    go (encrypted-text encrypted p) = form-encrypted s f p encrypted ∙ sym (scalar-encrypted s f p encrypted)
 
 -- ---- by what a read answered
 
@@ -179,15 +205,9 @@ by-read (read.Refused g) refused record′ = refused g refl
 by-read (read.Record f) refused record′ = record′ f refl
 
 -- an accepted image whose record is plain
-pub plain-of : (s : List ℕ) (all : AllBytes s) (f : Fields) → readAt s ≡ read.Record f → f .section .kind ≡ Plain → PlainText s f
-plain-of s all f e plain = go (image-text s all f e)
+pub keys-of : (s : List ℕ) (all : AllBytes s) (f : Fields) → readAt s ≡ read.Record f → f .section .kind ≡ Plain → KeysText s f
+keys-of s all f e plain = go (image-text s all f e)
   where
-    go : ImageText s all f e → PlainText s f
+    go : ImageText s all f e → KeysText s f
     go (plain-text kind p) = p
     go (encrypted-text kind p) = clash (let o : Plain ≡ Encrypted = sym plain ∙ kind in cc)
-
--- in the form the scalar stands by the rule
-pub form-rule :
-    (s : List ℕ) (f : Fields) (p : PlainText s f) → f .section .kind ≡ Plain → formOf s f ≡ true
-    → zerosAsked (f .header .algorithm) (privateIn s f) ≡ p .zeros
-form-rule s f p plain e = eqb-true _ (p .zeros) (sym (form-agrees s f p plain) ∙ e)

@@ -4,36 +4,38 @@ use native.Mathlib.Omega.{arith}
 use mathlib.Core.Path.{_≡_, refl, sym, _∙_, ap, ap₂}
 use mathlib.Core.Bool.{true, false}
 use mathlib.Core.List.{List, [], _∷_, _++_, map, append-nil}
-use borrow.Author.Tests.{eqb-true}
-use lib.ListN.{length, length-append}
+use lib.ListN.{length, length-append, length-map}
 use lib.Seq.{slice, length-slice}
-use Rattle.fields.specs.Bytes.{string, AllBytes}
+use Rattle.fields.specs.Bytes.{string, join, AllBytes}
 use Rattle.fields.specs.Fields.{fault, viewOf}
 use Rattle.fields.specs.Place.{clash, by-bool}
 use Rattle.fields.specs.Rest.{rest}
 use Rattle.fields.specs.declared.Cursor.{Cursor}
+use Rattle.fields.specs.declared.Part.{Part}
 use Rattle.fields.specs.declared.Refusal.the-variants.{Crypto}
 use Rattle.names.specs.declared.Cipher.{Cipher}
 use Rattle.names.specs.declared.Cipher.the-variants as cipher
 use Rattle.names.specs.declared.Kdf.{Kdf}
 use Rattle.names.specs.declared.Kdf.the-variants as kdf
 use Rattle.names.specs.Ciphers.{isNone, none-only}
-use Rattle.format.specs.Format.{Key, keyBlob, entry, alone, blob, keypair, standingEntries, section, header, plainImage, encryptedImage}
+use Rattle.format.specs.Format.{keyBlob, alone, blob, keypair, blobFields, standingEntries, paddingLength, content as contentOf, section, header, plainImage, encryptedImage}
+use Rattle.format.specs.Lengths.{blobs-length, plain-header-length}
 use Rattle.laws_keys.specs.ReadPair.{IfScalar, Begins}
 use Rattle.reader_header.specs.declared.Header.{Header}
 use Rattle.reader_header.specs.declared.HeaderRead.the-variants as header-read
 use Rattle.reader_blobs.specs.Blobs.{blobBytes}
 use Rattle.reader_header.specs.Header.{onKdf, keysAllowed, headerAt, secondBlob}
-use Rattle.reader_header.specs.Place.{keys-some}
+use Rattle.reader_header.specs.Place.{keys-sealed, keys-some, header-second}
 use Rattle.reader_header.specs.Read.{HeaderText, header-text}
 use Rattle.handed_header.specs.Halves.{by-header}
 use Rattle.reader_section.specs.declared.Kind.the-variants.{Plain, Encrypted}
 use Rattle.reader_section.specs.declared.Section.{Section}
 use Rattle.reader_section.specs.declared.SectionRead.the-variants as section-read
 use Rattle.reader_section.specs.Section.{plainAt, encryptedAt}
-use Rattle.places.specs.Places.{within-more}
+use Rattle.places.specs.Places.{placesOf, within-more}
 use Rattle.reader_entries.specs.Entries.{keyRead}
-use Rattle.reader_entries.specs.Back.{KeyFits, AllFit}
+use Rattle.reader_entries.specs.Back.{AllFit}
+use Rattle.reader_entries.specs.Read.{AllStand}
 use Rattle.reader_section.specs.Read.{by-section, beforeComment, PlainRead, plain-read}
 use Rattle.reader_section.specs.ReadEncrypted.{EncryptedRead, encrypted-read}
 use Rattle.reader_image.specs.declared.Fields.{Fields}
@@ -57,6 +59,10 @@ halves s f e =
     let oh : h ≡ f .header = ap (λ (y : Fields). y .header) o in
     let ox : x ≡ f .section = ap (λ (y : Fields). y .section) o in
     (w ∙ ap header-read.Header oh, rw (oh, ox) at v)))
+
+-- its first blob lies within it
+pub first-within : (s : List ℕ) (f : Fields) → readAt s ≡ read.Record f → f .header .blob .start + f .header .blob .length ≤ length s
+first-within s f e = header-second s (f .header) (halves s f e .0) .0
 
 -- an accepted section is plain where there is no cipher and no KDF, and encrypted where there is a cipher
 data Sections (s : List ℕ) (h : Header) (x : Section) : Type 0 where
@@ -87,32 +93,28 @@ pub record KeysText (s : List ℕ) (f : Fields) : Type 0 where
   pub text :
       s ≡ plainImage (f .section .checkint) (map keyBlob (keysIn s f)) (standingEntries (zeros ∷ more-zeros) (keysIn s f))
   pub keys-fit : AllFit (zeros ∷ more-zeros) (keysIn s f)
+  pub padded : f .section .padding ≡ paddingLength (length (contentOf (f .section .checkint) (standingEntries (zeros ∷ more-zeros) (keysIn s f))))
   pub checkint-fits : f .section .checkint < 2 ^ 32
   pub begins : IfScalar (f .header .algorithm) (Begins s (f .section .private .scalar) zeros)
   pub content : viewOf s (f .header .blob) ≡ blob (f .header .algorithm) (publicIn s f)
-  pub allowed : keysAllowed (f .header .count) ≡ true
+  pub allowed : keysAllowed (f .header .cipher) (f .header .count) ≡ true
   pub section-place : f .header .section ≡ length (header cipher.None kdf.None [] 0 (map keyBlob (keysIn s f)))
   pub comment-place :
       f .section .comment .start
       ≡ f .header .section + 4 + beforeComment (keypair (f .header .algorithm) zeros (publicIn s f) (privateIn s f)) + 4
-
--- of one key
-pub record PlainText (s : List ℕ) (f : Fields) : Type 0 where
-  pub zeros : ℕ
-  pub fits : length s ≤ 65535
-  pub text :
-      s
-      ≡ plainImage (f .section .checkint) (alone (blob (f .header .algorithm) (publicIn s f)))
-      (alone (entry (keypair (f .header .algorithm) zeros (publicIn s f) (privateIn s f)) (viewOf s (f .section .comment))))
-  pub key-fits : KeyFits (f .header .algorithm) zeros (publicIn s f) (privateIn s f) (viewOf s (f .section .comment))
-  pub checkint-fits : f .section .checkint < 2 ^ 32
-  pub begins : IfScalar (f .header .algorithm) (Begins s (f .section .private .scalar) zeros)
-  pub content : viewOf s (f .header .blob) ≡ blob (f .header .algorithm) (publicIn s f)
-  pub one-key : keysIn s f ≡ alone (firstIn s f)
-  pub section-place : f .header .section ≡ length (header cipher.None kdf.None [] 0 (alone (blob (f .header .algorithm) (publicIn s f))))
-  pub comment-place :
-      f .section .comment .start
-      ≡ f .header .section + 4 + beforeComment (keypair (f .header .algorithm) zeros (publicIn s f) (privateIn s f)) + 4
+  pub comment-size : length (viewOf s (f .section .comment)) ≡ f .section .comment .length
+  pub comment-within : f .section .comment .start ≤ length s
+  pub blob-within : f .header .blob .start + f .header .blob .length ≤ length s
+  pub blob-start : f .header .blob .start ≡ 43
+  pub blob-size : length (viewOf s (f .header .blob)) ≡ f .header .blob .length
+  -- the keys begin at their places, and stand there
+  pub counted : f .header .count ≡ length (keysIn s f)
+  pub listed : f .section .places ≡ placesOf ((f .header .section + 12) ∷ otherPlaces f)
+  pub bytes : AllBytes s
+  pub second : Cursor
+  pub second-starts : second .at ≡ f .section .comment .start + f .section .comment .length
+  pub second-ends : second .end ≡ length s
+  pub stand : AllStand s bytes second (secondBlob s (f .header)) (otherPlaces f) more-zeros
 
 -- a record of one key has no others
 pub keys-alone : (s : List ℕ) (f : Fields) → f .header .count ≡ 1 → keysIn s f ≡ alone (firstIn s f)
@@ -120,30 +122,6 @@ unfolding keysIn
 keys-alone s f e =
     let none : f .header .count - 1 ≡ 0 = omega (arith, e) in
     rw none
-
-no-more : (zeros : ℕ) (zs : List ℕ) (k : Key) → AllFit (zeros ∷ zs) (alone k) → zs ≡ []
-no-more zeros [] k fits = refl
-no-more zeros (z ∷ zs) k fits = absurd (fits .1)
-
-pub one-text : (s : List ℕ) (f : Fields) → KeysText s f → PlainText s f
-one-text s f p =
-    let one = keys-alone s f (eqb-true (f .header .count) 1 (p .allowed)) in
-    let fits : AllFit (p .zeros ∷ p .more-zeros) (alone (firstIn s f)) = rw one at (p .keys-fit) in
-    let none = no-more (p .zeros) (p .more-zeros) (firstIn s f) fits in
-    record {
-      zeros = p .zeros;
-      fits = p .fits;
-      text =
-          p .text
-          ∙ ap₂ (λ (keys : List Key) (zs : List ℕ). plainImage (f .section .checkint) (map keyBlob keys) (standingEntries (p .zeros ∷ zs) keys)) one none;
-      key-fits = fits .0;
-      checkint-fits = p .checkint-fits;
-      begins = p .begins;
-      content = p .content;
-      one-key = one;
-      section-place = p .section-place ∙ ap (λ (keys : List Key). length (header cipher.None kdf.None [] 0 (map keyBlob keys))) one;
-      comment-place = p .comment-place;
-    }
 
 -- an accepted encrypted image
 pub record EncryptedText (s : List ℕ) (f : Fields) : Type 0 where
@@ -155,6 +133,7 @@ pub record EncryptedText (s : List ℕ) (f : Fields) : Type 0 where
       SealFits (f .header .cipher) (f .header .kdf) (viewOf s (f .header .salt)) (f .header .rounds) (f .header .algorithm) (publicIn s f)
       (viewOf s (f .section .ciphertext)) (viewOf s (f .section .tag))
   pub content : viewOf s (f .header .blob) ≡ blob (f .header .algorithm) (publicIn s f)
+  pub one-key : f .header .count ≡ 1
 
 -- a header with neither cipher nor KDF has no options
 header-plain :
@@ -171,6 +150,14 @@ section-starts s at front h e =
     ap length e ∙ length-append front (slice at (length s) s) ∙ ap (λ (n : ℕ). length front + n) (length-slice at (length s) s (omega arith)) in
     omega arith
 
+-- the first blob begins after the key count and its own length
+first-starts :
+    (b : Part) (first : List ℕ) (others : List (List ℕ)) (section : ℕ) → length first ≡ b .length
+    → b .start + b .length + length (join (blobFields others)) ≡ section → section ≡ length (header cipher.None kdf.None [] 0 (first ∷ others))
+    → b .start ≡ 43
+first-starts b first others section size ends placed =
+    omega (arith, size, ends, placed, plain-header-length (first ∷ others), blobs-length others)
+
 module _ (s : List ℕ) (all : AllBytes s) (f : Fields) (e : readAt s ≡ read.Record f) where
   head : HeaderText s all (f .header)
   head = header-text s all (f .header) (halves s f e .0)
@@ -184,11 +171,12 @@ module _ (s : List ℕ) (all : AllBytes s) (f : Fields) (e : readAt s ≡ read.R
       let h = head in
       let g = x .found in
       let a = f .header .algorithm in
-      let some = keys-some (f .header .count) (h .allowed) in
+      let some = keys-some (f .header .cipher) (f .header .count) (h .allowed) in
       let counted : f .header .count ≡ suc (length (g .others)) = omega (arith, some, g .counted) in
       let places : otherPlaces f ≡ g .others =
-      others-told (f .header .count) (f .section .places) (x .inside .at + 8) (g .others) (length (g .others)) counted refl (h .allowed) (g .listed)
+      others-told (f .header .cipher) (f .header .count) (f .section .places) (x .inside .at + 8) (g .others) (length (g .others)) counted refl (h .allowed) (g .listed)
       (within-more (length s) 65535 (g .others) (h .fits) (g .inside)) in
+      let starts : x .inside .at + 8 ≡ f .header .section + 12 = omega (arith, x .starts) in
       let others = map (keyRead s) (g .others) in
       let keys = firstIn s f ∷ others in
       let blobs = map keyBlob keys in
@@ -199,6 +187,11 @@ module _ (s : List ℕ) (all : AllBytes s) (f : Fields) (e : readAt s ≡ read.R
       ∙ ap (λ (o : List ℕ). o ++ tail)
       (ap (λ (l : List (List ℕ)). header (f .header .cipher) (f .header .kdf) (viewOf s (f .header .salt)) (f .header .rounds) (blob a (publicIn s f) ∷ l)) (g .blobs)
       ∙ header-plain (f .header .cipher) (f .header .kdf) (viewOf s (f .header .salt)) (f .header .rounds) blobs nc nk) in
+      let placed : f .header .section ≡ length (header cipher.None kdf.None [] 0 blobs) =
+      section-starts s (f .header .section) (header cipher.None kdf.None [] 0 blobs) (h .good) front in
+      let first : f .header .blob .start ≡ 43 =
+      first-starts (f .header .blob) (blob a (publicIn s f)) (map keyBlob others) (f .header .section) (sym (ap length (h .content)) ∙ h .blob-size)
+      (rw (g .blobs) at (h .blob-ends)) placed in
       let text : s ≡ plainImage (f .section .checkint) blobs (standingEntries (g .zeros ∷ g .more-zeros) keys) =
       front ∙ ap (λ (t : List ℕ). header cipher.None kdf.None [] 0 blobs ++ t) (x .text ∙ sym (append-nil (string body))) in
       record {
@@ -207,12 +200,25 @@ module _ (s : List ℕ) (all : AllBytes s) (f : Fields) (e : readAt s ≡ read.R
         fits = h .fits;
         text = rw places text;
         keys-fit = rw places (g .fits);
-        section-place = rw places (section-starts s (f .header .section) (header cipher.None kdf.None [] 0 blobs) (h .good) front);
+        padded = rw places (g .padded);
+        section-place = rw places placed;
         comment-place = g .place ∙ omega (arith, x .starts);
         checkint-fits = g .checkint;
         begins = g .begins;
         content = h .content;
         allowed = h .allowed;
+        comment-size = g .size;
+        comment-within = g .comment-within;
+        blob-within = h .blob-within;
+        blob-start = first;
+        blob-size = h .blob-size;
+        counted = rw places (counted ∙ ap suc (sym (length-map (g .others) (keyRead s))));
+        listed = g .listed ∙ ap₂ (λ (i : ℕ) (l : List ℕ). placesOf (i ∷ l)) starts (sym places);
+        bytes = all;
+        second = g .second;
+        second-starts = g .second-starts;
+        second-ends = g .second-ends;
+        stand = rw places (g .stand);
       }
 
   encrypted-joined :
@@ -221,7 +227,8 @@ module _ (s : List ℕ) (all : AllBytes s) (f : Fields) (e : readAt s ≡ read.R
   unfolding encryptedImage blobBytes
   encrypted-joined w x =
       let h = head in
-      let one : f .header .count - 1 ≡ 0 = omega (arith, eqb-true (f .header .count) 1 (h .allowed)) in
+      let counted : f .header .count ≡ 1 = keys-sealed (f .header .cipher) (f .header .count) w (h .allowed) in
+      let one : f .header .count - 1 ≡ 0 = omega (arith, counted) in
       let front = header (f .header .cipher) (f .header .kdf) (viewOf s (f .header .salt)) (f .header .rounds) (alone (viewOf s (f .header .blob))) in
       let text : s ≡ front ++ rest s (record { at = f .header .section; end = length s }) = rw (one, ← h .content) at (h .text) in
       let ciphertext = viewOf s (f .section .ciphertext) in
@@ -238,11 +245,12 @@ module _ (s : List ℕ) (all : AllBytes s) (f : Fields) (e : readAt s ≡ read.R
               tag-long = x .long;
             };
         content = h .content;
+        one-key = counted;
       }
 
   -- an accepted image is of one kind or the other, and the join of its fields either way
   pub data ImageText : Type 0 where
-    plain-text : f .section .kind ≡ Plain → PlainText s f → ImageText
+    plain-text : f .section .kind ≡ Plain → KeysText s f → ImageText
     encrypted-text : f .section .kind ≡ Encrypted → EncryptedText s f → ImageText
 
   pub image-text : ImageText
@@ -254,5 +262,5 @@ module _ (s : List ℕ) (all : AllBytes s) (f : Fields) (e : readAt s ≡ read.R
       go : Sections s (f .header) (f .section) → ImageText
       go (plain nc nk g) =
           let x = plain-read s all c (f .header .algorithm) (f .header .public) (secondBlob s (f .header)) (f .header .count - 1) (f .section) refl g in
-          plain-text (x .found .plain) (one-text s f (plain-joined nc nk x))
+          plain-text (x .found .plain) (plain-joined nc nk x)
       go (encrypted w g) = let x = encrypted-read s all c (f .header .cipher) (f .section) g in encrypted-text (x .encrypted) (encrypted-joined w x)

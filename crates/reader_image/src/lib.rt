@@ -2,9 +2,10 @@
 // section step. The record's fields are plain data, places in the image among them.
 ghost use mathlib.Core.Path.{_≡_};
 ghost use Prim.Native.Nat.{_+_, _≤_, _<_};
-ghost use lib.ListN.{length};
+ghost use lib.ListN.{length, take, drop};
 ghost use Rattle.reader_image.specs.Container.{sectionAt, answersRead, answersSection};
-ghost use Rattle.reader_image.specs.Form.{scalarStands, scalarInForm, recordInForm, answersForm, answersSectionForm};
+ghost use Rattle.reader_image.specs.Form.{scalarStands, scalarInForm, othersInForm, scalarsInForm, recordInForm, answersForm, answersSectionForm};
+ghost use Rattle.places.specs.Places.{listOf};
 ghost use Rattle.key_pairs.specs.Pairs.{beginsBefore};
 use fields::Cursor;
 use fields::Fault;
@@ -13,6 +14,8 @@ use fields::Refusal;
 use names::Algorithm;
 use names::Elliptic;
 use names::Kdf;
+use places::Places;
+use reader_entries::KeyRead;
 use reader_header::Header;
 use reader_header::HeaderRead;
 use reader_section::Kind;
@@ -133,8 +136,8 @@ fn scalar_stands(image: &[u8], e: Elliptic, scalar: Part) -> bool
 }
 
 // Does it stand so, in a section of this kind and of a key of this algorithm? RSA has none, and of an encrypted image none is
-// known. Of an image's own record, that is whether the image is in the writer's form.
-pub fn scalar_in_form(image: &[u8], kind: Kind, algorithm: Algorithm, scalar: Part) -> bool
+// known.
+fn scalar_in_form(image: &[u8], kind: Kind, algorithm: Algorithm, scalar: Part) -> bool
     ensures { λ r. ⌜ r ≡ scalarInForm (now (image .entry)) kind algorithm scalar ⌝ }
 {
     match kind {
@@ -146,8 +149,60 @@ pub fn scalar_in_form(image: &[u8], kind: Kind, algorithm: Algorithm, scalar: Pa
     }
 }
 
+// Do the scalars of so many keys stand so, whose places are from `index` on and whose blobs from b on?
+fn others_in_form(image: &[u8], b: Cursor, places: Places, index: usize, remaining: usize) -> bool
+    requires { ⌜ index + remaining ≤ 16 ⌝ }
+    ensures { λ r. ⌜ r ≡ othersInForm (now (image .entry)) b (take remaining (drop index (listOf places))) ⌝ }
+{
+    if remaining == 0 {
+        return true;
+    }
+    let at = places.get(index) as usize;
+    match reader_entries::read_key(b, image, at) {
+        KeyRead::Nothing => false,
+        KeyRead::Key(k, d) => {
+            let algorithm = k.algorithm;
+            let private = k.private;
+            if !scalar_in_form(image, Kind::Plain, algorithm, private.scalar) {
+                return false;
+            }
+            others_in_form(image, d, places, index + 1, remaining - 1)
+        }
+    }
+}
+
+// Do all scalars of a record stand so, the first key's and those of the others, whose blobs are from `second` on? Of an
+// image's own record, that is whether the image is in the writer's form.
+pub fn scalars_in_form(
+    image: &[u8],
+    kind: Kind,
+    algorithm: Algorithm,
+    scalar: Part,
+    second: usize,
+    count: usize,
+    places: Places,
+) -> bool
+    ensures { λ r. ⌜ r ≡ scalarsInForm (now (image .entry)) kind algorithm scalar second count places ⌝ }
+{
+    if !scalar_in_form(image, kind, algorithm, scalar) {
+        return false;
+    }
+    if count < 2 {
+        return true;
+    }
+    let b = Cursor {
+        at: second,
+        end: image.len(),
+    };
+    if 16 < count {
+        return others_in_form(image, b, places, 1, 15);
+    }
+    others_in_form(image, b, places, 1, count - 1)
+}
+
 // The same of a record.
 fn record_in_form(image: &[u8], f: Fields) -> bool
+    requires { ⌜ f .header .blob .start + f .header .blob .length ≤ length (now image) ⌝ }
     ensures { λ r. ⌜ r ≡ recordInForm (now (image .entry)) f ⌝ }
 {
     let header = f.header;
@@ -155,7 +210,18 @@ fn record_in_form(image: &[u8], f: Fields) -> bool
     let private = section.private;
     let kind = section.kind;
     let algorithm = header.algorithm;
-    scalar_in_form(image, kind, algorithm, private.scalar)
+    let first = header.blob;
+    let second = first.start + first.length;
+    let places = section.places;
+    scalars_in_form(
+        image,
+        kind,
+        algorithm,
+        private.scalar,
+        second,
+        header.count,
+        places,
+    )
 }
 
 pub enum FormRead {

@@ -27,7 +27,7 @@ use Rattle.places.specs.Places.{AllWithin, placesOf}
 use Rattle.reader_blobs.specs.Blobs.{blobBytes}
 use Rattle.reader_entries.specs.Entries.{keysAt, keyRead}
 use Rattle.reader_entries.specs.Back.{AllFit}
-use Rattle.reader_entries.specs.Read.{by-keys, firstKey, keys-read}
+use Rattle.reader_entries.specs.Read.{by-keys, firstKey, AllStand, keys-read}
 use Rattle.reader_section.specs.declared.Kind.the-variants.{Plain}
 use Rattle.reader_section.specs.declared.Section.{Section}
 use Rattle.reader_section.specs.declared.SectionRead.{SectionRead}
@@ -90,7 +90,8 @@ module _ (s : List ℕ) (all : AllBytes s) where
   -- the fields one after the other, and the padding that they leave
   content-joined :
       (c : Cursor) (n : ℕ) (d : Cursor) (entries : List Entry) (b : Cursor) → c .end ≤ length s → (c .end - c .at) % 8 ≡ 0 → checkintsAt s c ≡ answer.Value n d
-      → rest s d ≡ join (entryFields entries) ++ rest s b → Good s b → paddingAt s b ≡ ending.Clean → rest s c ≡ section n entries
+      → rest s d ≡ join (entryFields entries) ++ rest s b → Good s b → paddingAt s b ≡ ending.Clean
+      → (rest s c ≡ section n entries) × (b .end - b .at ≡ paddingLength (length (content n entries)))
   unfolding section
   content-joined c n d entries b inside whole w stand good u =
       let body = content n entries in
@@ -105,7 +106,7 @@ module _ (s : List ℕ) (all : AllBytes s) where
       sym (length-slice (c .at) (c .end) s inside) ∙ ap length text ∙ length-append body (take left paddingBytes)
       ∙ ap (λ (i : ℕ). length body + i) (length-take-le left paddingBytes (omega (arith, p .1))) in
       let fills : left ≡ paddingLength (length body) = padding-is (length body) left (rw long at whole) (p .1) in
-      text ∙ ap (λ (i : ℕ). body ++ take i paddingBytes) fills
+      (text ∙ ap (λ (i : ℕ). body ++ take i paddingBytes) fills, fills)
 
   -- a section's keys: the first by its fields, the others by their places
   abbrev pub sectionKeys : Algorithm → Public → Section → List ℕ → List Key
@@ -118,12 +119,19 @@ module _ (s : List ℕ) (all : AllBytes s) where
     pub others : List ℕ
     pub plain : x .kind ≡ Plain
     pub text : rest s c ≡ section (x .checkint) (standingEntries (zeros ∷ more-zeros) (sectionKeys a q x others))
+    pub padded : x .padding ≡ paddingLength (length (content (x .checkint) (standingEntries (zeros ∷ more-zeros) (sectionKeys a q x others))))
     pub listed : x .places ≡ placesOf ((c .at + 8) ∷ others)
     pub blobs : blobBytes s b more ≡ map keyBlob (map (keyRead s) others)
     pub fits : AllFit (zeros ∷ more-zeros) (sectionKeys a q x others)
     pub checkint : x .checkint < 2 ^ 32
     pub begins : IfScalar a (Begins s (x .private .scalar) zeros)
     pub place : x .comment .start ≡ c .at + beforeComment (pair a zeros (publicBytes s q) (privateBytes s (x .private))) + 4
+    pub size : length (viewOf s (x .comment)) ≡ x .comment .length
+    pub comment-within : x .comment .start ≤ length s
+    pub second : Cursor
+    pub second-starts : second .at ≡ x .comment .start + x .comment .length
+    pub second-ends : second .end ≡ length s
+    pub stand : AllStand s all second b others more-zeros
     pub counted : length others ≡ more
     pub inside : AllWithin (length s) others
 
@@ -151,21 +159,29 @@ module _ (s : List ℕ) (all : AllBytes s) where
       let first = checkints-read c n d v in
       let r = keys-read s all d a q b more y m places o (first .3 ∙ end) u in
       let starts : d .at ≡ c .at + 8 = first .2 in
+      let joined =
+      content-joined c n d (standingEntries (r .zeros ∷ r .more-zeros) (firstKey s all a q y m ∷ map (keyRead s) (r .others))) o
+      (omega (arith, end)) (eqb-true _ _ w) v (r .text) (r .good) t in
       rw (← same)
       (record {
         zeros = r .zeros;
         more-zeros = r .more-zeros;
         others = r .others;
         plain = refl;
-        text =
-            content-joined c n d (standingEntries (r .zeros ∷ r .more-zeros) (firstKey s all a q y m ∷ map (keyRead s) (r .others))) o
-            (omega (arith, end)) (eqb-true _ _ w) v (r .text) (r .good) t;
+        text = joined .0;
+        padded = joined .1;
         listed = r .listed ∙ ap (λ (j : ℕ). placesOf (j ∷ r .others)) starts;
         blobs = r .blobs;
         fits = r .fits;
         checkint = first .1;
         begins = r .begins;
         place = r .place ∙ omega (arith, starts);
+        size = r .size;
+        comment-within = r .comment-within;
+        second = r .second;
+        second-starts = r .second-starts;
+        second-ends = r .second-ends;
+        stand = r .stand;
         counted = r .counted;
         inside = r .inside;
       })))))

@@ -1,7 +1,8 @@
 -- docs/RULES.md, 4.7, 4.8, 5.1, 5.2 and 5.6, and of the places 7.2 and 7.3: what reading the section finds.
-use Prim.Native.Nat.{ℕ, _-_, _%_}
+use Prim.Native.Nat.{ℕ, zero, suc, _-_, _%_}
+use native.Mathlib.Omega.{arith}
 use mathlib.Core.Path.{_≡_, refl}
-use mathlib.Core.List.{List, []}
+use mathlib.Core.List.{List, [], _∷_}
 use mathlib.Core.Bool.{cond}
 use lib.ListN.{take}
 use lib.Dec.{eqb, ltb}
@@ -24,8 +25,15 @@ use Rattle.key_pairs.specs.declared.Private.{Private}
 use Rattle.key_pairs.specs.Pairs.{scalarPlace}
 use Rattle.places.specs.declared.Places.{Places}
 use Rattle.places.specs.Places.{placesOf, pushed}
-use Rattle.reader_entries.specs.Entries.{Keys, Keys-are, Keys-not, onKeys, before, keysAt}
+use Rattle.reader_blobs.specs.declared.BlobField.{BlobField}
+use Rattle.reader_blobs.specs.declared.BlobField.the-variants as blob-field
+use Rattle.reader_blobs.specs.Blobs.{onBlobField, blobFieldAt}
+use Rattle.reader_entries.specs.declared.Entry.{Entry}
+use Rattle.reader_entries.specs.declared.Entry.the-variants as entry
+use Rattle.reader_entries.specs.Entries.{onEntry, entryAt, Next-key, Next-not, onNext, nextAt, Listed, Are, Not, onListed, moreAt, Keys, Keys-are, Keys-not, onKeys, keysAt}
 use Rattle.reader_section.specs.declared.Kind.the-variants.{Plain, Encrypted}
+use Rattle.reader_section.specs.declared.More.{More}
+use Rattle.reader_section.specs.declared.More.the-variants as more
 use Rattle.reader_section.specs.declared.Section.{Section}
 use Rattle.reader_section.specs.declared.SectionRead.{SectionRead}
 use Rattle.reader_section.specs.declared.SectionRead.the-variants as section-read
@@ -121,55 +129,114 @@ encryptedAt s c cipher =
 
 -- ---- as the code goes on from key to key, to the image's end
 
--- after the last key, which began at a place
-unfoldable pub lastAt : List ℕ → Cursor → ℕ → ℕ → Private → Part → Cursor → SectionRead
-lastAt s c checkint at private comment past =
-    onEnding (paddingAt s c) section-read.Refused
-    (onEnding (endAt past) section-read.Refused
-    (section-read.Section (plainOf checkint (c .end - c .at) private comment (pushed at (placesOf [])))))
+-- by what was read
+abbrev pub onMore : {R : Type 0} → More → (Fault → R) → (Places → Cursor → R) → R
+onMore (more.Refused f) refused read = refused f
+onMore (more.Keys places c) refused read = read places c
 
--- a key before those that follow it
-unfoldable pub beforeOthers : ℕ → Private → Part → SectionRead → SectionRead
-beforeOthers at private comment others =
-    onSectionRead others section-read.Refused (λ x.
-    section-read.Section (plainOf (x .checkint) (x .padding) private comment (pushed at (x .places))))
+-- the keys after the first
+unfoldable pub readMore : List ℕ → Cursor → Cursor → ℕ → More
+readMore s c b n = onListed (moreAt s c b n) more.Refused (λ l d. more.Keys (placesOf l) d)
 
-pub closed-last :
-    (s : List ℕ) (checkint : ℕ) (at : ℕ) (private : Private) (comment : Part) (c past : Cursor)
-    → endedAt past (closedAt s checkint (Keys-are private comment (pushed at (placesOf [])) c)) ≡ lastAt s c checkint at private comment past
-unfolding closedAt endedAt lastAt
-closed-last s checkint at private comment c past = by (paddingAt s c)
+-- after the last key the padding, and then the image's end
+unfoldable pub endsAt : List ℕ → Cursor → Cursor → Ending
+endsAt s c past = onEnding (paddingAt s c) ending.Refused (endAt past)
+
+-- the first key, which began at a place, and so many more
+unfoldable pub followedAt : List ℕ → Cursor → Cursor → ℕ → ℕ → ℕ → Private → Part → Cursor → SectionRead
+followedAt s c b n checkint at private comment past =
+    onMore (readMore s c b n) section-read.Refused (λ places d.
+    onEnding (endsAt s d past) section-read.Refused
+    (section-read.Section (plainOf checkint (d .end - d .at) private comment (pushed at places))))
+
+-- no more
+pub more-none : (s : List ℕ) (c b : Cursor) → readMore s c b 0 ≡ more.Keys (placesOf []) c
+unfolding readMore moreAt
+more-none s c b = refl
+
+-- one more, and those after it
+pub more-next :
+    (s : List ℕ) (c b : Cursor) (n : ℕ) → (n ≡ 0 → ⊥)
+    → readMore s c b n
+    ≡ onBlobField (blobFieldAt s b) more.Refused (λ a p q e.
+    onEntry (entryAt s c a q) more.Refused (λ private comment d.
+    onMore (readMore s d e (n - 1)) more.Refused (λ places g.
+    more.Keys (pushed (c .at) places) g)))
+unfolding readMore moreAt nextAt
+more-next s c b zero h = absurd (h refl)
+more-next s c b (suc n) h = let less : suc n - 1 ≡ n = omega arith in
+    rw less (go (blobFieldAt s b))
   where
-    section : Section
-    section = plainOf checkint (c .end - c .at) private comment (pushed at (placesOf []))
+    rest : Cursor → Cursor → Listed
+    rest d e = onListed (moreAt s d e n) Not (λ l g. Are (c .at ∷ l) g)
 
-    by :
-        (r : Ending)
-        → onSectionRead (onEnding r section-read.Refused (section-read.Section section)) section-read.Refused
+    told : Listed → More
+    told r = onListed r more.Refused (λ l d. more.Keys (placesOf l) d)
+
+    go :
+        (r : BlobField)
+        → told (onNext (onBlobField r Next-not (λ a p q e. onEntry (entryAt s c a q) Next-not (λ x m d. Next-key d e))) Not rest)
+        ≡ onBlobField r more.Refused (λ a p q e.
+        onEntry (entryAt s c a q) more.Refused (λ x m d. onMore (told (moreAt s d e n)) more.Refused (λ places g. more.Keys (pushed (c .at) places) g)))
+    go (blob-field.Refused f) = refl
+    go (blob-field.Key a p q e) = by (entryAt s c a q)
+      where
+        by :
+            (r : Entry)
+            → told (onNext (onEntry r Next-not (λ x m d. Next-key d e)) Not rest)
+            ≡ onEntry r more.Refused (λ x m d. onMore (told (moreAt s d e n)) more.Refused (λ places g. more.Keys (pushed (c .at) places) g))
+        by (entry.Refused f) = refl
+        by (entry.Key x m d) = listed (moreAt s d e n)
+          where
+            listed :
+                (r : Listed)
+                → told (onListed r Not (λ l g. Are (c .at ∷ l) g)) ≡ onMore (told r) more.Refused (λ places g. more.Keys (pushed (c .at) places) g)
+            listed (Not f) = refl
+            listed (Are l g) = refl
+
+-- the first key, and what follows it
+pub keys-followed :
+    (s : List ℕ) (c : Cursor) (algorithm : Algorithm) (public : Public) (b : Cursor) (n checkint : ℕ) (past : Cursor)
+    → endedAt past (closedAt s checkint (keysAt s c algorithm public b n))
+    ≡ onEntry (entryAt s c algorithm public) section-read.Refused (λ private comment d. followedAt s d b n checkint (c .at) private comment past)
+unfolding closedAt endedAt keysAt followedAt readMore endsAt
+keys-followed s c algorithm public b n checkint past = go (entryAt s c algorithm public)
+  where
+    section : Private → Part → List ℕ → Cursor → Section
+    section private comment l d = plainOf checkint (d .end - d .at) private comment (pushed (c .at) (placesOf l))
+
+    go :
+        (r : Entry)
+        → onSectionRead
+        (onKeys (onEntry r Keys-not (λ private comment d. onListed (moreAt s d b n) Keys-not (λ l e. Keys-are private comment (placesOf (c .at ∷ l)) e)))
+        section-read.Refused
+        (λ private comment places e. onEnding (paddingAt s e) section-read.Refused (section-read.Section (plainOf checkint (e .end - e .at) private comment places))))
+        section-read.Refused
         (λ x. onEnding (endAt past) section-read.Refused (section-read.Section x))
-        ≡ onEnding r section-read.Refused (onEnding (endAt past) section-read.Refused (section-read.Section section))
-    by (ending.Refused f) = refl
-    by ending.Clean = refl
-
-pub closed-before :
-    (s : List ℕ) (checkint : ℕ) (at : ℕ) (private : Private) (comment : Part) (keys : Keys) (past : Cursor)
-    → endedAt past (closedAt s checkint (before at private comment keys)) ≡ beforeOthers at private comment (endedAt past (closedAt s checkint keys))
-unfolding closedAt endedAt beforeOthers
-closed-before s checkint at private comment (Keys-not f) past = refl
-closed-before s checkint at private comment (Keys-are x m places c) past = by (paddingAt s c) (endAt past)
-  where
-    by :
-        (r e : Ending)
-        → onSectionRead (onEnding r section-read.Refused (section-read.Section (plainOf checkint (c .end - c .at) private comment (pushed at places)))) section-read.Refused
-        (λ y. onEnding e section-read.Refused (section-read.Section y))
-        ≡ onSectionRead
-        (onSectionRead (onEnding r section-read.Refused (section-read.Section (plainOf checkint (c .end - c .at) x m places))) section-read.Refused
-        (λ y. onEnding e section-read.Refused (section-read.Section y))) section-read.Refused
-        (λ y. section-read.Section (plainOf (y .checkint) (y .padding) private comment (pushed at (y .places))))
-    by (ending.Refused f) e = refl
-    by ending.Clean (ending.Refused f) = refl
-    by ending.Clean ending.Clean = refl
-
-pub closed-refused : (s : List ℕ) (checkint : ℕ) (f : Fault) (past : Cursor) → endedAt past (closedAt s checkint (Keys-not f)) ≡ section-read.Refused f
-unfolding closedAt endedAt
-closed-refused s checkint f past = refl
+        ≡ onEntry r section-read.Refused (λ private comment d.
+        onMore (onListed (moreAt s d b n) more.Refused (λ l e. more.Keys (placesOf l) e)) section-read.Refused (λ places e.
+        onEnding (onEnding (paddingAt s e) ending.Refused (endAt past)) section-read.Refused
+        (section-read.Section (plainOf checkint (e .end - e .at) private comment (pushed (c .at) places)))))
+    go (entry.Refused f) = refl
+    go (entry.Key private comment d) = listed (moreAt s d b n)
+      where
+        listed :
+            (r : Listed)
+            → onSectionRead
+            (onKeys (onListed r Keys-not (λ l e. Keys-are private comment (placesOf (c .at ∷ l)) e)) section-read.Refused
+            (λ x m places e. onEnding (paddingAt s e) section-read.Refused (section-read.Section (plainOf checkint (e .end - e .at) x m places))))
+            section-read.Refused
+            (λ x. onEnding (endAt past) section-read.Refused (section-read.Section x))
+            ≡ onMore (onListed r more.Refused (λ l e. more.Keys (placesOf l) e)) section-read.Refused (λ places e.
+            onEnding (onEnding (paddingAt s e) ending.Refused (endAt past)) section-read.Refused
+            (section-read.Section (plainOf checkint (e .end - e .at) private comment (pushed (c .at) places))))
+        listed (Not f) = refl
+        listed (Are l e) = padded (paddingAt s e)
+          where
+            padded :
+                (r : Ending)
+                → onSectionRead (onEnding r section-read.Refused (section-read.Section (section private comment l e))) section-read.Refused
+                (λ x. onEnding (endAt past) section-read.Refused (section-read.Section x))
+                ≡ onEnding (onEnding r ending.Refused (endAt past)) section-read.Refused (section-read.Section (section private comment l e))
+            padded (ending.Refused f) = refl
+            padded ending.Clean = refl

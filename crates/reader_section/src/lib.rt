@@ -5,7 +5,7 @@ ghost use lib.ListN.{take};
 ghost use Rattle.fields.specs.Bytes.{sameBytes};
 ghost use Rattle.format.specs.Format.{paddingBytes};
 ghost use Rattle.reader_entries.specs.Entries.{keysAt};
-ghost use Rattle.reader_section.specs.Section.{checkintsAt, paddingAt, plainOf, closedAt, lastAt, beforeOthers, contentAt, endedAt, plainAt, encryptedOf, presentOf, encryptedAt};
+ghost use Rattle.reader_section.specs.Section.{checkintsAt, paddingAt, plainOf, closedAt, readMore, endsAt, followedAt, contentAt, endedAt, plainAt, encryptedOf, presentOf, encryptedAt};
 use fields::Cursor;
 use fields::Ending;
 use fields::Fault;
@@ -28,12 +28,13 @@ pub enum Kind {
 
 // What the section adds to a header. A field that its kind doesn't have is absent, a number 0. private and
 // comment are the first key's, and places says where each key begins. A scalar's place is that of its bytes
-// without leading zeros; for Ed25519 the seed's.
+// without leading zeros; for Ed25519 the seed's. The order is for speed: a number stands between
+// private and comment, and each is then copied by itself.
 pub struct Section {
-    pub kind: Kind,
-    pub checkint: u32,
     pub padding: usize,
     pub private: Private,
+    pub kind: Kind,
+    pub checkint: u32,
     pub comment: Part,
     pub places: Places,
     pub ciphertext: Part,
@@ -133,51 +134,75 @@ fn plain(checkint: u32, padding: usize, private: Private, comment: Part, places:
     }
 }
 
-// What is left after the last key, which began at a place, is padding; past the section the image ends.
-fn read_last(
+// Where keys begin, and the place after the last.
+enum More {
+    Keys(Places, Cursor),
+    Refused(Fault),
+}
+
+// So many keys from c on, their blobs from b on.
+fn read_more(c: Cursor, image: &[u8], b: Cursor, remaining: usize) -> More
+    ensures { λ r. ⌜ r ≡ readMore (now (image .entry)) c b remaining ⌝ }
+{
+    let at = c.at;
+    if remaining == 0 {
+        return More::Keys(Places::none(), c);
+    }
+    match reader_blobs::read_blob_field(b, image) {
+        BlobField::Refused(f) => More::Refused(f),
+        BlobField::Key(a, _, q, e) => match reader_entries::read_entry(c, image, a, q) {
+            Entry::Refused(f) => More::Refused(f),
+            Entry::Key(_, _, d) => match read_more(d, image, e, remaining - 1) {
+                More::Refused(f) => More::Refused(f),
+                More::Keys(places, g) => More::Keys(places.push(at), g),
+            },
+        },
+    }
+}
+
+// What is left after the last key is padding; past the section the image ends.
+fn read_end(c: Cursor, image: &[u8], past: Cursor) -> Ending
+    ensures { λ r. ⌜ r ≡ endsAt (now (image .entry)) c past ⌝ }
+{
+    match read_padding(c, image) {
+        Ending::Refused(f) => Ending::Refused(f),
+        Ending::Clean => past.finish(),
+    }
+}
+
+// A key that began at a place, the keys after it, from c on, and the end.
+fn read_others(
     c: Cursor,
     image: &[u8],
+    b: Cursor,
+    more: usize,
     checkint: u32,
     at: usize,
     private: Private,
     comment: Part,
     past: Cursor,
 ) -> SectionRead
-    ensures { λ r. ⌜ r ≡ lastAt (now (image .entry)) c checkint at private comment past ⌝ }
+    ensures { λ r. ⌜ r ≡ followedAt (now (image .entry)) c b more checkint at private comment past ⌝ }
 {
-    match read_padding(c, image) {
-        Ending::Refused(f) => SectionRead::Refused(f),
-        Ending::Clean => match past.finish() {
-            Ending::Refused(f) => SectionRead::Refused(f),
+    match read_more(c, image, b, more) {
+        More::Refused(f) => return SectionRead::Refused(f),
+        More::Keys(places, d) => match read_end(d, image, past) {
+            Ending::Refused(f) => return SectionRead::Refused(f),
             Ending::Clean => {
-                let places = Places::none();
-                SectionRead::Section(plain(
+                return SectionRead::Section(plain(
                     checkint,
-                    c.remaining(),
+                    d.remaining(),
                     private,
                     comment,
                     places.push(at),
-                ))
+                ));
             }
         },
     }
 }
 
-// A key before those that follow it.
-fn before(at: usize, private: Private, comment: Part, others: SectionRead) -> SectionRead
-    ensures { λ r. ⌜ r ≡ beforeOthers at private comment others ⌝ }
-{
-    match others {
-        SectionRead::Refused(f) => SectionRead::Refused(f),
-        SectionRead::Section(x) => {
-            let places = x.places;
-            SectionRead::Section(plain(x.checkint, x.padding, private, comment, places.push(at)))
-        }
-    }
-}
-
 // The keys from c on, the padding after the last and the image's end: one key of this algorithm and public key, and
-// so many more, their blobs from b on.
+// so many more, their blobs from b on. One key alone goes straight, without the copies that the others' function costs.
 fn read_keys(
     c: Cursor,
     image: &[u8],
@@ -192,16 +217,22 @@ fn read_keys(
 {
     let at = c.at;
     match reader_entries::read_entry(c, image, algorithm, public) {
-        Entry::Refused(f) => SectionRead::Refused(f),
+        Entry::Refused(f) => return SectionRead::Refused(f),
         Entry::Key(private, comment, d) => {
-            if more == 0 {
-                return read_last(d, image, checkint, at, private, comment, past);
+            if more != 0 {
+                return read_others(d, image, b, more, checkint, at, private, comment, past);
             }
-            match reader_blobs::read_blob_field(b, image) {
-                BlobField::Refused(f) => SectionRead::Refused(f),
-                BlobField::Key(a, _, q, e) => {
-                    let others = read_keys(d, image, a, q, e, more - 1, checkint, past);
-                    before(at, private, comment, others)
+            match read_end(d, image, past) {
+                Ending::Refused(f) => return SectionRead::Refused(f),
+                Ending::Clean => {
+                    let places = Places::none();
+                    return SectionRead::Section(plain(
+                        checkint,
+                        d.remaining(),
+                        private,
+                        comment,
+                        places.push(at),
+                    ));
                 }
             }
         }
@@ -229,8 +260,8 @@ fn read_content(
         });
     }
     match read_checkints(c, image) {
-        Uint32::Refused(f) => SectionRead::Refused(f),
-        Uint32::Value(n, d) => read_keys(d, image, algorithm, public, b, more, n, past),
+        Uint32::Refused(f) => return SectionRead::Refused(f),
+        Uint32::Value(n, d) => return read_keys(d, image, algorithm, public, b, more, n, past),
     }
 }
 
@@ -246,7 +277,7 @@ pub fn read_plain(
     ensures { λ r. ⌜ r ≡ plainAt (now (image .entry)) c algorithm public b more ⌝ }
 {
     match c.string(image) {
-        Field::Refused(f) => SectionRead::Refused(f),
+        Field::Refused(f) => return SectionRead::Refused(f),
         Field::Part(p, d) => {
             let start = p.start;
             let length = p.length;
@@ -254,7 +285,7 @@ pub fn read_plain(
                 at: start,
                 end: start + length,
             };
-            read_content(inside, image, algorithm, public, b, more, d)
+            return read_content(inside, image, algorithm, public, b, more, d);
         }
     }
 }

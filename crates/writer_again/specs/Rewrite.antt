@@ -1,34 +1,32 @@
--- docs/RULES.md, 10.9: writing an image's record, with its own checkint where it is plain, its scalar filled to SIZE; and 9.3: a record
--- handed in that isn't what an accepted read of its image gives replies 1 before all else.
+-- docs/RULES.md, 10.9: writing an image's record, where it is plain all its keys in their order, with its own checkint, each scalar filled to
+-- SIZE; and 9.3: a record handed in that isn't what an accepted read of its image gives replies 1 before all else.
 use Prim.Native.Nat.{ℕ}
+use mathlib.Core.Path.{_≡_, ap}
 use mathlib.Core.Bool.{cond}
-use mathlib.Core.List.{List}
+use mathlib.Core.List.{List, map}
 use lib.ListN.{length}
 use Rattle.fields.specs.Fields.{viewOf}
 use Rattle.fields.specs.declared.Refusal.the-variants.{Length}
-use Rattle.reader_image.specs.Container.{publicIn, materialIn, onRead, readAt}
+use Rattle.reader_image.specs.Container.{keysIn, onRead, readAt}
 use Rattle.reader_image.specs.Form.{onKind}
 use Rattle.reader_image.specs.declared.Fields.{Fields}
+use Rattle.reader_section.specs.declared.Kind.{Kind}
+use Rattle.reader_section.specs.declared.Kind.the-variants.{Plain}
 use Rattle.handed_record.specs.Judge.{isRead}
 use Rattle.writer_reply.specs.Reply.{unless, answers}
 use Rattle.writer_reply.specs.declared.Written.{Written}
 use Rattle.writer_reply.specs.declared.Written.the-variants as written
-use Rattle.format.specs.Format.{PublicBytes, PrivateBytes, ofPoint, ofScalar, ofModulus, ofNumbers, scalarFilled, filled, blob, keypair, writtenImage}
-use Rattle.writer_plain.specs.Plain.{allMpints, sizesFit, keyChecked, plainReply, plainLeft}
-use Rattle.names.specs.declared.Elliptic.{Elliptic}
-use Rattle.names.specs.declared.Algorithm.the-variants.{Elliptic as OnCurve, Rsa}
-use mathlib.Core.Path.{_≡_, refl}
+use Rattle.format.specs.Format.{filledKey}
+use Rattle.writer_plain.specs.Plain.{keysReply, keysLeft}
+use Rattle.writer_listed.specs.Listed.{listedKeys, isListed}
 use Rattle.writer_encrypted.specs.Encrypted.{encryptedReply, encryptedLeft}
 
--- a plain record's key, its scalar filled to SIZE, checkint and comment, written again
+-- a plain record's keys in their order, each with its scalar filled to SIZE and its comment, and the checkint, written again
 unfoldable pub plainAgain : List ℕ → Fields → ℕ → Written
-plainAgain s f room = plainReply (f .header .algorithm) (publicIn s f) (materialIn s f) (f .section .checkint) (viewOf s (f .section .comment)) room
+plainAgain s f room = keysReply (map filledKey (keysIn s f)) (f .section .checkint) room
 
 unfoldable pub plainAgainLeft : List ℕ → Fields → List ℕ → List ℕ
-plainAgainLeft s f old = plainLeft (f .header .algorithm) (publicIn s f) (materialIn s f) (f .section .checkint) (viewOf s (f .section .comment)) old
-
-abbrev pub isPlainAgain : List ℕ → Fields → List ℕ → Written → List ℕ → Type 0
-isPlainAgain s f old r out = answers (plainAgain s f (length old)) (plainAgainLeft s f old) r out
+plainAgainLeft s f old = keysLeft (map filledKey (keysIn s f)) (f .section .checkint) old
 
 unfoldable pub recordReply : List ℕ → Fields → ℕ → Written
 recordReply s f room =
@@ -67,22 +65,22 @@ handedLeft s f old = cond (isRead s f) (recordLeft s f old) old
 abbrev pub isHanded : List ℕ → Fields → List ℕ → Written → List ℕ → Type 0
 isHanded s f old r out = answers (handedReply s f (length old)) (handedLeft s f old) r out
 
--- ---- laws: the writer looks at what a kind has, and at nothing else
+-- ---- laws: a plain record is written by the writer of a list
 
-pub elliptic-only :
-    (e : Elliptic) (key : PublicBytes) (x : PrivateBytes) (n : ℕ) (comment : List ℕ)
-    → ((room : ℕ)
-    → plainReply (OnCurve e) (ofPoint (key .point)) (ofScalar (scalarFilled e (x .scalar))) n comment room ≡ plainReply (OnCurve e) key (filled (OnCurve e) x) n comment room)
-    × ((old : List ℕ)
-    → plainLeft (OnCurve e) (ofPoint (key .point)) (ofScalar (scalarFilled e (x .scalar))) n comment old ≡ plainLeft (OnCurve e) key (filled (OnCurve e) x) n comment old)
-unfolding plainReply plainLeft keyChecked writtenImage blob keypair
-elliptic-only e key x n comment = (λ room. refl, λ old. refl)
+on-plain : {R : Type 0} (k : Kind) (x y : R) → k ≡ Plain → onKind k x y ≡ x
+on-plain k x y e = ap (λ (j : Kind). onKind j x y) e
 
-pub rsa-only :
-    (key : PublicBytes) (x : PrivateBytes) (n : ℕ) (comment : List ℕ)
-    → ((room : ℕ)
-    → plainReply Rsa (ofModulus (key .modulus) (key .exponent)) (ofNumbers (x .d) (x .iqmp) (x .p) (x .q)) n comment room ≡ plainReply Rsa key x n comment room)
-    × ((old : List ℕ)
-    → plainLeft Rsa (ofModulus (key .modulus) (key .exponent)) (ofNumbers (x .d) (x .iqmp) (x .p) (x .q)) n comment old ≡ plainLeft Rsa key x n comment old)
-unfolding plainReply plainLeft keyChecked allMpints sizesFit writtenImage blob keypair
-rsa-only key x n comment = (λ room. refl, λ old. refl)
+module _ (s : List ℕ) (f : Fields) (plain : f .section .kind ≡ Plain) where
+  pub reply-plain : (room : ℕ) → recordReply s f room ≡ plainAgain s f room
+  unfolding recordReply
+  reply-plain room = on-plain (f .section .kind) _ _ plain
+
+  pub left-plain : (old : List ℕ) → recordLeft s f old ≡ plainAgainLeft s f old
+  unfolding recordLeft
+  left-plain old = on-plain (f .section .kind) _ _ plain
+
+  -- by the keys that were found, where they are the record's
+  pub listed-again :
+      listedKeys s f ≡ map filledKey (keysIn s f) → (old : List ℕ) (r : Written) (out : List ℕ) → isListed s f old r out → isRewrite s f old r out
+  unfolding plainAgain plainAgainLeft
+  listed-again same old r out w = rw (reply-plain (length old), left-plain old, ← same) w

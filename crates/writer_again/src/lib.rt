@@ -1,47 +1,21 @@
 // An image's record written again.
+ghost use mathlib.Core.Path.{_≡_};
 ghost use Prim.Native.Nat.{_≤_};
 ghost use lib.ListN.{length};
+ghost use Rattle.reader_image.specs.declared.ImageRead.the-variants as read;
+ghost use Rattle.reader_image.specs.Container.{readAt};
 ghost use Rattle.writer_reply.specs.Reply.{isSized};
-ghost use Rattle.writer_again.specs.Rewrite.{isPlainAgain, isRewrite, isRewritten, isHanded};
+ghost use Rattle.writer_again.specs.Rewrite.{isRewrite, isRewritten, isHanded};
 use fields::Refusal;
-use names::Algorithm;
 use reader_image::Fields;
 use reader_image::ImageRead;
 use reader_parts::Which;
 use reader_section::Kind;
 use writer_reply::Written;
 
-fn write_plain(image: &[u8], f: Fields, out: &mut [u8]) -> Written
-    ensures { λ r. ⌜ isPlainAgain (now (image .entry)) f (now (out .entry)) r (now (out .exit)) ⌝ }
-{
-    let header = f.header;
-    let section = f.section;
-    let algorithm = header.algorithm;
-    let checkint = section.checkint;
-    match algorithm {
-        Algorithm::Elliptic(e) => writer_plain::write_filled(
-            e,
-            reader_parts::part(image, f, Which::Point),
-            reader_parts::part(image, f, Which::Scalar),
-            checkint,
-            reader_parts::comment(image, f),
-            out,
-        ),
-        Algorithm::Rsa => writer_rsa::write_parts(
-            reader_parts::part(image, f, Which::Modulus),
-            reader_parts::part(image, f, Which::Exponent),
-            reader_parts::part(image, f, Which::D),
-            reader_parts::part(image, f, Which::Iqmp),
-            reader_parts::part(image, f, Which::P),
-            reader_parts::part(image, f, Which::Q),
-            checkint,
-            reader_parts::comment(image, f),
-            out,
-        ),
-    }
-}
-
+// A record that an accepted read of the image gave, written again by its kind's writer, all its keys in their order.
 fn write_record(image: &[u8], f: Fields, out: &mut [u8]) -> Written
+    requires { ⌜ readAt (now image) ≡ read.Record f ⌝ }
     ensures { λ r. ⌜ isRewrite (now (image .entry)) f (now (out .entry)) r (now (out .exit)) ⌝ }
 {
     let header = f.header;
@@ -50,7 +24,7 @@ fn write_record(image: &[u8], f: Fields, out: &mut [u8]) -> Written
     let cipher = header.cipher;
     let kdf = header.kdf;
     match kind {
-        Kind::Plain => write_plain(image, f, out),
+        Kind::Plain => writer_listed::write_listed(image, f, out),
         Kind::Encrypted => writer_encrypted::write_encrypted(
             cipher,
             kdf,
@@ -87,7 +61,19 @@ pub fn rewrite(image: &[u8], out: &mut [u8]) -> Written
             let private = section.private;
             let kind = section.kind;
             let algorithm = header.algorithm;
-            if reader_image::scalar_in_form(image, kind, algorithm, private.scalar) {
+            let first = header.blob;
+            let second = first.start + first.length;
+            let places = section.places;
+            let form = reader_image::scalars_in_form(
+                image,
+                kind,
+                algorithm,
+                private.scalar,
+                second,
+                header.count,
+                places,
+            );
+            if form {
                 return write_as_is(image, out);
             }
             write_record(image, f, out)

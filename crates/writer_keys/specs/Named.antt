@@ -1,6 +1,6 @@
--- Several keys written from one text and a table. Order: 1 for a table that isn't that of 1 to 16 keys, or for a part that isn't within the
--- text; 4 for a code that names nothing, of any key; then what a write of these keys answers. Every refusal is at 0.
--- docs/RULES.md, 10.4: a derived checkint is that of the first key's private bytes.
+-- docs/RULES.md, 10.10 and 10.11: several keys written from one text and a table. Order: 1 for a table that isn't that of 1 to 16 keys, or for
+-- a part that isn't within the text; 4 for a code that names nothing, of any key; then what a write of these keys answers. Every refusal is at
+-- 0. 10.4: a derived checkint is that of the first key's private bytes.
 use Prim.Native.Nat.{ℕ}
 use mathlib.Core.Bool.{Bool}
 use mathlib.Core.List.{List}

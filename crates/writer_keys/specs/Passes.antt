@@ -35,7 +35,7 @@ pub none-put : (old : List ℕ) (at : ℕ) → isRun old at [] at old
 none-put old at h = nothing-put old at
 
 -- what is left, in one run
-rest-of :
+pub rest-of :
     {old : List ℕ} {a : ℕ} {fields more : List (List ℕ)} {at : ℕ} {out : List ℕ} {r : ℕ} {out′ : List ℕ}
     → Left old a fields more at out → isRun out at (join more) r out′ → isPut old a (join fields) r out′
 rest-of {old} {a} {fields} {more} {at} {out} l p =

@@ -1,7 +1,7 @@
 -- The plain writer's tests of a key, and what fits the format: a key that fits passes them, and RSA's numbers that pass them fit.
-use mathlib.Core.Path.{_≡_, refl, _∙_}
+use mathlib.Core.Path.{_≡_, refl, _∙_, ap}
 use mathlib.Core.Bool.{true}
-use mathlib.Core.List.{List, [], _∷_, map}
+use mathlib.Core.List.{List, [], _∷_, _++_, map}
 use borrow.Author.Tests.{eq-eqb}
 use Rattle.fields.specs.Bytes.{both-true}
 use Rattle.names.specs.declared.Algorithm.{Algorithm}
@@ -10,7 +10,9 @@ use Rattle.mpint.specs.Mpint.{isMpint, modulusFits, atMost}
 use Rattle.utf8.specs.Utf8.{utf8}
 use Rattle.format.specs.Format.{PublicBytes, PrivateBytes, Key, filled, ModulusFits, NumbersFit, PublicFits, PrivateFits, filledKey}
 use Rattle.format.specs.Scalars.{filled-private, filled-zero, fits-allowed, fits-some}
+use Rattle.fields.specs.declared.Refusal.the-variants.{CharacterEncoding}
 use Rattle.writer_reply.specs.declared.Written.{Written}
+use Rattle.writer_reply.specs.Reply.{unless}
 use Rattle.writer_plain.specs.Plain.{allMpints, sizesFit, keyChecked, keysChecked}
 
 -- a key that fits passes the plain writer's first tests, its scalar filled
@@ -59,6 +61,13 @@ unfolding keysChecked
 keys-pass [] next fit = refl
 keys-pass (k ∷ keys) next fit =
     checks-pass (k .algorithm) (k .public) (k .private) _ (fit .0) (fit .1) ∙ rw (fit .2) (keys-pass keys next (fit .3))
+
+-- the checks of a list, and then those of another
+pub checked-append : (xs ys : List Key) (next : Written) → keysChecked (xs ++ ys) next ≡ keysChecked xs (keysChecked ys next)
+unfolding keysChecked
+checked-append [] ys next = refl
+checked-append (k ∷ xs) ys next =
+    ap (λ (w : Written). keyChecked (k .algorithm) (k .public) (k .private) (unless (utf8 (k .comment)) CharacterEncoding w)) (checked-append xs ys next)
 
 -- six numbers that pass them fit
 pub numbers-fit : (key : PublicBytes) (x : PrivateBytes) → allMpints key x ≡ true → sizesFit key x ≡ true → ModulusFits (key .modulus) (key .exponent) × NumbersFit (key .modulus) (x .d) (x .iqmp) (x .p) (x .q)

@@ -1,5 +1,5 @@
--- Keys that are handed in as one text and a table, 19 numbers a key: the algorithm's code (docs/RULES.md, 15.1), then start and length within
--- the text of public, private, comment, n, e, d, iqmp, p and q. What a kind doesn't use isn't looked at, but must be within the text.
+-- docs/RULES.md, 10.10: keys that are handed in as one text and a table, 19 numbers a key: the algorithm's code (15.1), then start and length
+-- within the text of public, private, comment, n, e, d, iqmp, p and q. What a kind doesn't use isn't looked at, but must be within the text.
 use Prim.Native.Nat.{ℕ, zero, suc, _+_, _/_, _%_}
 use mathlib.Core.Bool.{Bool, true, false, _&&_}
 use mathlib.Core.List.{List, [], _∷_, map}

@@ -26,8 +26,9 @@ pub const ABOVE_THE_LIMIT: Cause = Cause(18);
 pub const SCALAR_WRITTEN: Cause = Cause(19);
 pub const COMMENT_OF_ENCRYPTED: Cause = Cause(20);
 pub const COMMENT_WITHOUT_FORM: Cause = Cause(21);
+pub const SEVERAL_KEYS: Cause = Cause(22);
 
-pub const CAUSES: usize = 21;
+pub const CAUSES: usize = 22;
 
 /// A few words for each, in the order of the numbers.
 const WORDS: [&str; CAUSES] = [
@@ -52,6 +53,7 @@ const WORDS: [&str; CAUSES] = [
     "the scalar's form, written",
     "the comment of an encrypted image",
     "the comment of an image that isn't in the form",
+    "several keys",
 ];
 
 /// Those whose inputs lie outside the domain of comparison (docs/RULES.md, 1.5): above 65,535 bytes, with a cipher or an algorithm that isn't

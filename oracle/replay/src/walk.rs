@@ -19,6 +19,11 @@ const ALGORITHMS: [&str; 5] =
     ["ssh-ed25519", "ecdsa-sha2-nistp256", "ecdsa-sha2-nistp384", "ecdsa-sha2-nistp521", "ssh-rsa"];
 const ED25519: usize = 0;
 const RSA: usize = 4;
+/// So many keys a plain image may have.
+const MOST_KEYS: usize = 16;
+
+/// A public key's name and parts.
+type Public<'a> = Vec<&'a [u8]>;
 
 /// What must be answered.
 #[derive(Clone, Copy, Debug)]
@@ -49,12 +54,9 @@ impl<'a> Walk<'a> {
         let cipher = self.name(&CIPHERS, strange_cipher)?;
         let kdf = self.name(&KDFS, strange_name)?;
         self.options(kdf)?;
-        if self.length()? != 1 {
-            return refuse(1);
-        }
-        let public = self.blob()?;
+        let blobs = self.blobs(cipher)?;
         match (cipher, kdf) {
-            (0, 0) => self.section(&public)?,
+            (0, 0) => self.section(&blobs)?,
             (0, _) => return refuse(3),
             _ => self.ciphertext(cipher)?,
         }
@@ -79,7 +81,19 @@ impl<'a> Walk<'a> {
         self.leave(end)
     }
 
-    fn blob(&mut self) -> Step<Vec<&'a [u8]>> {
+    /// The key count, which is 1 for the crate, and as many blobs.
+    fn blobs(&mut self, cipher: usize) -> Step<Vec<Public<'a>>> {
+        let keys = self.length()?;
+        if keys == 0 || keys > if cipher == 0 { MOST_KEYS } else { 1 } {
+            return refuse(1);
+        }
+        if keys > 1 {
+            self.note(SEVERAL_KEYS, Some(Answer::refused(1)));
+        }
+        (0..keys).map(|_| self.blob()).collect()
+    }
+
+    fn blob(&mut self) -> Step<Public<'a>> {
         let end = self.enter()?;
         let name = self.name(&ALGORITHMS, strange_algorithm)?;
         let mut public = vec![ALGORITHMS[name].as_bytes()];
@@ -109,7 +123,7 @@ impl<'a> Walk<'a> {
         self.take(tag).map(|_| ())
     }
 
-    fn section(&mut self, public: &[&[u8]]) -> Step<()> {
+    fn section(&mut self, blobs: &[Public]) -> Step<()> {
         let end = self.enter()?;
         if self.left() % 8 != 0 {
             return refuse(1);
@@ -117,11 +131,13 @@ impl<'a> Walk<'a> {
         if self.take(4)? != self.take(4)? {
             return refuse(3);
         }
-        if self.keypair()? != public {
-            return refuse(5);
-        }
-        if std::str::from_utf8(self.string()?).is_err() {
-            return refuse(7);
+        for public in blobs {
+            if self.keypair()? != *public {
+                return refuse(5);
+            }
+            if std::str::from_utf8(self.string()?).is_err() {
+                return refuse(7);
+            }
         }
         let padding = self.take(self.left())?;
         match padding.iter().zip(1..).all(|(byte, place)| *byte == place) {
@@ -133,7 +149,7 @@ impl<'a> Walk<'a> {
     }
 
     /// Answers the public part, as `blob` does.
-    fn keypair(&mut self) -> Step<Vec<&'a [u8]>> {
+    fn keypair(&mut self) -> Step<Public<'a>> {
         let name = self.name(&ALGORITHMS, strange_algorithm)?;
         let mut public = vec![ALGORITHMS[name].as_bytes()];
         match name {

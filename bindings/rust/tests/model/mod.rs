@@ -5,6 +5,8 @@
 pub mod armour;
 
 const LIMIT: usize = 65_535;
+/// The most keys of an image.
+pub const MOST_KEYS: usize = 16;
 const MAGIC: &[u8] = b"openssh-key-v1\0";
 
 /// Name, block and tag length of each cipher; the place is the code.
@@ -39,6 +41,8 @@ pub struct Refusal {
     pub field: &'static str,
     /// The words for the part that it is about, of what was handed in; of a blob for the field there.
     pub part: &'static str,
+    /// Of several keys the number of the one that it is about, counted from 1; else 0.
+    pub key: usize,
 }
 
 const IMAGE: &str = "the image";
@@ -85,36 +89,64 @@ pub const PLAIN: u8 = 1;
 pub const ENCRYPTED: u8 = 2;
 pub const HEADER: u8 = 3;
 
-/// What was read, of an image or of its header alone.
+/// One key that was read; of a header its public half.
 #[derive(Clone, Debug, Default, PartialEq, Eq)]
-pub struct Record {
-    pub kind: u8,
+pub struct Key {
     pub algorithm: u8,
-    pub cipher: u8,
-    pub kdf: u8,
-    pub rounds: u32,
-    pub checkint: u32,
-    pub padding: u64,
-    pub form: bool,
+    /// The bits of an RSA modulus.
+    pub bits: u64,
     pub blob: Part,
     pub point: Part,
     pub scalar: Part,
     pub comment: Part,
-    pub salt: Part,
-    pub ciphertext: Part,
-    pub tag: Part,
-    /// The place of the section's length field.
-    pub section: u64,
-    /// The bits of an RSA modulus.
-    pub bits: u64,
     pub modulus: Part,
     pub exponent: Part,
     pub d: Part,
     pub iqmp: Part,
     pub p: Part,
     pub q: Part,
+}
+
+/// What was read, of an image or of its header alone. What it says of a key is the first one's.
+#[derive(Clone, Debug, Default, PartialEq, Eq)]
+pub struct Record {
+    pub kind: u8,
+    pub cipher: u8,
+    pub kdf: u8,
+    pub rounds: u32,
+    pub checkint: u32,
+    pub padding: u64,
+    pub form: bool,
+    pub salt: Part,
+    pub ciphertext: Part,
+    pub tag: Part,
+    /// The place of the section's length field.
+    pub section: u64,
     /// The key count.
     pub keys: u64,
+    pub first: Key,
+    pub others: Vec<Key>,
+}
+
+impl std::ops::Deref for Record {
+    type Target = Key;
+
+    fn deref(&self) -> &Key {
+        &self.first
+    }
+}
+
+impl Record {
+    /// Every key, in order.
+    pub fn all_keys(&self) -> impl Iterator<Item = &Key> {
+        std::iter::once(&self.first).chain(&self.others)
+    }
+
+    /// Key k, counted from 1.
+    pub fn key(&self, k: u64) -> Option<&Key> {
+        let before = usize::try_from(k.checked_sub(1)?).ok()?;
+        self.all_keys().nth(before)
+    }
 }
 
 /// Everything that a read answers, in the C interface's order.
@@ -135,13 +167,29 @@ pub fn numbers(read: &Result<Record, Refusal>) -> Numbers {
             numbers[3..7].copy_from_slice(&[record.kind, record.algorithm, record.cipher, record.kdf].map(u64::from));
             numbers[7..9].copy_from_slice(&[record.rounds, record.checkint].map(u64::from));
             numbers[9..11].copy_from_slice(&[record.padding, u64::from(record.form)]);
-            let Record { blob, point, scalar, comment, salt, ciphertext, tag, .. } = record;
+            let Record { salt, ciphertext, tag, first, .. } = record;
+            let Key { blob, point, scalar, comment, modulus, exponent, d, iqmp, p, q, .. } = first;
             put_places(&mut numbers[FIRST_PARTS..], &[blob, point, scalar, comment, salt, ciphertext, tag]);
             numbers[SECTION] = record.section;
             numbers[BITS] = record.bits;
-            let Record { modulus, exponent, d, iqmp, p, q, .. } = record;
             put_places(&mut numbers[RSA_PARTS..], &[modulus, exponent, d, iqmp, p, q]);
             numbers[KEYS] = record.keys;
+        }
+    }
+    numbers
+}
+
+/// Everything that the read of a key answers, in the C interface's order.
+pub type KeyNumbers = [u64; 25];
+
+pub fn key_numbers(read: &Result<Key, Refusal>) -> KeyNumbers {
+    let mut numbers = [0; 25];
+    match read {
+        Err(refusal) => numbers[..3].copy_from_slice(&[refusal.number, refusal.count, refusal.at]),
+        Ok(key) => {
+            numbers[3..5].copy_from_slice(&[u64::from(key.algorithm), key.bits]);
+            let Key { blob, point, scalar, comment, modulus, exponent, d, iqmp, p, q, .. } = key;
+            put_places(&mut numbers[5..], &[blob, point, scalar, comment, modulus, exponent, d, iqmp, p, q]);
         }
     }
     numbers
@@ -154,15 +202,20 @@ fn put_places(numbers: &mut [u64], parts: &[&Part]) {
 }
 
 fn refuse<T>(number: u64, at: usize, field: &'static str) -> Result<T, Refusal> {
-    Err(Refusal { number, count: 0, at: at as u64, field, part: "" })
+    Err(Refusal { number, count: 0, at: at as u64, field, part: "", key: 0 })
 }
 
 fn refuse_part<T>(number: u64, part: &'static str) -> Result<T, Refusal> {
-    Err(Refusal { number, count: 0, at: 0, field: HANDED_IN, part })
+    Err(Refusal { number, count: 0, at: 0, field: HANDED_IN, part, key: 0 })
 }
 
 fn left_over<T>(count: usize, at: usize, field: &'static str) -> Result<T, Refusal> {
-    Err(Refusal { number: 6, count: count as u64, at: at as u64, field, part: "" })
+    Err(Refusal { number: 6, count: count as u64, at: at as u64, field, part: "", key: 0 })
+}
+
+/// An answer on key `k` of so many: of several its refusal has the number.
+fn of_key<T>(answer: Result<T, Refusal>, k: usize, count: usize) -> Result<T, Refusal> {
+    answer.map_err(|refusal| Refusal { key: if count > 1 { k } else { 0 }, ..refusal })
 }
 
 /// What is still to be read of the image, or of one of its strings. Each step is given the words for its field.
@@ -316,11 +369,11 @@ struct Public {
 }
 
 impl Public {
-    fn is_of(&self, record: &Record) -> bool {
-        self.algorithm == record.algorithm
-            && self.point.bytes == record.point.bytes
-            && self.modulus.bytes == record.modulus.bytes
-            && self.exponent.bytes == record.exponent.bytes
+    fn is_of(&self, key: &Key) -> bool {
+        self.algorithm == key.algorithm
+            && self.point.bytes == key.point.bytes
+            && self.modulus.bytes == key.modulus.bytes
+            && self.exponent.bytes == key.exponent.bytes
     }
 }
 
@@ -377,29 +430,29 @@ fn read_rsa_blob(blob: &mut Reader) -> Result<Public, Refusal> {
     Ok(Public { algorithm: RSA, modulus, exponent, ..Public::default() })
 }
 
-/// The section's keypair: its private parts are put into the record, its public half is answered.
-fn read_pair(section: &mut Reader, record: &mut Record) -> Result<Public, Refusal> {
+/// A keypair of the section: its private parts are put into the key, its public half is answered.
+fn read_pair(section: &mut Reader, key: &mut Key) -> Result<Public, Refusal> {
     let algorithm = section.name(ALGORITHMS, IN_THE_SECTION.name)? as u8;
     if algorithm == RSA {
-        return read_rsa_pair(section, record);
+        return read_rsa_pair(section, key);
     }
-    let key = Elliptic::read(algorithm, section, IN_THE_SECTION)?;
-    record.scalar = match key.curve {
-        None => read_seed(section, &key.point.bytes)?,
-        Some(_) => read_scalar(section, key.size)?,
+    let elliptic = Elliptic::read(algorithm, section, IN_THE_SECTION)?;
+    key.scalar = match elliptic.curve {
+        None => read_seed(section, &elliptic.point.bytes)?,
+        Some(_) => read_scalar(section, elliptic.size)?,
     };
-    key.public()
+    elliptic.public()
 }
 
-fn read_rsa_pair(section: &mut Reader, record: &mut Record) -> Result<Public, Refusal> {
+fn read_rsa_pair(section: &mut Reader, key: &mut Key) -> Result<Public, Refusal> {
     let modulus = section.mpint(IN_THE_SECTION.n)?;
     let exponent = section.mpint(IN_THE_SECTION.e)?;
     let [d, iqmp, p, q] = ["d's string", "iqmp's string", "p's string", "q's string"];
-    record.d = section.mpint(d)?;
-    record.iqmp = section.mpint(iqmp)?;
-    record.p = section.mpint(p)?;
-    record.q = section.mpint(q)?;
-    let numbers = [&modulus, &exponent, &record.d, &record.iqmp, &record.p, &record.q];
+    key.d = section.mpint(d)?;
+    key.iqmp = section.mpint(iqmp)?;
+    key.p = section.mpint(p)?;
+    key.q = section.mpint(q)?;
+    let numbers = [&modulus, &exponent, &key.d, &key.iqmp, &key.p, &key.q];
     check_sizes(&numbers, &[IN_THE_SECTION.n, IN_THE_SECTION.e, d, iqmp, p, q], 0)?;
     Ok(Public { algorithm: RSA, modulus, exponent, ..Public::default() })
 }
@@ -435,6 +488,21 @@ fn read_scalar(reader: &mut Reader, size: usize) -> Result<Part, Refusal> {
     Ok(string.part())
 }
 
+/// A keypair, which must be that of the blob of its number, and then its comment.
+fn read_entry(section: &mut Reader, key: &mut Key) -> Result<(), Refusal> {
+    let name = section.at;
+    let public = read_pair(section, key)?;
+    if !public.is_of(key) {
+        return refuse(5, name, IN_THE_SECTION.name);
+    }
+    let comment = section.at;
+    key.comment = section.string("the comment's string")?.part();
+    if std::str::from_utf8(&key.comment.bytes).is_err() {
+        return refuse(7, comment, "the comment's string");
+    }
+    Ok(())
+}
+
 fn read_plain_section(section: &mut Reader, record: &mut Record) -> Result<(), Refusal> {
     if section.left() % 8 != 0 {
         return refuse(1, section.at, "the section");
@@ -444,15 +512,9 @@ fn read_plain_section(section: &mut Reader, record: &mut Record) -> Result<(), R
     if section.uint32("the second checkint")? != record.checkint {
         return refuse(3, second, "the second checkint");
     }
-    let name = section.at;
-    let public = read_pair(section, record)?;
-    if !public.is_of(record) {
-        return refuse(5, name, IN_THE_SECTION.name);
-    }
-    let comment = section.at;
-    record.comment = section.string("the comment's string")?.part();
-    if std::str::from_utf8(&record.comment.bytes).is_err() {
-        return refuse(7, comment, "the comment's string");
+    let count = record.keys as usize;
+    for (key, k) in std::iter::once(&mut record.first).chain(&mut record.others).zip(1..) {
+        of_key(read_entry(section, key), k, count)?;
     }
     record.padding = section.left() as u64;
     if section.left() >= 8 {
@@ -489,7 +551,24 @@ fn read_ciphertext(reader: &mut Reader, record: &mut Record) -> Result<(), Refus
     Ok(())
 }
 
-/// Reads an image up to its blob's end: what the header says, or the first refusal in the order of reading.
+/// A blob and the key in it: the public half of one of the image's keys.
+fn read_public(reader: &mut Reader) -> Result<Key, Refusal> {
+    let mut blob = reader.string("the blob's string")?;
+    let part = blob.part();
+    let Public { algorithm, point, modulus, exponent } = read_blob(&mut blob)?;
+    let bits = bits(&modulus.bytes) as u64;
+    Ok(Key { algorithm, bits, blob: part, point, modulus, exponent, ..Key::default() })
+}
+
+/// How many keys an image with this cipher may have.
+fn most_keys(cipher: u8) -> u64 {
+    match cipher {
+        0 => MOST_KEYS as u64,
+        _ => 1,
+    }
+}
+
+/// Reads an image up to its last blob's end: what the header says, or the first refusal in the order of reading.
 pub fn read_header(image: &[u8]) -> Result<Record, Refusal> {
     if image.len() > LIMIT {
         return refuse(11, 0, IMAGE);
@@ -506,15 +585,14 @@ pub fn read_header(image: &[u8]) -> Result<Record, Refusal> {
     read_kdf(&mut reader, &mut record)?;
     let count = reader.at;
     record.keys = u64::from(reader.uint32("the key count")?);
-    if record.keys != 1 {
+    if record.keys < 1 || record.keys > most_keys(record.cipher) {
         return refuse(1, count, "the key count");
     }
-    let mut blob = reader.string("the blob's string")?;
-    record.blob = blob.part();
-    let public = read_blob(&mut blob)?;
-    record.bits = bits(&public.modulus.bytes) as u64;
-    (record.algorithm, record.point) = (public.algorithm, public.point);
-    (record.modulus, record.exponent) = (public.modulus, public.exponent);
+    let count = record.keys as usize;
+    record.first = of_key(read_public(&mut reader), 1, count)?;
+    for k in 2..=count {
+        record.others.push(of_key(read_public(&mut reader), k, count)?);
+    }
     record.section = reader.at as u64;
     Ok(record)
 }
@@ -550,6 +628,14 @@ pub fn read(image: &[u8]) -> Result<Record, Refusal> {
     go_on(image, read_header(image)?)
 }
 
+/// Reads an image and answers its key k, counted from 1.
+pub fn read_key(image: &[u8], k: u64) -> Result<Key, Refusal> {
+    match read(image)?.key(k) {
+        Some(key) => Ok(key.clone()),
+        None => refuse(1, 0, IMAGE),
+    }
+}
+
 fn put_uint32(image: &mut Vec<u8>, number: u32) {
     image.extend_from_slice(&number.to_be_bytes());
 }
@@ -580,12 +666,80 @@ fn rsa_bytes(numbers: &[&[u8]]) -> Vec<u8> {
     bytes
 }
 
-fn section_bytes(pair: &[u8], checkint: u32, comment: &[u8]) -> Vec<u8> {
+/// A key as a writer is handed it: RSA has the six numbers n, e, d, iqmp, p, q, and the others have the two halves.
+#[derive(Clone, Copy)]
+pub struct Given<'a> {
+    pub algorithm: u8,
+    pub public: &'a [u8],
+    pub private: &'a [u8],
+    pub comment: &'a [u8],
+    pub numbers: [&'a [u8]; 6],
+}
+
+impl<'a> Given<'a> {
+    pub fn plain(algorithm: u8, public: &'a [u8], private: &'a [u8], comment: &'a [u8]) -> Self {
+        Self { algorithm, public, private, comment, numbers: [&[]; 6] }
+    }
+
+    pub fn rsa(numbers: [&'a [u8]; 6], comment: &'a [u8]) -> Self {
+        Self { algorithm: RSA, public: &[], private: &[], comment, numbers }
+    }
+
+    /// A key that was read. Its scalar is without leading zeros, which makes no difference to what is written.
+    fn of(key: &'a Key) -> Self {
+        let Key { modulus, exponent, d, iqmp, p, q, .. } = key;
+        let numbers = [modulus, exponent, d, iqmp, p, q].map(|number| &number.bytes[..]);
+        let (public, private) = (&key.point.bytes, &key.scalar.bytes);
+        Self { algorithm: key.algorithm, public, private, comment: &key.comment.bytes, numbers }
+    }
+
+    fn blob(&self) -> Vec<u8> {
+        let [n, e, ..] = self.numbers;
+        match self.algorithm {
+            RSA => rsa_bytes(&[e, n]),
+            _ => public_bytes(self.algorithm, self.public),
+        }
+    }
+
+    /// The keypair; a scalar is above zero, with any zeros in front.
+    fn pair(&self) -> Vec<u8> {
+        if self.algorithm == RSA {
+            return rsa_bytes(&self.numbers);
+        }
+        let mut pair = self.blob();
+        match self.algorithm {
+            ED25519 => put_string(&mut pair, &[self.private, self.public].concat()),
+            _ => put_string(&mut pair, &as_mpint(self.private)),
+        }
+        pair
+    }
+
+    fn derived_checkint(&self) -> u32 {
+        let [_, _, d, ..] = self.numbers;
+        derived_checkint(if self.algorithm == RSA { d } else { self.private })
+    }
+
+    /// What is wrong with the key itself, its comment last.
+    fn check(&self) -> Result<(), Refusal> {
+        match self.algorithm {
+            RSA => check_numbers(&self.numbers)?,
+            _ => check_halves(self.algorithm, self.public, self.private)?,
+        }
+        if std::str::from_utf8(self.comment).is_err() {
+            return refuse_part(7, "the comment");
+        }
+        Ok(())
+    }
+}
+
+fn section_bytes(keys: &[Given], checkint: u32) -> Vec<u8> {
     let mut section = Vec::new();
     put_uint32(&mut section, checkint);
     put_uint32(&mut section, checkint);
-    section.extend_from_slice(pair);
-    put_string(&mut section, comment);
+    for key in keys {
+        section.extend_from_slice(&key.pair());
+        put_string(&mut section, key.comment);
+    }
     let mut padding = 0;
     while section.len() % 8 != 0 {
         padding += 1;
@@ -594,34 +748,18 @@ fn section_bytes(pair: &[u8], checkint: u32, comment: &[u8]) -> Vec<u8> {
     section
 }
 
-/// A plain image with this blob and this keypair, however long it gets.
-fn image_of(blob: &[u8], pair: &[u8], checkint: u32, comment: &[u8]) -> Vec<u8> {
+/// The plain image of these keys, which are right, however long it gets.
+fn image_of(keys: &[Given], checkint: u32) -> Vec<u8> {
     let mut image = MAGIC.to_vec();
     put_string(&mut image, b"none");
     put_string(&mut image, b"none");
     put_string(&mut image, b"");
-    put_uint32(&mut image, 1);
-    put_string(&mut image, blob);
-    put_string(&mut image, &section_bytes(pair, checkint, comment));
+    put_uint32(&mut image, keys.len() as u32);
+    for key in keys {
+        put_string(&mut image, &key.blob());
+    }
+    put_string(&mut image, &section_bytes(keys, checkint));
     image
-}
-
-/// The image of a plain Ed25519 or ECDSA key; a scalar is above zero, with any zeros in front.
-fn plain_image(algorithm: u8, public: &[u8], private: &[u8], checkint: u32, comment: &[u8]) -> Vec<u8> {
-    let field = match algorithm {
-        ED25519 => [private, public].concat(),
-        _ => as_mpint(private),
-    };
-    let blob = public_bytes(algorithm, public);
-    let mut pair = blob.clone();
-    put_string(&mut pair, &field);
-    image_of(&blob, &pair, checkint, comment)
-}
-
-/// The image of a plain RSA key with right numbers: n, e, d, iqmp, p, q.
-fn rsa_image(numbers: [&[u8]; 6], checkint: u32, comment: &[u8]) -> Vec<u8> {
-    let [n, e, ..] = numbers;
-    image_of(&rsa_bytes(&[e, n]), &rsa_bytes(&numbers), checkint, comment)
 }
 
 fn encrypted_image(
@@ -654,17 +792,8 @@ fn written(record: &Record) -> Vec<u8> {
         let options = (&record.salt.bytes[..], record.rounds);
         return encrypted_image(codes, options, &record.blob.bytes, &record.ciphertext.bytes, &record.tag.bytes);
     }
-    commented(record, &record.comment.bytes)
-}
-
-/// The image that the writer makes of a plain record with another comment.
-fn commented(record: &Record, comment: &[u8]) -> Vec<u8> {
-    if record.algorithm == RSA {
-        let Record { modulus, exponent, d, iqmp, p, q, .. } = record;
-        let numbers = [modulus, exponent, d, iqmp, p, q].map(|number| &number.bytes[..]);
-        return rsa_image(numbers, record.checkint, comment);
-    }
-    plain_image(record.algorithm, &record.point.bytes, &record.scalar.bytes, record.checkint, comment)
+    let keys: Vec<Given> = record.all_keys().map(Given::of).collect();
+    image_of(&keys, record.checkint)
 }
 
 /// Stores an image that was made of what these are the words for.
@@ -711,6 +840,26 @@ fn check_halves(algorithm: u8, public: &[u8], private: &[u8]) -> Result<(), Refu
     Ok(())
 }
 
+fn check_numbers(numbers: &[&[u8]; 6]) -> Result<(), Refusal> {
+    let names = ["n", "e", "d", "iqmp", "p", "q"];
+    if let Some(place) = numbers.iter().position(|number| !is_mpint(number)) {
+        return refuse_part(2, names[place]);
+    }
+    if let Some(place) = wrong_size(numbers, 0) {
+        return refuse_part(1, names[place]);
+    }
+    Ok(())
+}
+
+/// Writes a plain image of these keys; `derive` other than 0 derives the checkint from the first.
+fn write(keys: &[Given], derive: u8, checkint: u32, out: &mut [u8]) -> Result<usize, Refusal> {
+    for (key, k) in keys.iter().zip(1..) {
+        of_key(key.check(), k, keys.len())?;
+    }
+    let checkint = if derive == 0 { checkint } else { keys[0].derived_checkint() };
+    store(&image_of(keys, checkint), out)
+}
+
 /// Writes a plain image of an Ed25519 or ECDSA key; `derive` other than 0 derives the checkint.
 pub fn write_plain(
     algorithm: u8,
@@ -724,12 +873,7 @@ pub fn write_plain(
     if algorithm > 3 {
         return refuse_part(4, "the algorithm");
     }
-    check_halves(algorithm, public, private)?;
-    if std::str::from_utf8(comment).is_err() {
-        return refuse_part(7, "the comment");
-    }
-    let checkint = if derive == 0 { checkint } else { derived_checkint(private) };
-    store(&plain_image(algorithm, public, private, checkint, comment), out)
+    write(&[Given::plain(algorithm, public, private, comment)], derive, checkint, out)
 }
 
 /// Writes a plain image of an RSA key: n, e, d, iqmp, p, q; `derive` other than 0 derives the checkint.
@@ -740,19 +884,51 @@ pub fn write_rsa(
     comment: &[u8],
     out: &mut [u8],
 ) -> Result<usize, Refusal> {
-    let names = ["n", "e", "d", "iqmp", "p", "q"];
-    if let Some(place) = numbers.iter().position(|number| !is_mpint(number)) {
-        return refuse_part(2, names[place]);
+    write(&[Given::rsa(numbers, comment)], derive, checkint, out)
+}
+
+/// The numbers of a key in a table: its algorithm, and start and length of each of its nine parts.
+pub const ROW: usize = 19;
+
+const KEYS_PARTS: [&str; 9] = ["the public key", "the private key", "the comment", "n", "e", "d", "iqmp", "p", "q"];
+
+/// The parts of a row of the table; each must be within the text.
+fn parts_of<'a>(row: &[u64], text: &'a [u8]) -> Result<[&'a [u8]; 9], Refusal> {
+    let mut parts = [&text[..0]; 9];
+    for (which, place) in row[1..].chunks(2).enumerate() {
+        let (start, length) = (u128::from(place[0]), u128::from(place[1]));
+        if start + length > text.len() as u128 {
+            return refuse_part(1, KEYS_PARTS[which]);
+        }
+        parts[which] = &text[place[0] as usize..][..place[1] as usize];
     }
-    if let Some(place) = wrong_size(&numbers, 0) {
-        return refuse_part(1, names[place]);
+    Ok(parts)
+}
+
+/// Writes a plain image of keys that are places in one text.
+pub fn write_keys(table: &[u64], text: &[u8], derive: u8, checkint: u32, out: &mut [u8]) -> Result<usize, Refusal> {
+    let count = table.len() / ROW;
+    if table.len() % ROW != 0 || !(1..=MOST_KEYS).contains(&count) {
+        return refuse_part(1, "the list of keys");
     }
-    if std::str::from_utf8(comment).is_err() {
-        return refuse_part(7, "the comment");
+    let mut parts = Vec::new();
+    for (row, k) in table.chunks(ROW).zip(1..) {
+        parts.push(of_key(parts_of(row, text), k, count)?);
     }
-    let [_, _, d, ..] = numbers;
-    let checkint = if derive == 0 { checkint } else { derived_checkint(d) };
-    store(&rsa_image(numbers, checkint, comment), out)
+    for (row, k) in table.chunks(ROW).zip(1..) {
+        if row[0] > u64::from(RSA) {
+            return of_key(refuse_part(4, "the algorithm"), k, count);
+        }
+    }
+    let keys: Vec<Given> = table
+        .chunks(ROW)
+        .zip(&parts)
+        .map(|(row, &[public, private, comment, n, e, d, iqmp, p, q])| match row[0] as u8 {
+            RSA => Given::rsa([n, e, d, iqmp, p, q], comment),
+            algorithm => Given::plain(algorithm, public, private, comment),
+        })
+        .collect();
+    write(&keys, derive, checkint, out)
 }
 
 /// Writes an encrypted image.
@@ -795,8 +971,8 @@ pub fn rewrite(image: &[u8], out: &mut [u8]) -> Result<usize, Refusal> {
     store(&written(&read(image)?), out)
 }
 
-/// Changes the comment of the image that the first `n` bytes of the buffer are; old bytes past the new end become zero.
-pub fn change_comment(buffer: &mut [u8], n: usize, comment: &[u8]) -> Result<usize, Refusal> {
+/// The image that the first `n` bytes of the buffer are, once it can be edited.
+fn opened(buffer: &[u8], n: usize) -> Result<Record, Refusal> {
     if n > LIMIT {
         return refuse(11, 0, IMAGE);
     }
@@ -810,12 +986,77 @@ pub fn change_comment(buffer: &mut [u8], n: usize, comment: &[u8]) -> Result<usi
     if !record.form {
         return refuse(10, 0, IMAGE);
     }
-    if std::str::from_utf8(comment).is_err() {
-        return refuse(7, record.comment.start as usize - 4, "the comment's string");
-    }
-    let length = store(&commented(&record, comment), buffer)?;
+    Ok(record)
+}
+
+/// Stores the image of the edited keys where one of `n` bytes was; its old bytes past the new end become zero.
+fn closed(buffer: &mut [u8], n: usize, keys: &[Given], checkint: u32) -> Result<usize, Refusal> {
+    let length = store(&image_of(keys, checkint), buffer)?;
     if length < n {
         buffer[length..n].fill(0);
     }
     Ok(length)
+}
+
+/// Changes the first key's comment.
+pub fn change_comment(buffer: &mut [u8], n: usize, comment: &[u8]) -> Result<usize, Refusal> {
+    change_comment_of(buffer, n, 1, comment)
+}
+
+/// Changes the comment of key k.
+pub fn change_comment_of(buffer: &mut [u8], n: usize, k: u64, comment: &[u8]) -> Result<usize, Refusal> {
+    let record = opened(buffer, n)?;
+    let old = match record.key(k) {
+        Some(key) => &key.comment,
+        None => return refuse(1, 0, IMAGE),
+    };
+    if std::str::from_utf8(comment).is_err() {
+        let refusal = refuse(7, old.start as usize - 4, "the comment's string");
+        return of_key(refusal, k as usize, record.keys as usize);
+    }
+    let mut keys: Vec<Given> = record.all_keys().map(Given::of).collect();
+    keys[k as usize - 1].comment = comment;
+    closed(buffer, n, &keys, record.checkint)
+}
+
+/// Adds a key after the last.
+fn add(buffer: &mut [u8], n: usize, key: Given) -> Result<usize, Refusal> {
+    let record = opened(buffer, n)?;
+    if record.keys == MOST_KEYS as u64 {
+        return refuse(1, 0, IMAGE);
+    }
+    key.check()?;
+    let mut keys: Vec<Given> = record.all_keys().map(Given::of).collect();
+    keys.push(key);
+    closed(buffer, n, &keys, record.checkint)
+}
+
+pub fn add_key(
+    buffer: &mut [u8],
+    n: usize,
+    algorithm: u8,
+    public: &[u8],
+    private: &[u8],
+    comment: &[u8],
+) -> Result<usize, Refusal> {
+    if algorithm > 3 {
+        return refuse_part(4, "the algorithm");
+    }
+    add(buffer, n, Given::plain(algorithm, public, private, comment))
+}
+
+/// The numbers are the modulus, e, d, iqmp, p and q.
+pub fn add_rsa(buffer: &mut [u8], n: usize, numbers: [&[u8]; 6], comment: &[u8]) -> Result<usize, Refusal> {
+    add(buffer, n, Given::rsa(numbers, comment))
+}
+
+/// Removes key k, unless it is the only one.
+pub fn remove_key(buffer: &mut [u8], n: usize, k: u64) -> Result<usize, Refusal> {
+    let record = opened(buffer, n)?;
+    if record.key(k).is_none() || record.keys == 1 {
+        return refuse(1, 0, IMAGE);
+    }
+    let mut keys: Vec<Given> = record.all_keys().map(Given::of).collect();
+    keys.remove(k as usize - 1);
+    closed(buffer, n, &keys, record.checkint)
 }

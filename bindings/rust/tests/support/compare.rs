@@ -5,11 +5,12 @@ use std::collections::BTreeSet;
 
 use super::faults::{fault_of, faults, Fault};
 use super::images::SIZES;
-use super::model::{self, Numbers, Part, Record, Refusal};
+use super::model::{self, KeyNumbers, Numbers, Part, Record, Refusal};
+use super::rings::{Any, Commented};
 use super::{hex, seed};
 use saltorchard::raw;
 use saltorchard::{Algorithm, Checkint, Cipher, EcdsaCurve, EncryptedKey, Error, Header, Image, KdfAlg};
-use saltorchard::{PlainKey, RsaKey};
+use saltorchard::{Key, KeyPlaces, KeyRef, LentImage, PlainKey, RsaKey};
 
 const FIELDS: [&str; 40] = [
     "number", "count", "at", "kind", "algorithm", "cipher", "kdf", "rounds", "checkint", "padding", "form",
@@ -39,6 +40,13 @@ pub const CIPHERS: [Cipher; 10] = [
     Cipher::Aes256Gcm,
 ];
 pub const KDFS: [KdfAlg; 2] = [KdfAlg::None, KdfAlg::Bcrypt];
+
+const KEY_FIELDS: [&str; 25] = [
+    "number", "count", "at", "algorithm", "bits", "blob start", "blob length", "point start", "point length",
+    "scalar start", "scalar length", "comment start", "comment length", "modulus start", "modulus length",
+    "exponent start", "exponent length", "d start", "d length", "iqmp start", "iqmp length", "p start", "p length",
+    "q start", "q length",
+];
 
 /// A call of the plain writer.
 #[derive(Clone, Copy)]
@@ -70,6 +78,23 @@ pub struct Encrypted<'a> {
     pub blob: &'a [u8],
     pub ciphertext: &'a [u8],
     pub tag: &'a [u8],
+}
+
+/// A call of the writer of several keys.
+#[derive(Clone, Copy)]
+pub struct Keys<'a> {
+    pub table: &'a [u64],
+    pub text: &'a [u8],
+    pub derive: u8,
+    pub checkint: u32,
+}
+
+/// An edit of the image in a lent buffer; keys count from 1.
+#[derive(Clone, Copy)]
+pub enum Edit<'a> {
+    Change(u64, &'a [u8]),
+    Add(&'a Commented),
+    Remove(u64),
 }
 
 type Written = Result<usize, Refusal>;
@@ -130,7 +155,8 @@ fn reply_of(written: Written) -> raw::Reply {
 
 fn is_refusal(error: Error, right: &Refusal) -> bool {
     let numbers = (error.number(), error.count() as u64, error.place() as u64);
-    numbers == (right.number, right.count, right.at) && error.field().to_string() == right.field
+    let (field, key) = (error.field().to_string(), error.key().unwrap_or(0));
+    numbers == (right.number, right.count, right.at) && (&field[..], key) == (right.field, right.key)
 }
 
 /// Does a fault begin with the words for this part, where there is one?
@@ -184,6 +210,50 @@ pub fn raw_of(numbers: Numbers) -> raw::Image {
     }
 }
 
+pub fn key_numbers_of(key: &raw::Key) -> KeyNumbers {
+    [
+        key.number, key.count, key.at, key.algorithm, key.bits, key.blob.start, key.blob.length, key.point.start,
+        key.point.length, key.scalar.start, key.scalar.length, key.comment.start, key.comment.length,
+        key.modulus.start, key.modulus.length, key.exponent.start, key.exponent.length, key.d.start, key.d.length,
+        key.iqmp.start, key.iqmp.length, key.p.start, key.p.length, key.q.start, key.q.length,
+    ]
+}
+
+/// The crate's key of a test's.
+pub fn key_ref(key: &Commented) -> KeyRef<'_> {
+    let checkint = Checkint::Given(0);
+    match &key.key {
+        Any::Curve(curve) => {
+            let algorithm = ALGORITHMS[usize::from(curve.algorithm)];
+            let plain = PlainKey { algorithm, public: &curve.public, private: &curve.private, checkint };
+            KeyRef::plain(&plain, &key.comment)
+        }
+        Any::Rsa(rsa) => {
+            let [n, e, d, iqmp, p, q] = rsa.numbers();
+            KeyRef::rsa(&RsaKey { n, e, d, iqmp, p, q, checkint }, &key.comment)
+        }
+    }
+}
+
+/// The crate's places of a row, where it has a code and the parts that its kind doesn't use are 0 0.
+fn places_of(row: &[u64]) -> Option<KeyPlaces> {
+    let range = |place: usize| -> Option<std::ops::Range<usize>> {
+        let (start, length) = (row[1 + 2 * place], row[2 + 2 * place]);
+        Some(usize::try_from(start).ok()?..usize::try_from(start.checked_add(length)?).ok()?)
+    };
+    let unused = |places: std::ops::Range<usize>| row[1 + 2 * places.start..1 + 2 * places.end].iter().all(|n| *n == 0);
+    match row[0] {
+        4 if unused(0..2) => {
+            let numbers = [range(3)?, range(4)?, range(5)?, range(6)?, range(7)?, range(8)?];
+            Some(KeyPlaces::rsa(numbers, range(2)?))
+        }
+        code @ 0..=3 if unused(3..9) => {
+            Some(KeyPlaces::plain(ALGORITHMS[code as usize], range(0)?, range(1)?, range(2)?))
+        }
+        _ => None,
+    }
+}
+
 fn checkint_of(derive: u8, given: u32) -> Checkint {
     match derive {
         0 => Checkint::Given(given),
@@ -207,6 +277,7 @@ macro_rules! accessor_unlike {
             ("rounds", $read.rounds() == $record.rounds),
             ("section_start", $read.section_start() as u64 == $record.section),
             ("bits", $read.bits() as u64 == $record.bits),
+            ("key_count", $read.key_count() as u64 == $record.keys),
         ])
     };
 }
@@ -234,10 +305,31 @@ fn header_unlike(header: &Header, record: &Record, bytes: &[u8]) -> Option<&'sta
 }
 
 /// The scalar with zeros in front to its curve's size.
-fn full_scalar(record: &Record) -> Vec<u8> {
-    let scalar = &record.scalar;
-    let size = if scalar.present { SIZES[usize::from(record.algorithm)] } else { 0 };
+fn full_scalar(key: &model::Key) -> Vec<u8> {
+    let scalar = &key.scalar;
+    let size = if scalar.present { SIZES[usize::from(key.algorithm)] } else { 0 };
     [&vec![0; size - scalar.bytes.len()][..], &scalar.bytes].concat()
+}
+
+fn key_unlike(found: &Key, key: &model::Key, bytes: &[u8]) -> Option<&'static str> {
+    let names = [
+        ("algorithm", found.algorithm() == ALGORITHMS[usize::from(key.algorithm)]),
+        ("bits", found.bits() as u64 == key.bits),
+        ("full_scalar", found.full_scalar(&mut [0xa5; EcdsaCurve::MAX_SIZE]) == full_scalar(key)),
+    ];
+    let views = [
+        ("public_blob", found.public_blob(), &key.blob),
+        ("point", found.point(), &key.point),
+        ("scalar", found.scalar(), &key.scalar),
+        ("comment", found.comment().as_bytes(), &key.comment),
+        ("modulus", found.modulus(), &key.modulus),
+        ("exponent", found.exponent(), &key.exponent),
+        ("d", found.d(), &key.d),
+        ("iqmp", found.iqmp(), &key.iqmp),
+        ("p", found.p(), &key.p),
+        ("q", found.q(), &key.q),
+    ];
+    first_unlike(&names).or_else(|| view_unlike(&views, bytes))
 }
 
 fn image_unlike(image: &Image, record: &Record, bytes: &[u8]) -> Option<&'static str> {
@@ -265,6 +357,36 @@ fn image_unlike(image: &Image, record: &Record, bytes: &[u8]) -> Option<&'static
         ("q", image.q(), &record.q),
     ];
     accessor_unlike!(image, record).or_else(|| first_unlike(&of_the_section)).or_else(|| view_unlike(&views, bytes))
+}
+
+fn edited_by_model(buffer: &mut [u8], n: usize, edit: Edit) -> Written {
+    match edit {
+        Edit::Change(k, comment) => model::change_comment_of(buffer, n, k, comment),
+        Edit::Remove(k) => model::remove_key(buffer, n, k),
+        Edit::Add(Commented { key: Any::Rsa(rsa), comment }) => model::add_rsa(buffer, n, rsa.numbers(), comment),
+        Edit::Add(Commented { key: Any::Curve(key), comment }) => {
+            model::add_key(buffer, n, key.algorithm, &key.public, &key.private, comment)
+        }
+    }
+}
+
+fn edited_by_library(buffer: &mut [u8], n: usize, edit: Edit) -> raw::Reply {
+    match edit {
+        Edit::Change(k, comment) => raw::change_comment_of(buffer, n, k, comment),
+        Edit::Remove(k) => raw::remove_key(buffer, n, k),
+        Edit::Add(Commented { key: Any::Rsa(rsa), comment }) => raw::add_rsa(buffer, n, rsa.numbers(), comment),
+        Edit::Add(Commented { key: Any::Curve(key), comment }) => {
+            raw::add_key(buffer, n, key.algorithm, &key.public, &key.private, comment)
+        }
+    }
+}
+
+fn edited_by_crate(image: &mut LentImage, edit: Edit) -> Result<usize, Error> {
+    match edit {
+        Edit::Change(k, comment) => image.set_comment_of(k as usize, comment),
+        Edit::Remove(k) => image.remove(k as usize),
+        Edit::Add(key) => image.add_key(&key_ref(key)),
+    }
 }
 
 /// Compares, counts, and at the end says how often.
@@ -380,6 +502,50 @@ impl Tally {
         library
     }
 
+    /// Reads key k with both.
+    pub fn key(&mut self, bytes: &[u8], k: u64) {
+        let (library, right) = (raw::read_key(bytes, k), model::read_key(bytes, k));
+        let (numbers, right_numbers) = (key_numbers_of(&library), model::key_numbers(&right));
+        for ((name, library), right) in KEY_FIELDS.iter().zip(numbers).zip(right_numbers) {
+            if library != right {
+                let what = format!("read_key {}: {}: library {}, model {}", k, name, library, right);
+                self.fail(&what, &hex(bytes));
+            }
+        }
+        if let (Ok(image), Ok(k)) = (Image::read(bytes), usize::try_from(k)) {
+            let unlike = match (image.key(k), &right) {
+                (None, Err(_)) => None,
+                (Some(found), Ok(key)) => key_unlike(&found, key, bytes),
+                _ => Some("answer"),
+            };
+            if let Some(name) = unlike {
+                self.fail(&format!("Image::key {}: {}", k, name), &hex(bytes));
+            }
+        }
+        self.count(library.number);
+    }
+
+    /// Reads every key with both, and numbers that no key has.
+    pub fn keys(&mut self, bytes: &[u8]) {
+        let count = model::read(bytes).map_or(1, |record| record.keys);
+        for k in (0..count + 2).chain([17, 256 + count, 1 << 32 | 1, 1 << 63, u64::MAX]) {
+            self.key(bytes, k);
+        }
+        if let Ok(image) = Image::read(bytes) {
+            let (forth, back) = (image.keys(), image.keys().rev().map(|key| key.public_blob()));
+            let mut blobs: Vec<&[u8]> = back.collect();
+            blobs.reverse();
+            let same = [
+                ("len", forth.len() as u64 == count),
+                ("back", forth.clone().map(|key| key.public_blob()).eq(blobs)),
+                ("key", forth.zip(1..).all(|(key, k)| Some(key.comment()) == image.key(k).map(|key| key.comment()))),
+            ];
+            if let Some(name) = first_unlike(&same) {
+                self.fail(&format!("Image::keys: {}", name), &hex(bytes));
+            }
+        }
+    }
+
     fn same_numbers(
         &self,
         what: &str,
@@ -485,6 +651,66 @@ impl Tally {
         let mut buffer = before.clone();
         let answer = saltorchard::write_rsa(&key, comment, lent(&mut buffer));
         self.same_written("write_rsa of the crate", (answer, &buffer), (model, &right), &input);
+        self.count(reply.number);
+        Answer { written: model.ok(), buffer: lent(&mut right).to_vec() }
+    }
+
+    /// Writes a plain image of several keys with both into buffers of `room` bytes.
+    pub fn write_keys(&mut self, call: Keys, room: usize) -> Answer {
+        let Keys { table, text, derive, checkint } = call;
+        let input = || format!("{:?} {} {} {} room {}", table, hex(text), derive, checkint, room);
+        let before = guarded(room);
+        let mut right = before.clone();
+        let model = model::write_keys(table, text, derive, checkint, lent(&mut right));
+        let mut buffer = before.clone();
+        let reply = raw::write_keys(table, text, derive, checkint, lent(&mut buffer));
+        self.same("write_keys", (reply, &buffer), (model, &right), &input);
+        let places: Option<Vec<KeyPlaces>> = table.chunks_exact(model::ROW).map(places_of).collect();
+        if let Some(places) = places.filter(|_| table.len() % model::ROW == 0) {
+            let mut buffer = before;
+            let answer = saltorchard::write_keys_in(text, &places, checkint_of(derive, checkint), lent(&mut buffer));
+            self.same_written("write_keys_in of the crate", (answer, &buffer), (model, &right), &input);
+        }
+        self.count(reply.number);
+        Answer { written: model.ok(), buffer: lent(&mut right).to_vec() }
+    }
+
+    /// Writes a plain image of these keys with both, from one text, and with the crate's list.
+    pub fn write_list(&mut self, keys: &[Commented], derive: u8, checkint: u32, room: usize) -> Answer {
+        let (table, text) = super::rings::tabled(keys);
+        let answer = self.write_keys(Keys { table: &table, text: &text, derive, checkint }, room);
+        #[cfg(feature = "alloc")]
+        {
+            let mut right = guarded(room);
+            let model = model::write_keys(&table, &text, derive, checkint, lent(&mut right));
+            let refs: Vec<KeyRef> = keys.iter().map(key_ref).collect();
+            let mut buffer = guarded(room);
+            let written = saltorchard::write_keys(&refs, checkint_of(derive, checkint), lent(&mut buffer));
+            let input = || format!("{:?} {} {} {} room {}", table, hex(&text), derive, checkint, room);
+            self.same_written("write_keys of the crate", (written, &buffer), (model, &right), &input);
+        }
+        answer
+    }
+
+    /// Edits with both the image that the first `n` bytes of `contents` are.
+    pub fn edit(&mut self, contents: &[u8], n: usize, edit: Edit) -> Answer {
+        let input = || match edit {
+            Edit::Change(k, comment) => format!("{} n {} comment of {}: {}", hex(contents), n, k, hex(comment)),
+            Edit::Remove(k) => format!("{} n {} without {}", hex(contents), n, k),
+            Edit::Add(key) => format!("{} n {} with {:?}", hex(contents), n, key.parts().1.map(hex)),
+        };
+        let before = lent_again(contents);
+        let (mut right, mut buffer, mut own) = (before.clone(), before.clone(), before);
+        let model = edited_by_model(lent(&mut right), n, edit);
+        let reply = edited_by_library(lent(&mut buffer), n, edit);
+        self.same("edit", (reply, &buffer), (model, &right), &input);
+        if let Ok(mut image) = LentImage::new(lent(&mut own), n) {
+            let answer = edited_by_crate(&mut image, edit);
+            if image.len() != answer.unwrap_or(n) {
+                self.fail("LentImage: another length is kept", &input());
+            }
+            self.same_written("edit of the crate", (answer, &own), (model, &right), &input);
+        }
         self.count(reply.number);
         Answer { written: model.ok(), buffer: lent(&mut right).to_vec() }
     }

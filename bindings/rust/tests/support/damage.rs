@@ -358,8 +358,8 @@ pub fn spoiled(number: &[u8]) -> Vec<Vec<u8>> {
     vec![vec![], vec![0], vec![0x80], vec![0, 0x7f], negative, needless_zero, longer_negative]
 }
 
-/// Changes one to three parts and mostly pads the section anew; now and then damages the bytes too.
-pub fn structured(draft: &Draft, rng: &mut Rng) -> Vec<u8> {
+/// Changes one to three parts and mostly pads the section anew.
+pub fn changed_parts(draft: &Draft, rng: &mut Rng) -> Draft {
     let mut draft = draft.clone();
     for _ in 0..1 + rng.below(3) {
         let padding = draft.padding.clone();
@@ -368,6 +368,12 @@ pub fn structured(draft: &Draft, rng: &mut Rng) -> Vec<u8> {
             draft.pad();
         }
     }
+    draft
+}
+
+/// The same; now and then the bytes are damaged too.
+pub fn structured(draft: &Draft, rng: &mut Rng) -> Vec<u8> {
+    let draft = changed_parts(draft, rng);
     let mut flat = draft.flat();
     if rng.one_in(8) {
         let place = *rng.pick(&flat.uint32s);

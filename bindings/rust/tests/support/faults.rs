@@ -17,6 +17,7 @@ const LEFT_OVER: &str = "has N bytes too many, from byte N on";
 const OTHER_BITS: &str = "hasn't N to N bits";
 const MORE_BITS: &str = "has more bits than n";
 const NOT_FOUR: &str = "doesn't begin with N, as an uncompressed point does";
+const OUTSIDE: &str = "isn't within the text";
 const OTHER_CURVE: &str = "names another curve than the key name does";
 const ARMOURED: &str = "is a text that begins with `-----BEGIN`: armour::import takes its armour off";
 const NO_KEY: &str = "names no kind of key that is known here";
@@ -32,7 +33,17 @@ const MPINT: [&str; 4] = [
 type Row = (&'static str, u64, &'static [&'static str]);
 
 const IMAGE: [Row; 8] = [
-    ("the image", 1, &["has N bytes, and at least N are needed", "was said to have N bytes, and its buffer has N"]),
+    (
+        "the image",
+        1,
+        &[
+            "has N bytes, and at least N are needed",
+            "was said to have N bytes, and its buffer has N",
+            "has no key N: it has N keys",
+            "has one key, and the only key can't be removed",
+            "has N keys, and no more are taken",
+        ],
+    ),
     (
         "the image",
         2,
@@ -100,7 +111,13 @@ const HEADER: [Row; 16] = [
     (
         "the key count",
         1,
-        &[CUT, "is N, and only N key in a file is taken", "isn't N, and only N key in a file is taken"],
+        &[
+            CUT,
+            "is N, and N to N keys in a file are taken",
+            "isn't N to N, and no other number of keys in a file is taken",
+            "is N, and only N key in an encrypted file is taken",
+            "isn't N, and only N key in an encrypted file is taken",
+        ],
     ),
     ("the blob's string", 1, &[CUT]),
     ("the section's string", 1, &[CUT]),
@@ -179,7 +196,8 @@ const SECTION: [Row; 25] = [
 const NUMBERS: [&str; 5] = ["e's string in the section", "d's string", "iqmp's string", "p's string", "q's string"];
 
 const HANDED_IN: &str = "what was handed in";
-const HANDED: [(u64, &str); 16] = [
+const HANDED: [(u64, &str); 19] = [
+    (1, "the list of keys has N keys, and N to N are taken"),
     (1, "the public key has N bytes, and N are needed"),
     (1, "the private key has N bytes, and N are needed"),
     (1, "the tag has N bytes, and N are needed"),
@@ -191,6 +209,8 @@ const HANDED: [(u64, &str); 16] = [
     (3, "the rounds aren't N, and the KDF is none"),
     (3, "the ciphertext has N bytes, which isn't a multiple of N"),
     (4, "the algorithm is RSA, and write_rsa writes such a key"),
+    (4, "the algorithm is RSA, and add_rsa adds such a key"),
+    (4, "the algorithm is RSA, and such a key is made by `rsa`, of its six numbers"),
     (4, "the name is \"..\", and no such kind of key is known here"),
     (4, "the name is \"..\", and no such curve is known here"),
     (4, "the name is \"..\", and no such cipher is known here"),
@@ -203,9 +223,13 @@ fn handed_in() -> BTreeSet<Fault> {
         HANDED.iter().map(|(number, words)| (HANDED_IN, *number, words.to_string())).collect();
     for name in ["n", "e", "d", "iqmp", "p", "q"] {
         faults.extend(MPINT.map(|words| (HANDED_IN, 2, format!("{} {}", name, words))));
+        faults.insert((HANDED_IN, 1, format!("{} {}", name, OUTSIDE)));
         if name != "n" {
             faults.insert((HANDED_IN, 1, format!("{} {}", name, MORE_BITS)));
         }
+    }
+    for name in ["the public key", "the private key", "the comment"] {
+        faults.insert((HANDED_IN, 1, format!("{} {}", name, OUTSIDE)));
     }
     for (field, number, words) in BLOB {
         for words in words {
@@ -236,6 +260,7 @@ pub fn fault_of(error: Error) -> Fault {
     let words = sentence.split_once("): ").expect("what is refused").1;
     let words = words.strip_prefix("of what was handed in, ").or_else(|| words.strip_prefix(field)).unwrap_or(words);
     let words = with_n(without_names(words).trim_end_matches('.').trim_start());
+    let words = if error.key().is_some() { words.replacen("of key N ", "", 1) } else { words };
     (field, error.number(), in_plural(words.strip_prefix("at byte N ").unwrap_or(&words)))
 }
 
@@ -264,5 +289,6 @@ fn with_n(words: &str) -> String {
 
 fn in_plural(words: &str) -> String {
     let words = words.replace(" none is ", " N are ").replace(" N is ", " N are ");
-    words.replace("N byte,", "N bytes,").replace("N byte too", "N bytes too")
+    let words = words.replace("N byte,", "N bytes,").replace("N byte too", "N bytes too");
+    words.strip_suffix("N key").map_or(words.clone(), |start| format!("{}N keys", start))
 }

@@ -174,24 +174,24 @@ pub struct Flat {
 }
 
 impl Flat {
-    fn uint32(&mut self, number: usize) {
+    pub fn uint32(&mut self, number: usize) {
         self.uint32s.push(self.bytes.len());
         self.bytes.extend_from_slice(&(number as u32).to_be_bytes());
     }
 
-    fn string(&mut self, bytes: &[u8]) {
+    pub fn string(&mut self, bytes: &[u8]) {
         self.uint32(bytes.len());
         self.bytes.extend_from_slice(bytes);
     }
 
-    fn around(&mut self, inner: Flat) {
+    pub fn around(&mut self, inner: Flat) {
         self.uint32(inner.bytes.len());
         let start = self.bytes.len();
         self.uint32s.extend(inner.uint32s.iter().map(|place| start + place));
         self.bytes.extend_from_slice(&inner.bytes);
     }
 
-    fn of(strings: &[Vec<u8>]) -> Flat {
+    pub fn of(strings: &[Vec<u8>]) -> Flat {
         let mut flat = Flat { bytes: Vec::new(), uint32s: Vec::new() };
         for string in strings {
             flat.string(string);
@@ -254,14 +254,25 @@ impl Draft {
     pub fn pad(&mut self) {
         self.padding.clear();
         let length = self.section().bytes.len();
-        self.padding = (1..=(8 - length % 8) as u8 % 8).collect();
+        self.padding = padding_of(length);
+    }
+
+    /// The fewest padding bytes of the section with these keys.
+    pub fn padding_with(&self, keys: &[Draft]) -> Vec<u8> {
+        let unpadded = Draft { padding: Vec::new(), ..self.clone() };
+        padding_of(unpadded.section_of(keys).bytes.len())
     }
 
     fn section(&self) -> Flat {
+        self.section_of(std::slice::from_ref(self))
+    }
+
+    /// The section with these keys.
+    fn section_of(&self, keys: &[Draft]) -> Flat {
         let mut flat = Flat::of(&[]);
         flat.uint32(self.checkints[0] as usize);
         flat.uint32(self.checkints[1] as usize);
-        for string in self.pair.iter().chain([&self.comment]) {
+        for string in keys.iter().flat_map(|key| key.pair.iter().chain([&key.comment])) {
             flat.string(string);
         }
         flat.bytes.extend_from_slice(&self.padding);
@@ -279,16 +290,23 @@ impl Draft {
     }
 
     pub fn flat(&self) -> Flat {
+        self.flat_of(std::slice::from_ref(self))
+    }
+
+    /// The image with these keys: their blobs, pairs and comments, and all else of this draft.
+    pub fn flat_of(&self, keys: &[Draft]) -> Flat {
         let mut flat = Flat { bytes: self.magic.clone(), uint32s: Vec::new() };
         flat.string(&self.cipher);
         flat.string(&self.kdf);
         flat.around(self.options());
         flat.uint32(self.count as usize);
-        let mut blob = Flat::of(&self.blob);
-        blob.bytes.extend_from_slice(&self.blob_rest);
-        flat.around(blob);
+        for key in keys {
+            let mut blob = Flat::of(&key.blob);
+            blob.bytes.extend_from_slice(&key.blob_rest);
+            flat.around(blob);
+        }
         match &self.sealed {
-            None => flat.around(self.section()),
+            None => flat.around(self.section_of(keys)),
             Some((ciphertext, tag)) => {
                 flat.string(ciphertext);
                 flat.bytes.extend_from_slice(tag);
@@ -301,6 +319,11 @@ impl Draft {
     pub fn bytes(&self) -> Vec<u8> {
         self.flat().bytes
     }
+}
+
+/// The padding after so many bytes.
+fn padding_of(length: usize) -> Vec<u8> {
+    (1..=(8 - length % 8) as u8 % 8).collect()
 }
 
 pub fn blob_bytes(key: &Key) -> Vec<u8> {

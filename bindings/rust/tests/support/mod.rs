@@ -7,6 +7,7 @@ pub mod faults;
 pub mod images;
 #[path = "../model/mod.rs"]
 pub mod model;
+pub mod rings;
 
 const DEFAULT_SEED: u64 = 0x5a17_0c4a_7d00_0001;
 

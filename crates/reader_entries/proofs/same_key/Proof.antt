@@ -1,5 +1,6 @@
--- `reader_entries::same_key` meets its contract: it is the comparison of kind, point, modulus and exponent, up to the first that differs.
+-- `reader_entries::same_key` meets its contract: it is the comparison of kind, modulus, exponent and point, up to the first that differs.
 -- Rests on the callees' contracts.
+use mathlib.Core.Bool.{and-false, and-true}
 use borrow.Author.Tests.{eq-eqb, ne-eqb, not-true, not-false}
 use Rattle.names.specs.Algorithms.{sameAlgorithm}
 use Rattle.reader_entries.specs.Entries.{sameKey}
@@ -24,7 +25,7 @@ returns-2 : tie.Need-returns-2
 unfolding sameKey sameAlgorithm
 returns-2 c =
     let k = c .before .before in
-    rw (← k .before .before .code .ensures, ← k .before .code2 .ensures, eq-eqb _ _ (k .if1 .left), ← c .before .same-bytes .ensures, not-true (c .before .same-bytes .result) (c .if2 .taken))
+    rw (← k .before .before .code .ensures, ← k .before .code2 .ensures, eq-eqb _ _ (k .if1 .left), ← c .before .same-bytes .ensures, not-true (c .before .same-bytes .result) (c .if2 .taken), and-false)
 
 same-bytes-requires-2 : tie.Need-same-bytes-requires-2
 same-bytes-requires-2 c κs = search needs
@@ -34,7 +35,7 @@ unfolding sameKey sameAlgorithm
 returns-3 c =
     let p = c .before .before in
     let k = p .before .before in
-    rw (← k .before .before .code .ensures, ← k .before .code2 .ensures, eq-eqb _ _ (k .if1 .left), ← p .before .same-bytes .ensures, not-false (p .before .same-bytes .result) (p .if2 .left), ← c .before .same-bytes2 .ensures, not-true (c .before .same-bytes2 .result) (c .if3 .taken))
+    rw (← k .before .before .code .ensures, ← k .before .code2 .ensures, eq-eqb _ _ (k .if1 .left), ← p .before .same-bytes .ensures, not-false (p .before .same-bytes .result) (p .if2 .left), ← c .before .same-bytes2 .ensures, not-true (c .before .same-bytes2 .result) (c .if3 .taken), and-false)
 
 same-bytes-requires-3 : tie.Need-same-bytes-requires-3
 same-bytes-requires-3 c κs = search needs
@@ -45,7 +46,7 @@ returns-4 c =
     let m = c .before in
     let p = m .before .before in
     let k = p .before .before in
-    rw (← k .before .before .code .ensures, ← k .before .code2 .ensures, eq-eqb _ _ (k .if1 .left), ← p .before .same-bytes .ensures, not-false (p .before .same-bytes .result) (p .if2 .left), ← m .before .same-bytes2 .ensures, not-false (m .before .same-bytes2 .result) (m .if3 .left)) (c .same-bytes3 .ensures)
+    rw (← k .before .before .code .ensures, ← k .before .code2 .ensures, eq-eqb _ _ (k .if1 .left), ← p .before .same-bytes .ensures, not-false (p .before .same-bytes .result) (p .if2 .left), ← m .before .same-bytes2 .ensures, not-false (m .before .same-bytes2 .result) (m .if3 .left), and-true, and-true) (c .same-bytes3 .ensures)
 
 pub same-key-spec : {M : Type 1} → statement M
 same-key-spec =

@@ -39,8 +39,8 @@ cast-read-keys c = search needs
 
 sub-read-keys : tie.Need-sub-read-keys
 sub-read-keys c =
-    let place = count-place _ _ _ _ (sym (c .before .before .before .read-count .ensures) ∙ c .before .n .given .1) in
-    omega (arith, keys-some (c .before .n .given .0 .0) (place .allowed))
+    let place = count-place _ _ _ _ _ (sym (c .before .before .before .read-count .ensures) ∙ c .before .n .given .1) in
+    omega (arith, keys-some (c .before .before .before .before .before .before .before .before .before .cipher .given .0 .0) (c .before .n .given .0 .0) (place .allowed))
 
 read-keys-requires : tie.Need-read-keys-requires
 read-keys-requires c κs = search needs

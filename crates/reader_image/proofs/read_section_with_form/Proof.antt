@@ -1,9 +1,10 @@
--- `reader_image::read_section_with_form` meets its contract. Rests on `form-scalar`: for an accepted image the scalar alone says whether it is in the form,
+-- `reader_image::read_section_with_form` meets its contract. Rests on `form-scalar`: for an accepted image the scalars alone say whether it is in the form,
 -- and on `section-read`: what the section read accepts is accepted. Assumes nothing.
 use mathlib.Core.Path.{refl, sym, _∙_, ap}
 use denote.Ref.{now}
 use Rattle.reader_image.specs.declared.FormRead.the-variants as form-read
 use Rattle.reader_image.specs.Halves.{section-read}
+use Rattle.reader_image.specs.Read.{first-within}
 use Rattle.reader_image.specs.FormLaws.{form-scalar}
 use Rattle.reader_image.specs.Form.{sectionFormAt, toldForm}
 use borrow.Author.Needs.{needs}
@@ -20,7 +21,11 @@ enum-known-fields : tie.Need-enum-known-fields
 enum-known-fields c = search needs
 
 record-in-form-requires : tie.Need-record-in-form-requires
-record-in-form-requires c κs = search needs
+record-in-form-requires c κs =
+    let image = now (c .before .before .before .before .before .args .image) in
+    let answered = sym (c .before .before .before .read-section .ensures .0) ∙ c .before .fields .given .1 in
+    let accepted = section-read image (c .before .before .before .before .before .args .half) (c .before .fields .given .0 .0) answered in
+    first-within image (c .before .fields .given .0 .0) accepted
 
 returns : tie.Need-returns
 unfolding sectionFormAt

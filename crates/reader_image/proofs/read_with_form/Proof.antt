@@ -1,7 +1,8 @@
--- `reader_image::read_with_form` meets its contract. Rests on `form-scalar`: for an accepted image the scalar alone says whether it is in the form. Assumes nothing.
+-- `reader_image::read_with_form` meets its contract. Rests on `form-scalar`: for an accepted image the scalars alone say whether it is in the form. Assumes nothing.
 use mathlib.Core.Path.{refl, sym, _∙_, ap}
 use denote.Ref.{now}
 use Rattle.reader_image.specs.declared.FormRead.the-variants as form-read
+use Rattle.reader_image.specs.Read.{first-within}
 use Rattle.reader_image.specs.FormLaws.{form-scalar}
 use Rattle.reader_image.specs.Form.{formReadAt, toldForm}
 use borrow.Author.Needs.{needs}
@@ -18,7 +19,9 @@ enum-known-fields : tie.Need-enum-known-fields
 enum-known-fields c = search needs
 
 record-in-form-requires : tie.Need-record-in-form-requires
-record-in-form-requires c κs = search needs
+record-in-form-requires c κs =
+    let accepted = sym (c .before .before .before .read .ensures .0) ∙ c .before .fields .given .1 in
+    first-within (now (c .before .before .before .before .before .args .image)) (c .before .fields .given .0 .0) accepted
 
 returns : tie.Need-returns
 unfolding formReadAt

@@ -18,15 +18,15 @@ read-checkints-requires c κs = search needs
 enum-known-f : tie.Need-enum-known-f
 enum-known-f c = search needs
 
+returns-2 : tie.Need-returns-2
+unfolding contentAt endedAt
+returns-2 c = rw (← c .before .before .before .before .before .remaining .ensures, eq-eqb _ _ (c .before .before .before .before .if1 .left), ← c .before .before .before .read-checkints .ensures, c .before .f .given .1)
+
 enum-known-n : tie.Need-enum-known-n
 enum-known-n c = search needs
 
 read-keys-requires : tie.Need-read-keys-requires
 read-keys-requires c κs = search needs
-
-returns-2 : tie.Need-returns-2
-unfolding contentAt endedAt
-returns-2 c = rw (← c .before .before .before .before .before .remaining .ensures, eq-eqb _ _ (c .before .before .before .before .if1 .left), ← c .before .before .before .read-checkints .ensures, c .before .f .given .1)
 
 returns-3 : tie.Need-returns-3
 unfolding contentAt
@@ -40,7 +40,7 @@ read-content-spec =
     returns
     read-checkints-requires
     enum-known-f
+    returns-2
     enum-known-n
     read-keys-requires
-    returns-2
     returns-3)

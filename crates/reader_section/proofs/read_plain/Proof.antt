@@ -13,18 +13,18 @@ string-requires c κs = search needs
 enum-known-f : tie.Need-enum-known-f
 enum-known-f c = search needs
 
-enum-known-p : tie.Need-enum-known-p
-enum-known-p c = search needs
-
-add-t15 : tie.Need-add-t15
-add-t15 c = omega (arith, string-place _ _ _ _ (sym (c .before .before .before .string .ensures) ∙ c .before .p .given .1) .placed)
-
-read-content-requires : tie.Need-read-content-requires
-read-content-requires c κs = search needs
-
 returns : tie.Need-returns
 unfolding plainAt
 returns c = rw (← c .before .before .before .string .ensures, c .before .f .given .1)
+
+enum-known-p : tie.Need-enum-known-p
+enum-known-p c = search needs
+
+add-t14 : tie.Need-add-t14
+add-t14 c = omega (arith, string-place _ _ _ _ (sym (c .before .before .before .string .ensures) ∙ c .before .p .given .1) .placed)
+
+read-content-requires : tie.Need-read-content-requires
+read-content-requires c κs = search needs
 
 returns-2 : tie.Need-returns-2
 unfolding plainAt
@@ -36,8 +36,8 @@ read-plain-spec =
     (tie.spec
     string-requires
     enum-known-f
-    enum-known-p
-    add-t15
-    read-content-requires
     returns
+    enum-known-p
+    add-t14
+    read-content-requires
     returns-2)

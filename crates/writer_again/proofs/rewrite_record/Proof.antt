@@ -1,6 +1,9 @@
--- `writer_again::rewrite_record` meets its contract: the judgement picks the case. Rests on the callees' contracts.
-use mathlib.Core.Path.{refl}
+-- `writer_again::rewrite_record` meets its contract: the judgement picks the case, and a record that passes it is what a read
+-- gives. Rests on `passes-read` and on the callees' contracts.
+use mathlib.Core.Path.{refl, sym, _∙_}
+use denote.Ref.{now}
 use borrow.Author.Tests.{not-true, not-false}
+use Rattle.handed_record.specs.Judge.{passes-read}
 use Rattle.writer_again.specs.Rewrite.{handedReply, handedLeft}
 use borrow.Author.Needs.{needs}
 use Rattle.writer_again.proofs.rewrite_record.Statement.{statement}
@@ -17,7 +20,8 @@ unfolding handedReply handedLeft
 returns c = rw (c .refused .ensures, ← c .before .before .is-read .ensures, not-true (c .before .before .is-read .result) (c .before .if1 .taken)) (refl, refl, refl)
 
 write-record-requires : tie.Need-write-record-requires
-write-record-requires c κs = search needs
+write-record-requires c κs =
+    passes-read (now (c .before .before .before .before .before .args .image)) (c .before .before .before .before .before .args .f) (sym (c .before .before .is-read .ensures) ∙ not-false (c .before .before .is-read .result) (c .before .if1 .left))
 
 same-length : tie.Need-same-length
 same-length c = search needs

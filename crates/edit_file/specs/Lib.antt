@@ -1,0 +1,4 @@
+pub mod Edits
+pub mod Stand
+pub mod Afresh
+pub mod Numbered

@@ -1,0 +1,2 @@
+pub mod More
+pub mod Add

@@ -1,0 +1,1 @@
+// No code: a file of keys, and one edit of it after the other.
