@@ -1,5 +1,5 @@
 #!/usr/bin/env bash
-# Builds the bench against the archive and runs it. The archive is made by `rt staticlib saltorchard`.
+# Builds the bench against the archive and runs it. The archive is made by `bash tools/archive.sh`.
 #
 #     bench/run.sh                  the answers compared, then the times as tables
 #     bench/run.sh --check          the answers compared, and each job and the night's run once; no times
@@ -16,7 +16,7 @@ cd "$(dirname "$0")"
 # shellcheck source=../tools/x86_64.sh
 . ../tools/x86_64.sh
 
-[ -f ../target/staticlib/libsaltorchard.a ] || { echo "there is no archive: run 'rt staticlib saltorchard' first" >&2; exit 1; }
+[ -f ../target/staticlib/libsaltorchard.a ] || { echo "there is no archive: run 'bash tools/archive.sh' first" >&2; exit 1; }
 if [ -n "$SALTORCHARD_RUN" ]; then
     echo "This runs under an emulator, where times mean nothing: only the answers are compared."
     set -- --check

@@ -1,6 +1,6 @@
 #!/usr/bin/env bash
 # Installs the C header, the archive, a shared library that is made of it, and pkg-config's file. All is made first and copied then. The
-# archive is made by `rt staticlib saltorchard`.
+# archive is made by `bash tools/archive.sh`.
 set -euo pipefail
 here=$(dirname "$(readlink -f "$0")")
 archive=$here/../target/staticlib/libsaltorchard.a
@@ -25,9 +25,9 @@ number=$(sed -n 's/^#define SALTORCHARD_INTERFACE //p' "$here/c/saltorchard.h")
 version=$(sed -n 's/^version = "\(.*\)"$/\1/p' "$here/rust/Cargo.toml")
 [ -n "$number" ] || fail "bindings/c/saltorchard.h has no interface number"
 [ -n "$version" ] || fail "bindings/rust/Cargo.toml has no version"
-[ -f "$archive" ] || fail "there is no archive: run 'rt staticlib saltorchard' in the repository's root first"
+[ -f "$archive" ] || fail "there is no archive: run 'bash tools/archive.sh' in the repository's root first"
 grep -aqw "saltorchard_interface_$number" "$archive" ||
-    fail "the archive isn't of interface $number, as saltorchard.h is: make it anew with 'rt staticlib saltorchard'"
+    fail "the archive isn't of interface $number, as saltorchard.h is: make it anew with 'bash tools/archive.sh'"
 
 # Here gcc is enough; tools/x86_64.sh asks for cargo too.
 if [ "$(uname -sm)" = "Linux x86_64" ]; then

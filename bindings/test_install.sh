@@ -48,7 +48,7 @@ refused 2 "usage: " ./install.sh
 refused 2 "usage: " ./install.sh "$folder/nowhere" second
 refused 1 "PREFIX must begin with /" ./install.sh nowhere
 refused 1 "PREFIX must begin with /" ./install.sh "$folder/nowhere at all"
-refused 1 "rt staticlib saltorchard" "$folder/bare/bindings/install.sh" "$folder/nowhere"
+refused 1 "bash tools/archive.sh" "$folder/bare/bindings/install.sh" "$folder/nowhere"
 sed "s/saltorchard_interface_$number/saltorchard_interface_0/g" ../target/staticlib/libsaltorchard.a \
     >"$folder/bare/target/staticlib/libsaltorchard.a"
 refused 1 "isn't of interface $number" "$folder/bare/bindings/install.sh" "$folder/nowhere"

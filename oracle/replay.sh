@@ -5,5 +5,5 @@ set -euo pipefail
 cd "$(dirname "$0")/replay"
 # shellcheck source=../tools/x86_64.sh
 . ../../tools/x86_64.sh
-[ -f ../../target/staticlib/libsaltorchard.a ] || { echo "there is no archive: run 'rt staticlib saltorchard' first" >&2; exit 1; }
+[ -f ../../target/staticlib/libsaltorchard.a ] || { echo "there is no archive: run 'bash tools/archive.sh' first" >&2; exit 1; }
 CARGO_TARGET_DIR=$PWD/../../target/replay "$SALTORCHARD_CARGO" run --release --quiet --offline -- "$@"

@@ -1,29 +1,24 @@
 """Calls of the writers and of the edits, in rows: each row has a lent buffer and the calls that are made on it one
-after another. How they are stored for crates/replay_writing, and what it must print.
+after another. How they are stored for crates/replay_writing, and what it must print; how those of a list of keys are stored for
+replay_lists says listed.py.
 
 In the file of calls every number is 4 bytes, big-endian. A row is how many calls it has, the buffer that is lent to them, the
-length of the image in it, and the calls. A call is its code, three numbers and seven texts, of which the last are empty where
-fewer are named:
+length of the image in it, and the calls. A call is its code, three numbers, the place and the length of each of seven texts, and a
+text in which these stand one after another; the last are empty where fewer are named:
   0 plain      algorithm, 1 to derive the checkint or 0, checkint; public, private, comment
   1 encrypted  cipher, KDF, rounds; salt, blob, ciphertext, tag
   2 rewrite    0, 0, 0; image
   3 change     0 for the length that the last accepted call answered, the lent image's until one was, or 1 for the number
                that follows, its upper half and its lower half; comment
   4 rsa        0, 1 to derive the checkint or 0, checkint; n, e, d, iqmp, p, q, comment
-and, once rule 4.5 opens, of several keys, where the edits have the three numbers of a change, and k and each number of a table are 8
-bytes, big-endian:
-  5 write_keys         0, 1 to derive the checkint or 0, checkint; the table, its text
-  6 change_comment_of  k, comment
-  7 add_key            the algorithm as a byte, public, private, comment
-  8 add_rsa            n, e, d, iqmp, p, q, comment
-  9 remove_key         k
 A text is how many pieces it has, and each piece is the length of a unit, the length of the piece, and the unit, which is
 repeated over the piece. So 65,301 times one byte take 13 bytes.
 
-For each call a line is printed: the entry, number, count, at, the length that was written, the buffer's length and all of
+For each call a line is printed: the entry, which may be shortened, number, count, at, the length that was written, the buffer's length and all of
 the buffer: `hex:` and its bytes if it has up to 256, else `mod:` and what remains if the buffer, as one big-endian number,
 is divided by a prime just below 2**56. A change of any single byte always shows there.
 """
+import itertools
 import re
 from typing import NamedTuple
 
@@ -35,6 +30,7 @@ from rsa import NUMBERS
 
 WRITERS = {"plain": 0, "encrypted": 1, "rewrite": 2, "rsa": 4, "write_keys": 5}
 EDITS = {"change": 3, "change_comment_of": 6, "add_key": 7, "add_rsa": 8, "remove_key": 9}  # their first argument is n
+SHORTENED = {"write_keys": "keys", "change_comment_of": "change_of", "add_key": "add", "remove_key": "remove"}
 PRIME = 2**56 - 5
 SHORT = 256
 LARGE = 66000  # the longest buffer that the program takes: it has room for an image above the limit
@@ -149,7 +145,7 @@ def line(entry, reply, buffer):
         whole = "hex:" + buffer.hex()
     else:
         whole = f"mod:{int.from_bytes(buffer, 'big') % PRIME}"
-    return " ".join([f"{entry:<9}", *map(str, reply), str(len(buffer)), whole]) + "\n"
+    return " ".join([f"{SHORTENED.get(entry, entry):<9}", *map(str, reply), str(len(buffer)), whole]) + "\n"
 
 
 # ---- how it is stored
@@ -176,7 +172,7 @@ def text(whole):
 
 
 def stored_arguments(entry, arguments):
-    """The three numbers and the texts of a call."""
+    """The three numbers and the texts of a call. k and each number of a table are 8 bytes of a text."""
     if entry == "plain":
         algorithm, public, private, checkint, comment = arguments
         return numbers(algorithm, checkint is None, checkint or 0), [public, private, comment]
@@ -201,15 +197,25 @@ def wide(number):
 
 def stored_rest(entry, rest):
     """The texts of an edit, of whose arguments the first may be a number."""
-    first_of = {"change_comment_of": wide, "remove_key": wide, "add_key": lambda code: bytes([code])}
+    first_of = {"change_comment_of": wide, "remove_key": wide, "add_key": numbers}
     return [first_of[entry](rest[0]), *rest[1:]] if entry in first_of else rest
 
 
 def stored_call(call):
     head, texts = stored_arguments(call.entry, call.arguments)
-    assert sum(map(len, texts)) <= TEXTS
-    texts += [b""] * (MOST_TEXTS - len(texts))
-    return numbers({**WRITERS, **EDITS}[call.entry]) + head + b"".join(map(text, texts))
+    return numbers(code(call)) + head + numbers(*places(texts)) + text(b"".join(texts))
+
+
+def code(call):
+    return {**WRITERS, **EDITS}[call.entry]
+
+
+def places(texts):
+    """Place and length of each of seven texts that stand one after another; of those that there aren't, 0."""
+    starts = itertools.accumulate(map(len, texts), initial=0)
+    found = [number for start, one in zip(starts, texts) for number in (start, len(one))]
+    assert sum(found[-2:]) <= TEXTS and len(texts) <= MOST_TEXTS
+    return found + [0] * (2 * MOST_TEXTS - len(found))
 
 
 def stored(row):

@@ -11,12 +11,9 @@ import subprocess
 import sys
 
 ARCHIVE = "target/staticlib/libsaltorchard.a"
-# Files that a file of definitions uses for its own laws alone, and crates of laws, which may use any.
-LAWS = {
-    "fields/Place", "reader_image/FormLaws", "edit_shells/Places", "edit_shells/Shells", "format/Lengths", "format/Scalars",
-    "writer_listed/Listed",
-}
-OF_LAWS = ("claims", "laws_edits")
+# What a file that is to be read defines for its own laws alone, after the part that is to be read, rests on these: where keys stand, by the
+# lengths of what stands before them (edit_shells/Keys), and what a law says of an accepted edit (laws_edits/Steps).
+FOR_LAWS = {("edit_shells/Keys", "format/Lengths"), ("laws_edits/Steps", "laws_edits/File")}
 
 
 def text(path):
@@ -52,16 +49,25 @@ def listed():
     return set(re.findall(r"^\| \[(\w+/\w+)\]", text("docs/AUDIT.md"), re.M))
 
 
+def definitions(source):
+    """What is defined in a file, without its laws: a law's statement and proof name what needn't be read, since they are checked."""
+    return "\n".join(part for part in re.split(r"\n\s*\n", source) if re.search(r"^ *(?:pub )?(?:(?:abbrev|unfoldable) |record \w|data \w)", part, re.M))
+
+
 def whole():
-    """A definition that is to be read rests on none that isn't, and cites the rules that it states. Claims rest on laws, which needn't be read."""
+    """A definition that is to be read rests on none that isn't, and cites the rules that it states. Claims are over laws, too."""
     for name in sorted(listed()):
         crate, file = name.split("/")
         source = text(f"crates/{crate}/specs/{file}.antt")
         if "docs/RULES.md, " not in source.partition("\nuse ")[0]:
             yield f"{name} is to be read, and doesn't begin with the rules that it states"
-        used = {f"{crate}/{file}" for crate, file in re.findall(r"^(?:unfoldable pub )?use Rattle·(\w+)(?:·specs)?\.specs\.([A-Z]\w+)\.", source, re.M)}
-        for other in sorted(used - listed() - LAWS) if crate not in OF_LAWS else ():
-            yield f"docs/AUDIT.md has {name} read, which rests on {other}, and not that"
+        words = set(re.split(r"[\s(){}.,;]+", definitions(source)))
+        used = re.findall(r"^(?:unfoldable pub )?use Rattle·(\w+)(?:·specs)?\.specs\.([A-Z]\w+)\.\{([^}]*)\}", source, re.M)
+        for below, module, names in used:
+            other = f"{below}/{module}"
+            resting = sorted(words & set(names.split(", ")))
+            if resting and other not in listed() and (name, other) not in FOR_LAWS and crate != "claims":
+                yield f"docs/AUDIT.md has {name} read, which rests on {', '.join(resting)} of {other}, and not that"
 
 
 def faults():

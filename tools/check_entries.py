@@ -10,7 +10,7 @@ THEOREMS = "crates/claims/specs/Entries.antt"
 # A struct that holds a reference: the checker makes no plain form of the contract, which cites the definition that the line has.
 BY_HAND = {"recorded-rewrite": (("record_writing", "rewrite"), "isHanded")}
 # Their functions put bytes where they fit and answer a place: they refuse nothing.
-PUTS = ("buffer", "names_spelling", "writer_curve", "writer_numbers", "writer_rows", "edit_shells")
+PUTS = ("buffer", "names_spelling", "report_parts", "writer_curve", "writer_numbers", "writer_rows", "edit_shells")
 
 LENT = re.compile(r"&(?:'\w+ )?mut \[u8[\];]")
 FUNCTION = re.compile(r'\bpub (?:extern "C" )?fn (\w+)(?:<[^>]*>)?\(([^)]*)\)(?:\s*->\s*(\w+))?(?:\s*ensures \{ λ \w+\. ⌜ (\w+))?')

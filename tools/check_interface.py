@@ -14,7 +14,7 @@ LINES = "bindings/c/interface.txt"
 CRATE = "bindings/rust/src/c.rs"
 BUILD = "bindings/rust/build.rs"
 PYTHON = "bindings/python/saltorchard.py"
-SOURCE = "crates/saltorchard/src/lib.rt"
+SOURCE = "crates/c_interface/src/lib.rt"
 NAME = r"saltorchard_interface_(\d+)"
 # A function that the header defines: its head is a line, its braces stand at the margin, and all between them is indented and no
 # directive. What is laid out otherwise stays among the declarations.

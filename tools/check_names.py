@@ -8,7 +8,7 @@ import re
 
 CODE = (".rt", ".rs", ".py", ".c", ".h", ".sh", ".awk")
 SUFFIXES = (*CODE, ".md", ".txt", ".antt", ".edit", ".toml")
-SCRIPTS = ("inspect", "armour", "dearmour", ".ci/run")
+SCRIPTS = ("inspect", "keys", "armour", "dearmour", ".ci/run")
 FORMER = ("docs/changes/", "CHANGELOG.md")
 RT = "check ci dev doc fmt goals help mir must-fail prove selftest staticlib try version".split()
 

@@ -60,7 +60,7 @@ def texts():
         folders[:] = [f for f in folders if f not in (".git", "target", "__pycache__")]
         for name in files:
             path = os.path.join(base, name)
-            if not name.endswith(CODE) and name not in ("inspect", "armour", "dearmour", "run", "NOTICE"):
+            if not name.endswith(CODE) and name not in ("inspect", "keys", "armour", "dearmour", "run", "NOTICE"):
                 continue
             text = open(path, encoding="utf-8").read()
             if OUTSIDE.search(text) and not path.endswith("check_texts.py"):

@@ -1,14 +1,14 @@
 #!/usr/bin/env python3
-"""Makes the stored vectors of crates/replay_images, replay_writing, replay_records, replay_halves and replay_armour anew: the images,
-the calls and the records handed in, and what must be answered to each; and for the Rust tests the images of cases_places.py once
-more, each with its place and its field.
+"""Makes the stored vectors of crates/replay_images, replay_several, replay_writing, replay_lists, replay_records, replay_halves
+and replay_armour anew: the images, the calls and the records handed in, and what must be answered to each; and for the Rust tests the
+images of cases_places.py once more, each with its place and its field.
 
-    python3 tools/make_vectors.py            writes data/ and stdout of the five crates, and the file for the Rust tests
+    python3 tools/make_vectors.py            writes data/ and stdout of the seven crates, and the file for the Rust tests
     python3 tools/make_vectors.py --check    only compares them with what would be written; exit status 1 if they differ
 
 It comes out the same each time: the images are made here or stored in tools/corpus, and the answers are those of model.py,
 model_writing.py, model_edits.py and model_armour.py. Of the calls of the writers and of the edits calls.py says how they are stored
-and printed, of the records handed in records.py, of export and import armoured.py.
+and printed, with listed.py for those over several keys, of the records handed in records.py, of export and import armoured.py.
 In the file of images each is its length, 4 bytes big-endian, and its bytes. For each image there are in stdout
   - `read` and 27 numbers: number, count, at, kind, algorithm, cipher, KDF, rounds, checkint, padding, section (where
     its length, or the ciphertext's, begins), then start and length of blob, point, scalar, comment, salt, ciphertext
@@ -20,9 +20,10 @@ In the file of images each is its length, 4 bytes big-endian, and its bytes. For
   - `header` and 15 numbers, what the header read alone says: number, count, at, algorithm, cipher, KDF, rounds, section,
     then start and length of blob, point and salt, and the key count; where the header is refused only number, count, at and 0,
   - `header-rsa` and 5 numbers: its bits, start and length of modulus and exponent; only where one of them isn't 0,
-  - the inspection program's lines.
-The cases of several keys (cases_several.py, cases_several_damage.py, cases_several_records.py, cases_keys_writing.py, cases_edits.py)
-aren't stored: the model is held to them here, and the library to the model by bindings/python/test_several.py.
+  - the inspection program's lines,
+  - of an accepted image of several keys for each number k from 0 to 17 `key`, k and, where there is such a key, 24 numbers:
+    algorithm, start and length of blob, bits, start and length of point, modulus and exponent, where the keypair begins, then
+    start and length of scalar, d, iqmp, p, q and comment.
 """
 import binascii
 import collections
@@ -33,6 +34,7 @@ import sys
 import armoured
 import calls
 import cases_places
+import listed
 import model
 import records
 from against_ssh_keygen import armour
@@ -73,7 +75,10 @@ WRITING = CRATES / "replay_writing"
 RECORDS = CRATES / "replay_records"
 HALVES = CRATES / "replay_halves"
 ARMOUR = CRATES / "replay_armour"
+SEVERAL = CRATES / "replay_several"
+LISTS = CRATES / "replay_lists"
 PLACES = ROOT / "bindings" / "rust" / "tests" / "data" / "places"
+MOST_PRINTED = 2**20
 MUST_OCCUR = {
     "read": [0, 1, 2, 3, 4, 5, 6, 7, 11],
     "header": [0, 1, 2, 3, 4, 6, 11],
@@ -86,8 +91,6 @@ MUST_OCCUR = {
     "section": [0, 1, 2, 3, 4, 5, 6, 7],
     "export": [0, 9, 11],
     "import": [0, 2, 9, 11],
-}
-SEVERAL_MUST_OCCUR = {
     "key": [0, 1, 2, 3, 4, 5, 6, 7, 11],
     "write_keys": [0, 1, 2, 4, 7, 9, 11],
     "change_comment_of": list(range(12)),
@@ -95,7 +98,8 @@ SEVERAL_MUST_OCCUR = {
     "add_rsa": list(range(12)),
     "remove_key": [0, 1, 2, 3, 4, 5, 6, 7, 8, 10, 11],
 }
-KEY_PARTS = ["blob", "point", "scalar", "comment", "modulus", "exponent", "d", "iqmp", "p", "q"]
+KEY_PUBLIC = ["point", "modulus", "exponent"]
+KEY_PRIVATE = ["scalar", "d", "iqmp", "p", "q", "comment"]
 
 
 # ---- images
@@ -143,7 +147,8 @@ def images(cases):
 
 def expected(image):
     """What the replay prints for an image."""
-    return read_lines(image, model.read(image)) + header_lines(model.read_header(image)) + model.report(image)
+    answer = model.read(image)
+    return read_lines(image, answer) + header_lines(model.read_header(image)) + model.report(image) + keys_lines(image, answer)
 
 
 def reply_line(word, answer, numbers):
@@ -167,6 +172,19 @@ def read_lines(image, answer):
 def header_lines(half):
     line = reply_line("header", half, [*records.chosen(half, records.HEADER_NAMES, records.HEADER_PARTS), half.keys])
     return line + records.line_if_any("header-rsa", records.chosen(half, records.RSA_NAMES, records.HEADER_RSA_PARTS))
+
+
+def keys_lines(image, answer):
+    """Of an accepted image of several keys each number from 0 to one more than there can be."""
+    return "".join(key_line(image, answer, k) for k in range(model.KEY_ROOM + 2)) if answer.keys > 1 else ""
+
+
+def key_line(image, answer, k):
+    key = model.read_key(image, k)
+    if key.number != 0:
+        return records.line("key", [k])
+    public, private = records.chosen(key, ["bits"], KEY_PUBLIC), records.chosen(key, [], KEY_PRIVATE)
+    return records.line("key", [k, key.algorithm, *key.blob, *public, answer.places[k - 1], *private])
 
 
 # ---- calls
@@ -198,7 +216,7 @@ def hold_call(title, meant, reply, before, after):
 
 
 def rows(made_rows):
-    """Every row once with its answers, in the order in which they were made."""
+    """By how it is stored every row once, with its answers, in the order in which they were made."""
     once = {}
     for row in made_rows:
         answers = list(calls.answers(row))
@@ -207,7 +225,7 @@ def rows(made_rows):
             hold_call(row.title, call.reply, reply, before, after)
             if call.after not in (None, after):
                 sys.exit(f"{row.title}: the model leaves another buffer than was meant")
-        once.setdefault(calls.stored(row), answers)
+        once.setdefault(calls.stored(row), (row, answers))
     return once
 
 
@@ -281,18 +299,6 @@ def key_answers(image):
         yield k, key
 
 
-def several_held():
-    """The images of several keys, and how often each entry gives each reply number."""
-    hold_rings()
-    vectors = images(itertools.chain(several_cases(), several_damage_cases()))
-    written = rows(itertools.chain(keys_writing_rows(), edit_rows()))
-    by_hand = handed(several_record_cases())
-    answers = [(call.entry, reply, after) for row in written.values() for call, reply, after in row]
-    count = counted(vectors, answers, by_hand.values())
-    count.update(("key", key.number) for image in vectors for _, key in key_answers(image))
-    return count, vectors
-
-
 # ---- all of them
 
 
@@ -310,40 +316,54 @@ def counted(vectors, answers, by_hand):
     return count
 
 
+def several_rows():
+    yield from keys_writing_rows()
+    yield from edit_rows()
+
+
+def written_again(made_rows):
+    """Each call of a row that writes an image again, in a row of its own."""
+    for row in made_rows:
+        answers = list(calls.answers(row))
+        for before, (call, _, _) in zip([row.buffer, *(after for _, _, after in answers)], answers):
+            if call.entry == "rewrite":
+                yield calls.Row(row.title, before, [call])
+
+
+def answers_in(written, replayed=lambda call: True):
+    return [(call.entry, reply, after) for _, answers in written.values() for call, reply, after in answers if replayed(call)]
+
+
 def made():
     """The files by their paths, and how often each entry gives each reply number."""
-    vectors, written = images(all_cases()), rows(all_rows())
+    hold_rings()
+    vectors = {REPLAY: images(all_cases()), SEVERAL: images(itertools.chain(several_cases(), several_damage_cases()))}
+    written, lists = rows(itertools.chain(all_rows(), written_again(several_rows()))), rows(several_rows())
     by_hand = {
         RECORDS: handed(itertools.chain(record_cases(), key_record_cases())),
-        HALVES: handed(itertools.chain(half_record_cases(), rsa_record_cases(), key_half_cases())),
+        HALVES: handed(itertools.chain(half_record_cases(), rsa_record_cases(), key_half_cases(), several_record_cases())),
     }
-    text = "".join(expected(image) for image in vectors)
-    answers = [(call.entry, reply, after) for row in written.values() for call, reply, after in row]
     stored, armours = zip(*((stored, answer) for stored, *answer in armour_calls()))
-    count = counted(vectors, [*answers, *armours], [case for once in by_hand.values() for case in once.values()])
+    answers = {WRITING: answers_in(written), LISTS: answers_in(lists, listed.replayed), ARMOUR: armours}
+    all_vectors, all_answers = list(itertools.chain(*vectors.values())), itertools.chain(*answers.values())
+    count = counted(all_vectors, all_answers, [case for once in by_hand.values() for case in once.values()])
+    count.update(("key", key.number) for image in vectors[SEVERAL] for _, key in key_answers(image))
     files = {
-        REPLAY / "data" / "vectors": stored_images(vectors),
-        REPLAY / "stdout": text.encode(),
+        **{crate / "data" / "vectors": stored_images(once) for crate, once in vectors.items()},
+        **{crate / "stdout": "".join(map(expected, once)).encode() for crate, once in vectors.items()},
         WRITING / "data" / "calls": b"".join(written),
-        WRITING / "stdout": "".join(itertools.starmap(calls.line, answers)).encode(),
+        LISTS / "data" / "calls": b"".join(listed.stored(lists.values())),
         ARMOUR / "data" / "calls": b"".join(stored),
-        ARMOUR / "stdout": "".join(itertools.starmap(calls.line, armours)).encode(),
+        **{crate / "stdout": "".join(itertools.starmap(calls.line, said)).encode() for crate, said in answers.items()},
         **{crate / "data" / "records": b"".join(once) for crate, once in by_hand.items()},
         **{crate / "stdout": "".join(map(records.lines, once.values())).encode() for crate, once in by_hand.items()},
         PLACES: "".join(map(cases_places.stored, cases_places.rows())).encode(),
     }
-    return files, count, vectors
+    return files, count, all_vectors
 
 
-def all_made():
-    """The same with what several keys are answered, and the reply numbers that must occur."""
-    files, count, vectors = made()
-    more_count, more_vectors = several_held()
-    return files, count + more_count, vectors + more_vectors, MUST_OCCUR | SEVERAL_MUST_OCCUR
-
-
-def summary(files, count, vectors, must_occurs):
-    for entry, must_occur in must_occurs.items():
+def summary(files, count, vectors):
+    for entry, must_occur in MUST_OCCUR.items():
         found = {number: times for (of, number), times in sorted(count.items()) if of == entry}
         replies = ", ".join(f"{number}: {times}" for number, times in found.items())
         print(f"{entry}: {sum(found.values())} (reply {replies})")
@@ -353,6 +373,8 @@ def summary(files, count, vectors, must_occurs):
     print(f"read, accepted but not in the form: {not_in_form}")
     for path, content_of in files.items():
         print(f"{path.relative_to(ROOT)}: {len(content_of)} bytes")
+        if path.name == "stdout" and len(content_of) > MOST_PRINTED:
+            sys.exit(f"{path.relative_to(ROOT)}: a program's output that is compared has at most {MOST_PRINTED} bytes")
 
 
 def check(files):
@@ -370,8 +392,8 @@ def store(files):
 
 
 def main():
-    files, *said = all_made()
-    summary(files, *said)
+    files, count, vectors = made()
+    summary(files, count, vectors)
     return check(files) if "--check" in sys.argv[1:] else store(files)
 
 

@@ -11,6 +11,7 @@ that the two can be held against each other (make_vectors.py stores its answers)
     write_plain(...)             a plain image by the writer's rules; write_rsa(...) of an RSA key
     form(image)                  whether writing the record again, with its own checkint, gives the image back
     report(image)                what the inspection program prints
+    keys_report(image)           what the program `keys` prints
 
 The full read is the header read and then the section read. The rules on keys are in model_keys.py and rsa.py.
 
@@ -347,14 +348,18 @@ def form(image):
     return write_again(image, answer) == image
 
 
-# ---- the inspection program
+# ---- the programs' lines, rule 13
+
+
+def refused_line(answer):
+    return f"refused {answer.number} {answer.count} {answer.at}\n"
 
 
 def report(image):
     """The inspection program's whole output."""
     answer = read(image)
     if answer.number != 0:
-        return f"refused {answer.number} {answer.count} {answer.at}\n"
+        return refused_line(answer)
     lines = [
         "kind " + ("plain" if answer.kind == PLAIN else "encrypted"),
         "algorithm " + ALGORITHMS[answer.algorithm].decode(),
@@ -368,3 +373,20 @@ def report(image):
     else:
         lines += [f"ciphertext {answer.ciphertext[1]}", f"tag {answer.tag[1]}", f"image {len(image)}"]
     return "".join(line + "\n" for line in lines)
+
+
+def keys_report(image):
+    """The whole output of the program `keys`: a line for each key."""
+    answer = read(image)
+    if answer.number != 0:
+        return refused_line(answer)
+    keys = keys_of(image, answer)
+    return "".join(f"{k} {key_words(key, answer.kind)}\n" for k, key in enumerate(keys, 1))
+
+
+def key_words(key, kind):
+    words = [ALGORITHMS[key.algorithm].decode()]
+    if key.algorithm == RSA:
+        words.append(f"bits {key.bits}")
+    words.append(f"comment {key.comment[1]}" if kind == PLAIN else "encrypted")
+    return " ".join(words)

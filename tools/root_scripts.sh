@@ -1,5 +1,5 @@
-# Sourced by the scripts at the root, ./inspect, ./armour and ./dearmour, each around programs of its own. A script has set `me`, its
-# name, and `root`, and has a function `usage`.
+# Sourced by the scripts at the root, ./inspect, ./keys, ./armour and ./dearmour, each around programs of its own. A script has set `me`,
+# its name, and `root`, and has a function `usage`.
 
 # Where standard input is closed, the next file that is opened would take its place.
 closed=no

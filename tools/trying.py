@@ -1,4 +1,4 @@
-"""What try_inspect.py and try_armour.py have in common: they run the scripts at the root as a user would."""
+"""What try_inspect.py, try_keys.py and try_armour.py have in common: they run the scripts at the root as a user would."""
 import base64
 import os
 import pathlib

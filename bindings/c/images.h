@@ -3,6 +3,7 @@
 #ifndef IMAGES_H
 #define IMAGES_H
 
+#include "checks.h"
 #include "saltorchard.h"
 
 #include <string.h>
@@ -493,5 +494,22 @@ static saltorchard_image header_record(const bytes *image)
     r.keys = uint32_at(image, blob.start - 8);
     return r;
 }
+
+/* ---- the lent buffer with an image in it */
+
+static void lend_image(const bytes *image)
+{
+    lend_junk();
+    memcpy(lent, image->at, image->length);
+    memcpy(want, ground, sizeof ground);
+}
+
+static void holds_at(int line, const bytes *image)
+{
+    memcpy(want + GUARD, image->at, image->length);
+    ground_at(line);
+}
+
+#define HOLDS(image) holds_at(__LINE__, (image))
 
 #endif

@@ -1,13 +1,13 @@
 #!/usr/bin/env bash
 # Compiles the C tests and the example against the archive, runs them, and holds the example's output to example.stdout. Then
-# sees that a header of another interface doesn't link. The archive is made by `rt staticlib saltorchard`.
+# sees that a header of another interface doesn't link. The archive is made by `bash tools/archive.sh`.
 set -euo pipefail
 cd "$(dirname "$0")"
 # shellcheck source=../../tools/x86_64.sh
 . ../../tools/x86_64.sh
 
 archive=../../target/staticlib/libsaltorchard.a
-[ -f "$archive" ] || { echo "there is no archive: run 'rt staticlib saltorchard' first" >&2; exit 1; }
+[ -f "$archive" ] || { echo "there is no archive: run 'bash tools/archive.sh' first" >&2; exit 1; }
 folder=$(mktemp -d)
 trap 'rm -rf "$folder"' EXIT
 

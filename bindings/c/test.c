@@ -67,23 +67,6 @@ static void reads_at(int line, const bytes *image, saltorchard_image want)
 #define READS(image, want) reads_at(__LINE__, (image), (want))
 #define HALVES(image, want) halves_at(__LINE__, (image), (want))
 
-/* ---- the lent buffer with an image in it */
-
-static void lend_image(const bytes *image)
-{
-    lend_junk();
-    memcpy(lent, image->at, image->length);
-    memcpy(want, ground, sizeof ground);
-}
-
-static void holds_at(int line, const bytes *image)
-{
-    memcpy(want + GUARD, image->at, image->length);
-    ground_at(line);
-}
-
-#define HOLDS(image) holds_at(__LINE__, (image))
-
 /* ---- the calls, on the lent buffer */
 
 static saltorchard_reply write_key(const key *k, int derive, uint32_t checkint, const void *comment, size_t n, size_t room)

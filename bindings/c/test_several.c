@@ -51,21 +51,6 @@ static saltorchard_key no_key(uint64_t number, uint64_t count, uint64_t at)
     return r;
 }
 
-static void lend_image(const bytes *image)
-{
-    lend_junk();
-    memcpy(lent, image->at, image->length);
-    memcpy(want, ground, sizeof ground);
-}
-
-static void holds_at(int line, const bytes *image)
-{
-    memcpy(want + GUARD, image->at, image->length);
-    ground_at(line);
-}
-
-#define HOLDS(image) holds_at(__LINE__, (image))
-
 /* ---- the calls, on the lent buffer */
 
 static saltorchard_reply write_handed(int derive, uint32_t checkint, size_t room)

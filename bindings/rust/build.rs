@@ -17,7 +17,7 @@ fn main() {
     println!("cargo:rerun-if-changed={}", archive.display());
     if !archive.is_file() {
         stop(&format!(
-            "{} isn't there. Make it with `rt staticlib saltorchard` in the repository's root, \
+            "{} isn't there. Make it with `bash tools/archive.sh` in the repository's root, \
              or set SALTORCHARD_LIB_DIR to the folder that has it.",
             archive.display()
         ));
@@ -55,7 +55,7 @@ fn check_interface(archive: &Path) {
     };
     stop(&format!(
         "this crate needs interface {} of {}, and the archive in {} {}. Make the archive of the checkout that the crate is of, with \
-         `rt staticlib saltorchard` in its root; SALTORCHARD_LIB_DIR, where it is set, must name the folder of that one.",
+         `bash tools/archive.sh` in its root; SALTORCHARD_LIB_DIR, where it is set, must name the folder of that one.",
         INTERFACE,
         ARCHIVE,
         archive.parent().unwrap_or(archive).display(),

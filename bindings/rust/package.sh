@@ -1,7 +1,7 @@
 #!/usr/bin/env bash
 # bindings/rust/package.sh: makes the crate's package with the archive in it, target/package/saltorchard-VERSION.crate, and tries it:
 # unpacked in an empty folder, a small program that names it by its path is built and run, and a crate without std is built. The
-# archive is that of SALTORCHARD_LIB_DIR, or target/staticlib at the repository's root; `rt staticlib saltorchard` makes it.
+# archive is that of SALTORCHARD_LIB_DIR, or target/staticlib at the repository's root; `bash tools/archive.sh` makes it.
 #
 # The package is made from a copy of the crate with the archive in lib/ and the licences beside it, so that no archive stays in the
 # checkout, where it would be taken before a newer one.
@@ -11,7 +11,7 @@ root=$(cd "$crate/../.." && pwd)
 # shellcheck source=../../tools/x86_64.sh
 . "$root/tools/x86_64.sh"
 archive=${SALTORCHARD_LIB_DIR:-$root/target/staticlib}/libsaltorchard.a
-[ -f "$archive" ] || { echo "package.sh: there is no $archive: \`rt staticlib saltorchard\` makes it" >&2; exit 1; }
+[ -f "$archive" ] || { echo "package.sh: there is no $archive: \`bash tools/archive.sh\` makes it" >&2; exit 1; }
 archive=$(readlink -f "$archive")
 # From here on the package's own archive is to be found, and no other.
 unset SALTORCHARD_LIB_DIR

@@ -79,7 +79,7 @@ fn stops_with(test: &str, archive: &[u8], words: &[&str], sentences: &[&str]) {
 fn an_archive_without_a_number() {
     let older = renamed(NAME, "saltorchard_elsewhere_");
     let needs = format!("this crate needs interface {} of libsaltorchard.a", number());
-    stops_with("older", &older, &[], &[&needs, "has no interface number", "`rt staticlib saltorchard`"]);
+    stops_with("older", &older, &[], &[&needs, "has no interface number", "`bash tools/archive.sh`"]);
 }
 
 #[test]
@@ -87,7 +87,7 @@ fn an_archive_of_another_number() {
     let another = renamed(&format!("{}{}", NAME, number()), &format!("{}{}", NAME, other()));
     let needs = format!("this crate needs interface {} of libsaltorchard.a", number());
     let has = format!("has interface {}", other());
-    stops_with("another", &another, &[], &[&needs, &has, "`rt staticlib saltorchard`"]);
+    stops_with("another", &another, &[], &[&needs, &has, "`bash tools/archive.sh`"]);
 }
 
 #[test]

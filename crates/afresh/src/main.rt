@@ -1,5 +1,6 @@
-// Reads a plain image from standard input and writes its key afresh to standard output: its material and
-// its comment, with the derived checkint. What can't be written is refused on standard error.
+// Reads a plain image from standard input and writes its keys afresh to standard output: each with its material and
+// its comment, in their order, with the checkint that is derived from the first. What can't be written is refused on
+// standard error.
 use fields::Fault;
 use fields::Part;
 use fields::Refusal;
@@ -7,49 +8,51 @@ use key_material::Checkint;
 use key_material::Material;
 use libc::STDIN_FILENO;
 use names::Algorithm;
-use names::Elliptic;
 use reader_image::Fields;
 use reader_image::ImageRead;
 use reader_parts::Which;
 use reader_section::Kind;
-use writer_reply::Written;
+use reader_section::Section;
 
-// What was written at the start of a buffer, or the refusal.
-fn hand_out(written: Written, out: &[u8]) {
-    standard_streams::hand_out(written, out, b"afresh: standard output");
-}
-
-fn write_elliptic(image: &[u8], f: Fields, kind: Elliptic) {
-    let mut out = [0u8; 65536];
-    let m = Material::filled(
-        kind,
-        reader_parts::part(image, f, Which::Point),
-        reader_parts::part(image, f, Which::Scalar),
-    );
-    let comment = reader_parts::comment(image, f);
-    let written = writer_plain::write_plain(m, Checkint::Derived, comment, &mut out);
-    hand_out(written, &out);
-}
-
-fn write_rsa(image: &[u8], f: Fields) {
-    let mut out = [0u8; 65536];
-    let n = reader_parts::part(image, f, Which::Modulus);
-    let e = reader_parts::part(image, f, Which::Exponent);
-    let d = reader_parts::part(image, f, Which::D);
-    let iqmp = reader_parts::part(image, f, Which::Iqmp);
-    let p = reader_parts::part(image, f, Which::P);
-    let q = reader_parts::part(image, f, Which::Q);
-    let comment = reader_parts::comment(image, f);
-    let written = writer_rsa::write_rsa(n, e, d, iqmp, p, q, Checkint::Derived, comment, &mut out);
-    hand_out(written, &out);
-}
-
-fn write_plain(image: &[u8], f: Fields) {
+// The checkint of the first key's private bytes, a scalar's filled to its size.
+fn derived_checkint(image: &[u8], f: Fields) -> u32 {
     let header = f.header;
     let algorithm = header.algorithm;
     match algorithm {
-        Algorithm::Elliptic(kind) => write_elliptic(image, f, kind),
-        Algorithm::Rsa => write_rsa(image, f),
+        Algorithm::Elliptic(kind) => {
+            let m = Material::filled(
+                kind,
+                reader_parts::part(image, f, Which::Point),
+                reader_parts::part(image, f, Which::Scalar),
+            );
+            m.checkint(Checkint::Derived)
+        }
+        Algorithm::Rsa => { key_material::derived_checkint(reader_parts::part(image, f, Which::D)) }
+    }
+}
+
+// The same record under another checkint.
+fn with_checkint(f: Fields, checkint: u32) -> Fields {
+    let header = f.header;
+    let section = f.section;
+    let private = section.private;
+    let kind = section.kind;
+    let comment = section.comment;
+    let places = section.places;
+    let ciphertext = section.ciphertext;
+    let tag = section.tag;
+    Fields {
+        header: header,
+        section: Section {
+            padding: section.padding,
+            private: private,
+            kind: kind,
+            checkint: checkint,
+            comment: comment,
+            places: places,
+            ciphertext: ciphertext,
+            tag: tag,
+        },
     }
 }
 
@@ -57,7 +60,12 @@ fn write(image: &[u8], f: Fields) {
     let section = f.section;
     let kind = section.kind;
     match kind {
-        Kind::Plain => write_plain(image, f),
+        Kind::Plain => {
+            let mut out = [0u8; 65536];
+            let record = with_checkint(f, derived_checkint(image, f));
+            let written = writer_listed::write_listed(image, record, &mut out);
+            standard_streams::hand_out(written, &out, b"afresh: standard output");
+        }
         Kind::Encrypted => standard_streams::tell_refused(Fault {
             why: Refusal::Encrypted,
             at: 0,

@@ -10,8 +10,6 @@ use Rattle.c_numbers.proofs.refused_key.Reads as refused-key
 use Rattle.c_numbers.proofs.refused_key.Kinds as refused-key-kinds
 use Rattle.c_numbers.proofs.looked_key.Reads as looked-key
 use Rattle.c_numbers.proofs.looked_key.Kinds as looked-key-kinds
-use Rattle.c_numbers.proofs.reply_of.Reads as reply-of
-use Rattle.c_numbers.proofs.reply_of.Kinds as reply-of-kinds
 
 pub image-of-determined : Determined 0 image-of-kinds.ps image-of-kinds.r image-of.Post
 image-of-determined κs a r₁ r₂ s₁ s₂ p q = cc
@@ -27,6 +25,3 @@ refused-key-determined κs a r₁ r₂ s₁ s₂ p q = cc
 
 pub looked-key-determined : Determined 0 looked-key-kinds.ps looked-key-kinds.r looked-key.Post
 looked-key-determined κs a r₁ r₂ s₁ s₂ p q = cc
-
-pub reply-of-determined : Determined 0 reply-of-kinds.ps reply-of-kinds.r reply-of.Post
-reply-of-determined κs a r₁ r₂ s₁ s₂ p q = cc

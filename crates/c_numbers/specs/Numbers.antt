@@ -1,6 +1,6 @@
--- docs/RULES.md, 15.1: what a read found and what a writer answered, in plain numbers. An accepted image is 0 0 0, its kind (1 plain, 2 encrypted), the codes,
+-- docs/RULES.md, 15.1: what a read found, in plain numbers. An accepted image is 0 0 0, its kind (1 plain, 2 encrypted), the codes,
 -- the numbers and the places of its fields; of a refused one all after the place is 0. An accepted header is of kind 3, and all that a
--- header doesn't have is 0, the form too. A key that the image doesn't have is 1, count 0, at 0, and all after it 0. A writer replies the refusal, or 0 0 0 and the length.
+-- header doesn't have is 0, the form too. A key that the image doesn't have is 1, count 0, at 0, and all after it 0.
 use Prim.Native.Nat.{ℕ}
 use mathlib.Core.Bool.{Bool, true, false}
 use Rattle.fields.specs.Fields.{fault, absent}
@@ -20,12 +20,9 @@ use Rattle.reader_image.specs.declared.FormRead.{FormRead}
 use Rattle.reader_image.specs.Form.{onForm}
 use Rattle.reader_keys.specs.declared.Looked.{Looked}
 use Rattle.reader_keys.specs.Keys.{onLooked}
-use Rattle.writer_reply.specs.declared.Written.{Written}
-use Rattle.writer_reply.specs.Reply.{told}
 use Rattle.c_numbers.specs.declared.Place.{Place}
 use Rattle.c_numbers.specs.declared.Image.{Image}
 use Rattle.c_numbers.specs.declared.Key.{Key}
-use Rattle.c_numbers.specs.declared.Reply.{Reply}
 
 -- ---- an image
 
@@ -184,8 +181,3 @@ acceptedKey f =
 
 unfoldable pub lookedKey : Looked → Key
 lookedKey found = onLooked found (refusedKey (fault Length 0)) acceptedKey
-
--- ---- a writer's reply
-
-unfoldable pub replyOf : Written → Reply
-replyOf w = record { number = told w .number; count = told w .count; at = told w .at; length = told w .length }

@@ -1,8 +1,8 @@
-// What a read found, the header read alone, or of one key, and what a writer answered, in plain numbers: the
-// structs of the functions for C.
+// What a read found, the header read alone, or of one key, in plain numbers: the structs of the functions for C that
+// read.
 ghost use mathlib.Core.Path.{_≡_};
 ghost use Rattle.fields.specs.Fields.{absent};
-ghost use Rattle.c_numbers.specs.Numbers.{placeOf, formCode, refusedImage, acceptedImage, imageOf, halfImage, headerOf, refusedKey, acceptedKey, lookedKey, replyOf};
+ghost use Rattle.c_numbers.specs.Numbers.{placeOf, formCode, refusedImage, acceptedImage, imageOf, halfImage, headerOf, refusedKey, acceptedKey, lookedKey};
 use fields::Fault;
 use fields::Part;
 use fields::Refusal;
@@ -15,7 +15,6 @@ use reader_header::HeaderRead;
 use reader_image::Fields;
 use reader_image::FormRead;
 use reader_keys::Looked;
-use writer_reply::Written;
 
 // Where a field stands; 0 and 0 where the image has none.
 #[repr(C)]
@@ -73,14 +72,6 @@ pub struct Key {
     pub iqmp: Place,
     pub p: Place,
     pub q: Place,
-}
-
-#[repr(C)]
-pub struct Reply {
-    pub number: u64,
-    pub count: u64,
-    pub at: u64,
-    pub length: u64,
 }
 
 fn place_of(part: Part) -> Place
@@ -308,29 +299,5 @@ pub fn looked_key(found: Looked) -> Key
             at: 0,
         }),
         Looked::Key(f) => accepted_key(f),
-    }
-}
-
-// What a writer answered, in numbers.
-pub fn reply_of(written: Written) -> Reply
-    ensures { λ r. ⌜ r ≡ replyOf written ⌝ }
-{
-    match written {
-        Written::Length(n) => Reply {
-            number: 0,
-            count: 0,
-            at: 0,
-            length: n as u64,
-        },
-        Written::Refused(f) => {
-            let why = f.why;
-            let at = f.at;
-            Reply {
-                number: why.number() as u64,
-                count: why.count() as u64,
-                at: at as u64,
-                length: 0,
-            }
-        }
     }
 }

@@ -22,8 +22,8 @@ use Rattle.armour_text.specs.Import.{strip, carried, carries, importReply, impo
 use Rattle.armour_text.specs.Ends.{CrLf, noReturn, crlf-same, crlf-strip, text-no-return}
 use Rattle.armour_text.specs.Exactly.{takes, takes-only, import-export}
 use Rattle.claims.specs.Reading.{held, sized-held, sized-fits}
-use Rattle.c_numbers.specs.Numbers.{replyOf}
-use Rattle.c_numbers.specs.declared.Reply.{Reply}
+use Rattle.c_reply.specs.Replies.{replyOf}
+use Rattle.c_reply.specs.declared.Reply.{Reply}
 use Rattle.claims.specs.Refusals.{export, import, Promise, saltorchard-export, saltorchard-import, PromiseC}
 
 -- the text is export's of these bytes, however many, with some of its line feeds made CR LF

@@ -2,7 +2,7 @@
 -- which has key k; the new comment is valid UTF-8; with it the image written afresh has at most 65,535 bytes and fits the buffer. Whatever
 -- meets the contract of a change then accepts it, answers that length and leaves that image; all before the length field of key k's comment
 -- stays, but the four bytes of the section's length; zeros stand from the new end to the old one; bytes past both ends stay. That the premises
--- can be met: `asked` (ShutOut), of a written image of one key of any kind, and `relettered` there, of one.
+-- can be met: `asked` (ShutOut), of a written image of keys of any kinds, and `relettered` there, of one.
 use Prim.Native.Nat.{ℕ, _+_, _-_, _≤_}
 use native.Mathlib.Omega.{arith}
 use mathlib.Core.Path.{_≡_, refl, sym, _∙_, ap}

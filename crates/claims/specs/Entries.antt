@@ -10,8 +10,6 @@ use denote.Triple.Clauses.{AtExit}
 use denote.Ref.{now}
 use Rattle.writer_plain.proofs.write_parts.Reads as write-parts-reads
 use Rattle.writer_plain.proofs.write_parts.Kinds as write-parts-kinds
-use Rattle.writer_plain.proofs.write_filled.Reads as write-filled-reads
-use Rattle.writer_plain.proofs.write_filled.Kinds as write-filled-kinds
 use Rattle.writer_rsa.proofs.write_parts.Reads as write-numbers-reads
 use Rattle.writer_rsa.proofs.write_parts.Kinds as write-numbers-kinds
 use Rattle.writer_rsa.proofs.write_rsa.Reads as write-rsa-reads
@@ -26,26 +24,30 @@ use Rattle.writer_again.proofs.rewrite_record.Reads as rewrite-record-reads
 use Rattle.writer_again.proofs.rewrite_record.Kinds as rewrite-record-kinds
 use Rattle.comment_change.proofs.change_comment.Reads as change-comment-reads
 use Rattle.comment_change.proofs.change_comment.Kinds as change-comment-kinds
+use Rattle.report_parts.proofs.hand_text.Reads as hand-text-reads
+use Rattle.report_parts.proofs.hand_text.Kinds as hand-text-kinds
 use Rattle.inspect_report.proofs.write_report.Reads as write-report-reads
 use Rattle.inspect_report.proofs.write_report.Kinds as write-report-kinds
+use Rattle.keys_report.proofs.write_keys_report.Reads as write-keys-report-reads
+use Rattle.keys_report.proofs.write_keys_report.Kinds as write-keys-report-kinds
 use Rattle.armour_export.proofs.export.Reads as export-reads
 use Rattle.armour_export.proofs.export.Kinds as export-kinds
 use Rattle.armour_import.proofs.import.Reads as import-reads
 use Rattle.armour_import.proofs.import.Kinds as import-kinds
-use Rattle.saltorchard.proofs.saltorchard_write_plain.Reads as saltorchard-write-plain-reads
-use Rattle.saltorchard.proofs.saltorchard_write_plain.Kinds as saltorchard-write-plain-kinds
-use Rattle.saltorchard.proofs.saltorchard_write_rsa.Reads as saltorchard-write-rsa-reads
-use Rattle.saltorchard.proofs.saltorchard_write_rsa.Kinds as saltorchard-write-rsa-kinds
-use Rattle.saltorchard.proofs.saltorchard_write_encrypted.Reads as saltorchard-write-encrypted-reads
-use Rattle.saltorchard.proofs.saltorchard_write_encrypted.Kinds as saltorchard-write-encrypted-kinds
-use Rattle.saltorchard.proofs.saltorchard_rewrite.Reads as saltorchard-rewrite-reads
-use Rattle.saltorchard.proofs.saltorchard_rewrite.Kinds as saltorchard-rewrite-kinds
-use Rattle.saltorchard.proofs.saltorchard_change_comment.Reads as saltorchard-change-comment-reads
-use Rattle.saltorchard.proofs.saltorchard_change_comment.Kinds as saltorchard-change-comment-kinds
-use Rattle.saltorchard.proofs.saltorchard_export.Reads as saltorchard-export-reads
-use Rattle.saltorchard.proofs.saltorchard_export.Kinds as saltorchard-export-kinds
-use Rattle.saltorchard.proofs.saltorchard_import.Reads as saltorchard-import-reads
-use Rattle.saltorchard.proofs.saltorchard_import.Kinds as saltorchard-import-kinds
+use Rattle.c_writing.proofs.saltorchard_write_plain.Reads as saltorchard-write-plain-reads
+use Rattle.c_writing.proofs.saltorchard_write_plain.Kinds as saltorchard-write-plain-kinds
+use Rattle.c_writing.proofs.saltorchard_write_rsa.Reads as saltorchard-write-rsa-reads
+use Rattle.c_writing.proofs.saltorchard_write_rsa.Kinds as saltorchard-write-rsa-kinds
+use Rattle.c_writing.proofs.saltorchard_write_encrypted.Reads as saltorchard-write-encrypted-reads
+use Rattle.c_writing.proofs.saltorchard_write_encrypted.Kinds as saltorchard-write-encrypted-kinds
+use Rattle.c_rewrite.proofs.saltorchard_rewrite.Reads as saltorchard-rewrite-reads
+use Rattle.c_rewrite.proofs.saltorchard_rewrite.Kinds as saltorchard-rewrite-kinds
+use Rattle.c_change.proofs.saltorchard_change_comment.Reads as saltorchard-change-comment-reads
+use Rattle.c_change.proofs.saltorchard_change_comment.Kinds as saltorchard-change-comment-kinds
+use Rattle.c_armour.proofs.saltorchard_export.Reads as saltorchard-export-reads
+use Rattle.c_armour.proofs.saltorchard_export.Kinds as saltorchard-export-kinds
+use Rattle.c_armour.proofs.saltorchard_import.Reads as saltorchard-import-reads
+use Rattle.c_armour.proofs.saltorchard_import.Kinds as saltorchard-import-kinds
 use Rattle.writer_listed.proofs.write_listed.Reads as write-listed-reads
 use Rattle.writer_listed.proofs.write_listed.Kinds as write-listed-kinds
 use Rattle.writer_keys.proofs.write_keys.Reads as write-keys-reads
@@ -66,19 +68,19 @@ use Rattle.edit_remove.proofs.remove.Reads as remove-places-reads
 use Rattle.edit_remove.proofs.remove.Kinds as remove-places-kinds
 use Rattle.edit_add.proofs.open.Reads as open-places-reads
 use Rattle.edit_add.proofs.open.Kinds as open-places-kinds
-use Rattle.saltorchard.proofs.saltorchard_write_keys.Reads as saltorchard-write-keys-reads
-use Rattle.saltorchard.proofs.saltorchard_write_keys.Kinds as saltorchard-write-keys-kinds
-use Rattle.saltorchard.proofs.saltorchard_change_comment_of.Reads as saltorchard-change-comment-of-reads
-use Rattle.saltorchard.proofs.saltorchard_change_comment_of.Kinds as saltorchard-change-comment-of-kinds
-use Rattle.saltorchard.proofs.saltorchard_add_key.Reads as saltorchard-add-key-reads
-use Rattle.saltorchard.proofs.saltorchard_add_key.Kinds as saltorchard-add-key-kinds
-use Rattle.saltorchard.proofs.saltorchard_add_rsa.Reads as saltorchard-add-rsa-reads
-use Rattle.saltorchard.proofs.saltorchard_add_rsa.Kinds as saltorchard-add-rsa-kinds
-use Rattle.saltorchard.proofs.saltorchard_remove_key.Reads as saltorchard-remove-key-reads
-use Rattle.saltorchard.proofs.saltorchard_remove_key.Kinds as saltorchard-remove-key-kinds
+use Rattle.c_writing.proofs.saltorchard_write_keys.Reads as saltorchard-write-keys-reads
+use Rattle.c_writing.proofs.saltorchard_write_keys.Kinds as saltorchard-write-keys-kinds
+use Rattle.c_change.proofs.saltorchard_change_comment_of.Reads as saltorchard-change-comment-of-reads
+use Rattle.c_change.proofs.saltorchard_change_comment_of.Kinds as saltorchard-change-comment-of-kinds
+use Rattle.c_add.proofs.saltorchard_add_key.Reads as saltorchard-add-key-reads
+use Rattle.c_add.proofs.saltorchard_add_key.Kinds as saltorchard-add-key-kinds
+use Rattle.c_add.proofs.saltorchard_add_rsa.Reads as saltorchard-add-rsa-reads
+use Rattle.c_add.proofs.saltorchard_add_rsa.Kinds as saltorchard-add-rsa-kinds
+use Rattle.c_remove.proofs.saltorchard_remove_key.Reads as saltorchard-remove-key-reads
+use Rattle.c_remove.proofs.saltorchard_remove_key.Kinds as saltorchard-remove-key-kinds
 use Rattle.reader_image.specs.declared.Fields.{Fields}
 use Rattle.claims.specs.Demand.{Asked, Demanded, demand-three}
-use Rattle.claims.specs.Refusals.{write-parts, write-filled, write-numbers, write-rsa, write-plain, write-encrypted, rewrite, rewrite-record, change-comment, write-report, export, import, Promise, saltorchard-write-plain, saltorchard-write-rsa, saltorchard-write-encrypted, saltorchard-rewrite, saltorchard-change-comment, saltorchard-export, saltorchard-import, PromiseC, write-listed, write-keys, write-named, change-comment-of, remove-key, add-key, add-rsa, change-places, remove-places, open-places, saltorchard-write-keys, saltorchard-change-comment-of, saltorchard-add-key, saltorchard-add-rsa, saltorchard-remove-key}
+use Rattle.claims.specs.Refusals.{write-parts, write-numbers, write-rsa, write-plain, write-encrypted, rewrite, rewrite-record, change-comment, hand-text, write-report, write-keys-report, export, import, Promise, saltorchard-write-plain, saltorchard-write-rsa, saltorchard-write-encrypted, saltorchard-rewrite, saltorchard-change-comment, saltorchard-export, saltorchard-import, PromiseC, write-listed, write-keys, write-named, change-comment-of, remove-key, add-key, add-rsa, change-places, remove-places, open-places, saltorchard-write-keys, saltorchard-change-comment-of, saltorchard-add-key, saltorchard-add-rsa, saltorchard-remove-key}
 
 -- what meets the contract keeps the line: a are the arguments, in their order, r the answer, s what the lent places hold at the end
 abbrev pub Listed : (n : ℕ) (ps : List (PK n)) (r : RK n) → Out n ps r → Out n ps r → Type 0
@@ -92,14 +94,6 @@ pub write-parts-listed :
     Promise (write-parts (a .0) (now (a .1 .0)) (now (a .1 .1 .0)) (a .1 .1 .1 .0) (now (a .1 .1 .1 .1 .0)))
     (now (a .1 .1 .1 .1 .1 .0)) r (now (s .1 .1 .1 .1 .1 .0)))
 write-parts-listed κs a r s p = p
-
--- writer_plain::write_filled
-pub write-filled-listed :
-    Listed 4 write-filled-kinds.ps write-filled-kinds.r write-filled-reads.Post
-    (λ κs a r s.
-    Promise (write-filled (a .0) (now (a .1 .0)) (now (a .1 .1 .0)) (a .1 .1 .1 .0) (now (a .1 .1 .1 .1 .0)))
-    (now (a .1 .1 .1 .1 .1 .0)) r (now (s .1 .1 .1 .1 .1 .0)))
-write-filled-listed κs a r s p = p
 
 -- writer_rsa::write_parts
 pub write-numbers-listed :
@@ -149,6 +143,18 @@ pub change-comment-listed :
     (λ κs a r s. Promise (change-comment (a .1 .0) (now (a .1 .1 .0))) (now (a .0)) r (now (s .0)))
 change-comment-listed κs a r s p = p
 
+-- report_parts::hand_text
+pub hand-text-listed :
+    Listed 2 hand-text-kinds.ps hand-text-kinds.r hand-text-reads.Post
+    (λ κs a r s. Promise (hand-text (now (a .0))) (now (a .1 .0)) r (now (s .1 .0)))
+hand-text-listed κs a r s p = p
+
+-- keys_report::write_keys_report
+pub write-keys-report-listed :
+    Listed 2 write-keys-report-kinds.ps write-keys-report-kinds.r write-keys-report-reads.Post
+    (λ κs a r s. Promise (write-keys-report (now (a .0))) (now (a .1 .0)) r (now (s .1 .0)))
+write-keys-report-listed κs a r s p = p
+
 -- inspect_report::write_report
 pub write-report-listed :
     Listed 2 write-report-kinds.ps write-report-kinds.r write-report-reads.Post
@@ -167,7 +173,7 @@ pub import-listed :
     (λ κs a r s. Promise (import (now (a .0))) (now (a .1 .0)) r (now (s .1 .0)))
 import-listed κs a r s p = p
 
--- saltorchard::saltorchard_write_plain
+-- c_writing::saltorchard_write_plain
 pub saltorchard-write-plain-listed :
     Listed 4 saltorchard-write-plain-kinds.ps saltorchard-write-plain-kinds.r saltorchard-write-plain-reads.Post
     (λ κs a r s.
@@ -175,7 +181,7 @@ pub saltorchard-write-plain-listed :
     (now (a .1 .1 .1 .1 .1 .1 .0)) r (now (s .1 .1 .1 .1 .1 .1 .0)))
 saltorchard-write-plain-listed κs a r s p = p
 
--- saltorchard::saltorchard_write_rsa
+-- c_writing::saltorchard_write_rsa
 pub saltorchard-write-rsa-listed :
     Listed 8 saltorchard-write-rsa-kinds.ps saltorchard-write-rsa-kinds.r saltorchard-write-rsa-reads.Post
     (λ κs a r s.
@@ -183,7 +189,7 @@ pub saltorchard-write-rsa-listed :
     (now (a .1 .1 .1 .1 .1 .1 .1 .1 .1 .0)) r (now (s .1 .1 .1 .1 .1 .1 .1 .1 .1 .0)))
 saltorchard-write-rsa-listed κs a r s p = p
 
--- saltorchard::saltorchard_write_encrypted
+-- c_writing::saltorchard_write_encrypted
 pub saltorchard-write-encrypted-listed :
     Listed 5 saltorchard-write-encrypted-kinds.ps saltorchard-write-encrypted-kinds.r saltorchard-write-encrypted-reads.Post
     (λ κs a r s.
@@ -191,25 +197,25 @@ pub saltorchard-write-encrypted-listed :
     (now (a .1 .1 .1 .1 .1 .1 .1 .0)) r (now (s .1 .1 .1 .1 .1 .1 .1 .0)))
 saltorchard-write-encrypted-listed κs a r s p = p
 
--- saltorchard::saltorchard_rewrite
+-- c_rewrite::saltorchard_rewrite
 pub saltorchard-rewrite-listed :
     Listed 2 saltorchard-rewrite-kinds.ps saltorchard-rewrite-kinds.r saltorchard-rewrite-reads.Post
     (λ κs a r s. PromiseC (saltorchard-rewrite (now (a .0))) (now (a .1 .0)) r (now (s .1 .0)))
 saltorchard-rewrite-listed κs a r s p = p
 
--- saltorchard::saltorchard_change_comment
+-- c_change::saltorchard_change_comment
 pub saltorchard-change-comment-listed :
     Listed 2 saltorchard-change-comment-kinds.ps saltorchard-change-comment-kinds.r saltorchard-change-comment-reads.Post
     (λ κs a r s. PromiseC (saltorchard-change-comment (a .1 .0) (now (a .1 .1 .0))) (now (a .0)) r (now (s .0)))
 saltorchard-change-comment-listed κs a r s p = p
 
--- saltorchard::saltorchard_export
+-- c_armour::saltorchard_export
 pub saltorchard-export-listed :
     Listed 2 saltorchard-export-kinds.ps saltorchard-export-kinds.r saltorchard-export-reads.Post
     (λ κs a r s. PromiseC (saltorchard-export (now (a .0))) (now (a .1 .0)) r (now (s .1 .0)))
 saltorchard-export-listed κs a r s p = p
 
--- saltorchard::saltorchard_import
+-- c_armour::saltorchard_import
 pub saltorchard-import-listed :
     Listed 2 saltorchard-import-kinds.ps saltorchard-import-kinds.r saltorchard-import-reads.Post
     (λ κs a r s. PromiseC (saltorchard-import (now (a .0))) (now (a .1 .0)) r (now (s .1 .0)))
@@ -295,7 +301,7 @@ pub open-places-listed :
     (now (a .0)) r (now (s .0)))
 open-places-listed κs a r s p = p
 
--- saltorchard::saltorchard_write_keys
+-- c_writing::saltorchard_write_keys
 pub saltorchard-write-keys-listed :
     Listed 3 saltorchard-write-keys-kinds.ps saltorchard-write-keys-kinds.r saltorchard-write-keys-reads.Post
     (λ κs a r s.
@@ -303,7 +309,7 @@ pub saltorchard-write-keys-listed :
     (now (a .1 .1 .1 .1 .0)) r (now (s .1 .1 .1 .1 .0)))
 saltorchard-write-keys-listed κs a r s p = p
 
--- saltorchard::saltorchard_change_comment_of
+-- c_change::saltorchard_change_comment_of
 pub saltorchard-change-comment-of-listed :
     Listed 2 saltorchard-change-comment-of-kinds.ps saltorchard-change-comment-of-kinds.r saltorchard-change-comment-of-reads.Post
     (λ κs a r s.
@@ -311,7 +317,7 @@ pub saltorchard-change-comment-of-listed :
     (now (a .0)) r (now (s .0)))
 saltorchard-change-comment-of-listed κs a r s p = p
 
--- saltorchard::saltorchard_add_key
+-- c_add::saltorchard_add_key
 pub saltorchard-add-key-listed :
     Listed 4 saltorchard-add-key-kinds.ps saltorchard-add-key-kinds.r saltorchard-add-key-reads.Post
     (λ κs a r s.
@@ -319,7 +325,7 @@ pub saltorchard-add-key-listed :
     (now (a .0)) r (now (s .0)))
 saltorchard-add-key-listed κs a r s p = p
 
--- saltorchard::saltorchard_add_rsa
+-- c_add::saltorchard_add_rsa
 pub saltorchard-add-rsa-listed :
     Listed 8 saltorchard-add-rsa-kinds.ps saltorchard-add-rsa-kinds.r saltorchard-add-rsa-reads.Post
     (λ κs a r s.
@@ -327,7 +333,7 @@ pub saltorchard-add-rsa-listed :
     (now (a .0)) r (now (s .0)))
 saltorchard-add-rsa-listed κs a r s p = p
 
--- saltorchard::saltorchard_remove_key
+-- c_remove::saltorchard_remove_key
 pub saltorchard-remove-key-listed :
     Listed 1 saltorchard-remove-key-kinds.ps saltorchard-remove-key-kinds.r saltorchard-remove-key-reads.Post
     (λ κs a r s.

@@ -135,7 +135,7 @@ key-minimal (OnCurve Ed25519) zeros key x fits may = eq-eqb 0 zeros (sym may)
 key-minimal (OnCurve (Ecdsa k)) zeros key x fits may = sym (mpint-standing zeros (x .scalar) (fits .0 .1))
 key-minimal Rsa zeros key x fits may = eq-eqb 0 zeros (sym may)
 
-keys-minimal : (zs : List ℕ) (keys : List Key) → AllFit zs keys → sameBytes (map keyZeros keys) zs ≡ allMinimal zs keys
+pub keys-minimal : (zs : List ℕ) (keys : List Key) → AllFit zs keys → sameBytes (map keyZeros keys) zs ≡ allMinimal zs keys
 keys-minimal [] [] fits = refl
 keys-minimal (z ∷ zs) (k ∷ keys) fits =
     ap₂ _&&_ (key-minimal (k .algorithm) z (k .public) (k .private) (fits .0 .private) (fits .0 .may)) (keys-minimal zs keys (fits .1))

@@ -36,7 +36,7 @@ use Rattle.c_numbers.specs.declared.Image.{Image}
 use Rattle.c_numbers.specs.Numbers.{halfImage, imageOf, headerOf}
 use Rattle.c_handed.specs.Handed.{sameImage}
 use Rattle.c_handed.specs.Laws.{image-same, image-self}
-use Rattle.saltorchard.specs.Interface.{forgedHalf, sectionC}
+use Rattle.c_section.specs.Sections.{forgedHalf, sectionC}
 use Rattle.claims.specs.Handed.{fails}
 
 -- ---- the full read is the one followed by the other

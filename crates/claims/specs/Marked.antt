@@ -8,16 +8,19 @@ use mathlib.Core.Bool.{Bool, true, false}
 use mathlib.Core.List.{List, [], _∷_, _++_}
 use borrow.Author.Tests.{eq-eqb, lt-ltb, leb-true}
 use lib.ListN.{length, getD, replicate, length-replicate}
-use Rattle.fields.specs.Bytes.{ascii, uint32, string}
+use Rattle.fields.specs.Bytes.{ascii, uint32, string, and-true}
 use Rattle.fields.specs.Fields.{fault, hasRoom, uint32At, bytesAt, stringAt, viewOf}
 use Rattle.fields.specs.Refusals.{numberOf, countOf}
 use Rattle.fields.specs.declared.Refusal.{Refusal}
 use Rattle.fields.specs.declared.Refusal.the-variants.{Length, FormatEncoding, TrailingData}
+use Rattle.names.specs.declared.Algorithm.the-variants.{Elliptic as OnCurve}
 use Rattle.names.specs.declared.Curve.the-variants.{Nistp256}
+use Rattle.names.specs.declared.Elliptic.the-variants.{Ecdsa}
 use Rattle.utf8.specs.Utf8.{utf8}
 use Rattle.mpint.specs.Mpint.{isMpint, zerosBefore}
 use Rattle.mpint.specs.Zeros.{mpint-bytes, zeros-here, zeros-next}
-use Rattle.format.specs.Format.{magic, blob, keypair, content, section, header, plainImage}
+use Rattle.format.specs.Format.{magic, ofPoint, ofScalar, blob, keypair, content, section, header, plainImage, Key, keyOf, alone}
+use Rattle.format.specs.Lengths.{blob-length}
 use Rattle.key_pairs.specs.Pairs.{isScalar}
 use Rattle.key_material.specs.Material.{derivedCheckint}
 use Rattle.key_material.specs.Laws.{derived-m16}
@@ -25,7 +28,7 @@ use Rattle.reader_header.specs.Header.{magicAt, cipherAt, headerAt}
 use Rattle.reader_image.specs.declared.ImageRead.the-variants as read
 use Rattle.reader_image.specs.Container.{readAt}
 use Rattle.claims.specs.Scalars.{storedImage, ReadAs, reads-stored, NoScalar, no-bytes, too-long, unlike, zeros-alone, no-zero-first}
-use Rattle.claims.specs.NoScalars.{refuses-stored}
+use Rattle.claims.specs.NoScalars.{scalarField, refuses-stored}
 use Rattle.claims.specs.Sizes.{Ed25519Takes, ed25519-takes, Ed25519TooLong, ed25519-too-long, P256Takes, p256-takes}
 
 -- ---- images that are refused
@@ -55,16 +58,22 @@ magic-alone = record { why = Length; read = refl; number-is = refl; count-is = r
 
 -- ---- P-256 images that are read
 
+-- a P-256 key with this scalar field
+abbrev pub p256Key : List ℕ → List ℕ → List ℕ → Key
+p256Key point stored comment = keyOf (OnCurve (Ecdsa Nistp256)) (ofPoint point) (ofScalar stored) comment
+
 -- every P-256 image with such a scalar field, any point, checkint and comment, is read, the scalar without its leading zeros, and is in the
 -- form or not
 abbrev pub P256Reads : (List ℕ → Type 0) → (List ℕ → Bool) → Type 0
 P256Reads such form =
     (n : ℕ) (point stored comment : List ℕ) → n < 2 ^ 32 → length point ≡ 65 → getD point 0 0 ≡ 4 → such stored → utf8 comment ≡ true
-    → length (storedImage Nistp256 n point stored comment) ≤ 65535 → ReadAs stored (storedImage Nistp256 n point stored comment) (form stored)
+    → length (storedImage n (alone (p256Key point stored comment))) ≤ 65535
+    → ReadAs (storedImage n (alone (p256Key point stored comment))) n (alone (p256Key point stored comment)) (form stored)
 
 p256-reads : (such : List ℕ → Type 0) → ((b : List ℕ) → such b → (isScalar 32 b ≡ true) × (length b ≤ 33)) → P256Reads such isMpint
 p256-reads such is n point stored comment fit long tag h text small =
-    reads-stored Nistp256 n point stored comment fit (long, eq-eqb _ _ tag, refl) (is stored h .0) (is stored h .1) text small
+    rw (← and-true (isMpint stored)) at
+    (reads-stored n (p256Key point stored comment) [] fit (((long, eq-eqb _ _ tag, refl), (is stored h .0, is stored h .1, refl), text), tt) (omega arith) small)
 
 -- and isn't in the form where the field is no mpint
 p256-not-in-form :
@@ -106,7 +115,7 @@ short-scalar b h = (rw (lt-ltb (zerosBefore b) (length b) (omega (arith, h .0, h
 abbrev pub P256Refuses : (List ℕ → Type 0) → ℕ → ℕ → ℕ → Type 0
 P256Refuses such number count at =
     (n : ℕ) (point stored comment : List ℕ) → n < 2 ^ 32 → length point ≡ 65 → getD point 0 0 ≡ 4 → such stored
-    → length (storedImage Nistp256 n point stored comment) ≤ 65535 → Refuses (storedImage Nistp256 n point stored comment) number count at
+    → length (storedImage n (alone (p256Key point stored comment))) ≤ 65535 → Refuses (storedImage n (alone (p256Key point stored comment))) number count at
 
 -- the field begins at byte 263
 p256-refuses :
@@ -115,9 +124,13 @@ p256-refuses :
     → P256Refuses such number count (263 + off)
 p256-refuses such number count off not-one n point stored comment fit long tag h small =
     let w = not-one stored h in
+    let blob-is = blob-length (ofPoint point) (ofScalar []) (OnCurve (Ecdsa Nistp256)) (long, omega arith) in
+    let place : scalarField (alone (p256Key point stored comment)) [] Nistp256 ≡ 263 = omega (arith, blob-is) in
     record {
       why = w .0;
-      read = refuses-stored Nistp256 point stored long tag n comment fit small (w .0) off (w .1);
+      read =
+          refuses-stored Nistp256 point stored comment long tag [] n fit [] tt tt (omega arith) small (w .0) off (w .1)
+          ∙ ap (λ (i : ℕ). read.Refused (fault (w .0) (i + off))) place;
       number-is = w .2;
       count-is = w .3;
     }
@@ -151,7 +164,7 @@ zeros-refuse m some short =
 
 -- that there are such images: one without comment, in which these bytes stand as the scalar's field
 unfoldable pub p256Image : List ℕ → List ℕ
-p256Image stored = storedImage Nistp256 7 (4 ∷ replicate 64 9) stored []
+p256Image stored = storedImage 7 (alone (p256Key (4 ∷ replicate 64 9) stored []))
 
 -- fields of 33 bytes that begin with 1, of 34 and of 35 bytes, of 31 and of 33 zeros, and of none
 pub other-scalars :

@@ -1,4 +1,4 @@
--- docs/RULES.md, 10.5 to 10.7, 12.1, 14.2 and 14.3: the conditions of the writers, of the edits, of export and of import, as lists in the rules'
+-- docs/RULES.md, 10.5 to 10.7, 10.11, 12.1, 12.4, 12.5, 14.2 and 14.3: the conditions of the writers, of the edits, of export and of import, as lists in the rules'
 -- order, each with its number. The reply is the first that holds, for every input; where none does it is 0 0 0 and the length.
 use Prim.Native.Nat.{ℕ, _%_, _≤_, _<_}
 use native.Mathlib.Omega.{arith}

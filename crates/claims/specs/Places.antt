@@ -30,7 +30,7 @@ use Rattle.inspect_report.specs.Report.{Refused, lines, reportOf}
 use Rattle.c_numbers.specs.Numbers.{refusedImage, halfImage, imageOf, headerOf}
 use Rattle.c_numbers.specs.declared.Image.{Image}
 use Rattle.c_handed.specs.Handed.{sameImage}
-use Rattle.saltorchard.specs.Interface.{sectionC}
+use Rattle.c_section.specs.Sections.{sectionC}
 use Rattle.laws_places.specs.Header.{aboutWhole}
 use Rattle.laws_places.specs.Read.{read-said}
 use Rattle.claims.specs.Halves.{refused-whole, two-halves-c}

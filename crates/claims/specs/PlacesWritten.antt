@@ -25,7 +25,7 @@ use Rattle.names.specs.declared.AlgorithmName.{AlgorithmName}
 use Rattle.names.specs.declared.AlgorithmName.the-variants.{Known, Unknown}
 use Rattle.names_codes.specs.Codes.{algorithmCoded, cipherCoded, kdfCoded}
 use Rattle.utf8.specs.Utf8.{utf8}
-use Rattle.format.specs.Format.{PublicBytes, PrivateBytes, Key, filledKey, publicLength, privateLength, pointTag, notZero, ofPoint, ofScalar, scalarFilled, ofModulus, ofNumbers, writtenImage, encryptedImage, alone, entry, keyOf, Entry as FormatEntry, standingEntries, keyBlob, section}
+use Rattle.format.specs.Format.{PublicBytes, PrivateBytes, Key, filledKey, publicLength, privateLength, pointTag, notZero, ofPoint, ofScalar, ofModulus, ofNumbers, writtenImage, encryptedImage, alone, entry, keyOf, Entry as FormatEntry, standingEntries, keyBlob, section}
 use Rattle.format.specs.Laws.{section-length}
 use Rattle.format.specs.Lengths.{blobsLength, entriesLength, content-length, plain-length, plain-header-length}
 use Rattle.key_material.specs.Material.{publicOf, privateOf, checkintOf}
@@ -60,16 +60,19 @@ use Rattle.edit_shells.specs.Keys.{removeKey, addKey}
 use Rattle.edit_file.specs.declared.Editable.the-variants as editable
 use Rattle.edit_file.specs.Edits.{onEditable, refusedWhole, recordEditable, editableAt, fileKeys, hasKey, commentField, changeReply, removeReply, addReply}
 use Rattle.edit_file.specs.Afresh.{all-take, change-sized}
+use Rattle.report_parts.specs.Parts.{textReply}
 use Rattle.inspect_report.specs.Report.{reportOf, reportReply}
+use Rattle.keys_report.specs.Lines.{keysReport}
 use Rattle.armour_text.specs.Text.{text, exportReply}
 use Rattle.armour_text.specs.Import.{carried, carries, importReply}
-use Rattle.c_numbers.specs.Numbers.{replyOf}
-use Rattle.c_numbers.specs.declared.Reply.{Reply}
-use Rattle.saltorchard.specs.Interface.{namesNothing, checkintFor, codedPlainReply, codedEncryptedReply, codedAddReply, answersC}
+use Rattle.c_reply.specs.Replies.{replyOf, namesNothing, answersC}
+use Rattle.c_reply.specs.declared.Reply.{Reply}
+use Rattle.c_writing.specs.Coded.{checkintFor, codedPlainReply, codedEncryptedReply}
+use Rattle.c_add.specs.Added.{codedAddReply}
 use Rattle.laws_places.specs.Read.{read-said}
 use Rattle.claims.specs.Places.{place-within}
 use Rattle.claims.specs.Change.{may-edit}
-use Rattle.claims.specs.Refusals.{by-kind, Entry, write-parts, write-filled, write-numbers, write-rsa, write-plain, write-encrypted, rewrite, rewrite-record, recorded-rewrite, write-listed, write-keys, write-named, change-comment, change-comment-of, remove-key, add-key, add-rsa, change-places, remove-places, open-places, curveKey, rsaKey, write-report, export, import, Promise, EntryC, saltorchard-write-plain, saltorchard-write-rsa, saltorchard-write-encrypted, saltorchard-rewrite, saltorchard-write-keys, saltorchard-change-comment, saltorchard-change-comment-of, saltorchard-add-key, saltorchard-add-rsa, saltorchard-remove-key, saltorchard-export, saltorchard-import, PromiseC}
+use Rattle.claims.specs.Refusals.{by-kind, Entry, write-parts, write-numbers, write-rsa, write-plain, write-encrypted, rewrite, rewrite-record, recorded-rewrite, write-listed, write-keys, write-named, change-comment, change-comment-of, remove-key, add-key, add-rsa, change-places, remove-places, open-places, curveKey, rsaKey, hand-text, write-report, write-keys-report, export, import, Promise, EntryC, saltorchard-write-plain, saltorchard-write-rsa, saltorchard-write-encrypted, saltorchard-rewrite, saltorchard-write-keys, saltorchard-change-comment, saltorchard-change-comment-of, saltorchard-add-key, saltorchard-add-rsa, saltorchard-remove-key, saltorchard-export, saltorchard-import, PromiseC}
 
 -- ---- the place by the reply's number
 
@@ -95,7 +98,6 @@ wholePlace old n number = editPlace old n (λ f m. 0) number
 
 abbrev pub placeOf : Entry → List ℕ → ℕ → ℕ
 placeOf (write-parts e point scalar checkint comment) old number = 0
-placeOf (write-filled e point scalar checkint comment) old number = 0
 placeOf (write-numbers n e d iqmp p q checkint comment) old number = 0
 placeOf (write-rsa n e d iqmp p q given comment) old number = 0
 placeOf (write-plain m given comment) old number = 0
@@ -114,7 +116,9 @@ placeOf (add-rsa n m e d iqmp p q comment) old number = wholePlace old n number
 placeOf (change-places n section field past end comment) old number = 0
 placeOf (remove-places n count blob after section pair past end) old number = 0
 placeOf (open-places n count section end blob own) old number = 0
+placeOf (hand-text text) old number = 0
 placeOf (write-report s) old number = 0
+placeOf (write-keys-report s) old number = 0
 placeOf (export b) old number = 0
 placeOf (import t) old number = 0
 
@@ -333,9 +337,12 @@ coded-add-at old n code public private comment = by-name (algorithmCoded code)
     by-name (Known (OnCurve e)) = add-at old n (curveKey e public private comment)
     by-name (Known Rsa) = refl
 
+text-at : (text old : List ℕ) → At nowhere (textReply text old)
+text-at text old = unless-at nowhere (fits old 0 text) Room (written.Length (length text)) refl refl
+
 report-at : (s old : List ℕ) → At nowhere (reportReply s old)
 unfolding reportReply
-report-at s old = unless-at nowhere (fits old 0 (reportOf s)) Room (written.Length (length (reportOf s))) refl refl
+report-at s old = text-at (reportOf s) old
 
 export-at : (b : List ℕ) (room : ℕ) → At nowhere (exportReply b room)
 unfolding exportReply
@@ -394,8 +401,6 @@ pub place-said :
     (entry : Entry) (old : List ℕ) → AllBytes old → (r : Written) (out : List ℕ) → Promise entry old r out → told r .at ≡ placeOf entry old (told r .number)
 place-said (write-parts e point scalar checkint comment) old all r out p =
     told-at nowhere _ r _ out (plain-at (OnCurve e) (ofPoint point) (ofScalar scalar) checkint comment (length old)) p
-place-said (write-filled e point scalar checkint comment) old all r out p =
-    told-at nowhere _ r _ out (plain-at (OnCurve e) (ofPoint point) (ofScalar (scalarFilled e scalar)) checkint comment (length old)) p
 place-said (write-numbers n e d iqmp p q checkint comment) old all r out promise =
     told-at nowhere _ r _ out (plain-at Rsa (ofModulus n e) (ofNumbers d iqmp p q) checkint comment (length old)) promise
 place-said (write-rsa n e d iqmp p q given comment) old all r out promise =
@@ -422,7 +427,9 @@ place-said (change-places n section field past end comment) old all r out p =
 place-said (remove-places n count blob after section pair past end) old all r out p =
     told-by nowhere _ r (edit-reply-at (removePlaces blob after section pair past end) _ n (length old)) (p .0)
 place-said (open-places n count section end blob own) old all r out p = told-by nowhere _ r (edit-reply-at (addPlaces section end) _ n (length old)) (p .0)
+place-said (hand-text text) old all r out p = told-at nowhere _ r _ out (text-at text old) p
 place-said (write-report s) old all r out p = told-at nowhere _ r _ out (report-at s old) (p .0)
+place-said (write-keys-report s) old all r out p = told-at nowhere _ r _ out (text-at (keysReport s) old) (p .0)
 place-said (export b) old all r out p = told-at nowhere _ r _ out (export-at b (length old)) p
 place-said (import t) old all r out p = told-at nowhere _ r _ out (import-at t (length old)) p
 

@@ -2,15 +2,16 @@
 -- kind, its names, its lengths and its form, of a refused one number, count and place. Accepted images that are alike in these have the same
 -- report, whatever their private bytes. (The lengths of a plain ECDSA image tell how many bytes its scalar's string has; in the form the
 -- scalar has as many, or one fewer and then a first byte of 0x80 or more.) Of a refused image no more is said than `report-refused`: its
--- count and place are what length fields say, and in a damaged image such a field may lie where a private byte was.
-use Prim.Native.Nat.{ℕ, _+_, _*_, _≤_, _<_, _^_}
+-- count and place are what length fields say, and in a damaged image such a field may lie where a private byte was. 13.4: the lines of the keys hold
+-- of each key its number, its kind, the bits of its modulus and its comment's length.
+use Prim.Native.Nat.{ℕ, zero, suc, _+_, _*_, _-_, _≤_, _<_, _^_}
 use native.Mathlib.Omega.{arith}
-use mathlib.Core.Path.{_≡_, refl, sym, _∙_, ap}
+use mathlib.Core.Path.{_≡_, refl, sym, _∙_, ap, ap₂}
 use mathlib.Core.Bool.{true}
-use mathlib.Core.List.{List, [], _∷_, map}
+use mathlib.Core.List.{List, [], _∷_, map, append-nil}
 use lib.Count.{leadingZeros}
-use lib.ListN.{length, getD, length-append, length-replicate}
-use Rattle.fields.specs.Bytes.{ascii, AllBytes, sameBytes}
+use lib.ListN.{length, take, getD, length-append, length-replicate}
+use Rattle.fields.specs.Bytes.{ascii, join, AllBytes, sameBytes}
 use Rattle.fields.specs.Fields.{viewOf}
 use Rattle.fields.specs.Place.{clash}
 use Rattle.fields.specs.Refusals.{numberOf, countOf}
@@ -28,7 +29,7 @@ use Rattle.names.specs.declared.Kdf.the-variants as kdf
 use Rattle.names.specs.Algorithms.{sizeOf}
 use Rattle.utf8.specs.Utf8.{UTF8-char, utf8, utf8From}
 use Rattle.mpint.specs.Mpint.{zerosBefore, bits}
-use Rattle.format.specs.Format.{PublicBytes, PrivateBytes, Key, keyOf, keyBlob, ofPoint, ofScalar, scalarZero, blob, keypair, paddingLength, content, standingEntries, writtenImage, encryptedImage, alone}
+use Rattle.format.specs.Format.{PublicBytes, PrivateBytes, Key, keyOf, entry, keyBlob, ofPoint, ofScalar, scalarZero, blob, keypair, paddingLength, content, standingEntries, writtenImage, encryptedImage, alone}
 use Rattle.format.specs.Laws.{section-length}
 use Rattle.format.specs.Lengths.{LengthsFit, blobLength, keypairLength, blob-length, blobsLength, entriesLength, content-length, plain-length}
 use Rattle.format.specs.Scalars.{keyZeros, fits-allowed}
@@ -43,9 +44,16 @@ use Rattle.reader_image.specs.Back.{SealFits, encrypted-image-back}
 use Rattle.reader_image.specs.Read.{ImageText, plain-text, encrypted-text, image-text}
 use Rattle.reader_image.specs.FormLaws.{keys-of}
 use Rattle.inspect_report.specs.Report.{Summary, Plain, Encrypted, Refused, accepted, summaryOf, lines, reportOf}
-use Rattle.inspect_report.specs.Examples.{printed, oven7}
+use Rattle.inspect_report.specs.Examples.{oven7}
+use Rattle.report_parts.specs.Parts.{printed, refusedLine}
+use Rattle.reader_entries.specs.declared.KeyFields.{KeyFields}
+use Rattle.reader_keys.specs.Keys.{firstFields, keyNumbered}
+use Rattle.reader_keys.specs.Found.{Lies, key-lies}
+use Rattle.reader_keys.specs.declared.Looked.the-variants as looked
+use Rattle.keys_report.specs.Lines.{lastWord, keyLine, lineOf, linesFrom, keysReport}
 use Rattle.claims.specs.Reading.{imageOf, Within, plain-admitted}
 use Rattle.claims.specs.Form.{Stands, keys-form, stands-fit, stands-some}
+use Rattle.claims.specs.Rsa.{first-found, bits-told}
 
 -- ---- plain images
 
@@ -307,3 +315,108 @@ report-accepted-encrypted s all f e sealed = go (image-text s all f e)
 pub report-refused : (s : List ℕ) (g : Fault) → readAt s ≡ read.Refused g → reportOf s ≡ lines (Refused (numberOf (g .why)) (countOf (g .why)) (g .at))
 unfolding reportOf summaryOf
 report-refused s g e = rw e
+
+-- ---- the lines of the keys
+
+-- what is printed of a plain image's key, by its number
+abbrev pub keyShown : ℕ → Key → List ℕ
+keyShown k x = keyLine k (x .algorithm) (bits (x .public .modulus)) kind.Plain (length (x .comment))
+
+-- of keys, from number k on
+abbrev pub keysShown : ℕ → List Key → List (List ℕ)
+keysShown k [] = []
+keysShown k (x ∷ keys) = keyShown k x ∷ keysShown (k + 1) keys
+
+lines-are :
+    (s : List ℕ) (f : Fields) (k : ℕ) (keys : List Key) → ((i : ℕ) → i < length keys → lineOf s f (k + i) ≡ keyShown (k + i) (getD keys i noKey))
+    → linesFrom s f k (length keys) ≡ keysShown k keys
+lines-are s f k [] each = refl
+lines-are s f k (x ∷ keys) each =
+    let here : k + 0 ≡ k = omega arith in
+    let first : lineOf s f k ≡ keyShown k x = rw here at (each 0 (omega arith)) in
+    let others : (i : ℕ) → i < length keys → lineOf s f (k + 1 + i) ≡ keyShown (k + 1 + i) (getD keys i noKey) =
+    λ i h. let past : k + suc i ≡ k + 1 + i = omega arith in rw past at (each (suc i) (omega arith)) in
+    ap₂ (λ (l : List ℕ) (more : List (List ℕ)). l ∷ more) first (lines-are s f (k + 1) keys others)
+
+-- how far the entries go with one more
+next-entry :
+    (zs : List ℕ) (keys : List Key) (i : ℕ) → AllFit zs keys → i < length keys
+    → entriesLength (take (suc i) (standingEntries zs keys))
+    ≡ entriesLength (take i (standingEntries zs keys)) + (length (getD (standingEntries zs keys) i (entry [] []) .pair) + (4 + length (getD keys i noKey .comment)))
+next-entry [] [] i fits h = absurd (omega arith)
+next-entry (z ∷ zs) (k ∷ keys) zero fits h = omega arith
+next-entry (z ∷ zs) (k ∷ keys) (suc i) fits h = omega (arith, next-entry zs keys i (fits .1) (omega arith))
+
+-- the line of a key that was looked up
+line-of :
+    (s : List ℕ) (f : Fields) (k : ℕ) (key : KeyFields) (x : Key) → keyNumbered s f k ≡ looked.Key key → f .section .kind ≡ kind.Plain → key .algorithm ≡ x .algorithm
+    → key .public .bits ≡ bits (x .public .modulus) → key .comment .length ≡ length (x .comment) → lineOf s f k ≡ keyShown k x
+unfolding lineOf
+line-of s f k key x found plain algorithm size long = rw (found, plain, algorithm, size, long)
+
+line-sealed :
+    (s : List ℕ) (f : Fields) (size : ℕ) → keyNumbered s f 1 ≡ looked.Key (firstFields f) → f .section .kind ≡ kind.Encrypted → f .header .public .bits ≡ size
+    → lineOf s f 1 ≡ keyLine 1 (f .header .algorithm) size kind.Encrypted 0
+unfolding lineOf keyLine lastWord
+line-sealed s f size found sealed same = rw (found, sealed, same)
+
+module _ (s : List ℕ) (all : AllBytes s) (f : Fields) (e : readAt s ≡ read.Record f) where
+  -- the line of the key that i others stand before
+  line-is : (plain : f .section .kind ≡ kind.Plain) (i : ℕ) → i < length (keysIn s f) → lineOf s f (1 + i) ≡ keyShown (1 + i) (getD (keysIn s f) i noKey)
+  line-is plain i h =
+      let p = keys-of s all f e plain in
+      let found = key-lies s f p (1 + i) (omega arith) (omega (arith, p .counted)) in
+      let k = found .fields in
+      let less : 1 + i - 1 ≡ i = omega arith in
+      let l : Lies s (keysIn s f) (p .zeros ∷ p .more-zeros) 39 (f .header .section + 12) i k = rw less at (found .lies) in
+      let long : k .comment .length ≡ length (getD (keysIn s f) i noKey .comment) =
+      omega (arith, l .begins-is, l .comment-is, l .past-is, next-entry (p .zeros ∷ p .more-zeros) (keysIn s f) i (p .keys-fit) h) in
+      line-of s f (1 + i) k (getD (keysIn s f) i noKey) (found .looked) plain (ap (λ (x : Key). x .algorithm) (sym (l .key-is)))
+      (bits-told s all f e (1 + i) k (found .looked) ∙ ap (λ (x : Key). bits (x .public .modulus)) (sym (l .key-is))) long
+
+  -- accepted, plain: of each key, in the file's order, its number, its kind, the bits of its modulus and the length of its comment
+  pub keys-printed : f .section .kind ≡ kind.Plain → keysReport s ≡ join (keysShown 1 (keysIn s f))
+  unfolding keysReport
+  keys-printed plain =
+      let p = keys-of s all f e plain in
+      rw e (ap (λ (n : ℕ). join (linesFrom s f 1 n)) (p .counted) ∙ ap join (lines-are s f 1 (keysIn s f) (line-is plain)))
+
+  one-key : f .section .kind ≡ kind.Encrypted → f .header .count ≡ 1
+  one-key sealed = go (image-text s all f e)
+    where
+      go : ImageText s all f e → f .header .count ≡ 1
+      go (plain-text plain p) = clash (let o : kind.Plain ≡ kind.Encrypted = sym plain ∙ sealed in cc)
+      go (encrypted-text encrypted p) = p .one-key
+
+  -- accepted, encrypted: the one key's kind and the bits of its modulus
+  pub keys-printed-encrypted : f .section .kind ≡ kind.Encrypted → keysReport s ≡ keyLine 1 (f .header .algorithm) (bits (publicIn s f .modulus)) kind.Encrypted 0
+  unfolding keysReport
+  keys-printed-encrypted sealed =
+      let found = first-found s all f e in
+      let line = line-sealed s f (bits (publicIn s f .modulus)) found sealed (bits-told s all f e 1 (firstFields f) found) in
+      rw e (ap (λ (n : ℕ). join (linesFrom s f 1 n)) (one-key sealed) ∙ append-nil (lineOf s f 1) ∙ line)
+
+-- refused
+pub keys-refused : (s : List ℕ) (g : Fault) → readAt s ≡ read.Refused g → keysReport s ≡ refusedLine (numberOf (g .why)) (countOf (g .why)) (g .at)
+unfolding keysReport
+keys-refused s g e = rw e
+
+-- keys that are alike in what is printed of them
+abbrev pub SameShown : List Key → List Key → Type 0
+SameShown [] [] = Unit {0}
+SameShown [] (l ∷ others) = ⊥
+SameShown (k ∷ keys) [] = ⊥
+SameShown (k ∷ keys) (l ∷ others) =
+    (k .algorithm ≡ l .algorithm) × (bits (k .public .modulus) ≡ bits (l .public .modulus)) × (length (k .comment) ≡ length (l .comment)) × SameShown keys others
+
+same-shown : (k : ℕ) (keys others : List Key) → SameShown keys others → keysShown k keys ≡ keysShown k others
+same-shown k [] [] same = refl
+same-shown k (x ∷ keys) (y ∷ others) same = rw (same .0, same .1, same .2, same-shown (k + 1) keys others (same .3))
+
+-- no byte of the file: two plain files whose keys are of the same kinds, bits and comments' lengths have the same lines, whatever their bytes are
+pub keys-no-byte :
+    (s : List ℕ) (all : AllBytes s) (f : Fields) (e : readAt s ≡ read.Record f) → f .section .kind ≡ kind.Plain
+    → (t : List ℕ) (all′ : AllBytes t) (g : Fields) (e′ : readAt t ≡ read.Record g) → g .section .kind ≡ kind.Plain
+    → SameShown (keysIn s f) (keysIn t g) → keysReport s ≡ keysReport t
+keys-no-byte s all f e plain t all′ g e′ plain′ same =
+    keys-printed s all f e plain ∙ ap join (same-shown 1 (keysIn s f) (keysIn t g) same) ∙ sym (keys-printed t all′ g e′ plain′)

@@ -19,7 +19,7 @@ use Rattle.writer_reply.specs.declared.Written.{Written}
 use Rattle.writer_reply.specs.declared.Written.the-variants as written
 use Rattle.writer_reply.specs.Reply.{sized, answers}
 use Rattle.writer_plain.specs.Plain.{keysChecked, keysReply, keysLeft, isPlain, plain-alone, left-alone}
-pub use Rattle.writer_plain.specs.Held.{held, Own, own-of, elliptic-held, key-held}
+pub use Rattle.writer_plain.specs.Held.{held, Own, elliptic-held, key-held}
 
 -- ---- an accepted write meets every condition
 
@@ -82,7 +82,7 @@ entries-trimmed : (keys : List Key) → map writtenEntry keys ≡ standingEntrie
 entries-trimmed [] = refl
 entries-trimmed (k ∷ keys) = ap (λ (l : List Entry). writtenEntry k ∷ l) (entries-trimmed keys)
 
-blobs-trimmed : (keys : List Key) → map keyBlob keys ≡ map keyBlob (map trimmedKey keys)
+pub blobs-trimmed : (keys : List Key) → map keyBlob keys ≡ map keyBlob (map trimmedKey keys)
 blobs-trimmed [] = refl
 blobs-trimmed (k ∷ keys) = ap (λ (l : List (List ℕ)). keyBlob k ∷ l) (blobs-trimmed keys)
 

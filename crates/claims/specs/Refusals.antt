@@ -13,7 +13,7 @@ use Rattle.names.specs.declared.Algorithm.the-variants.{Elliptic as OnCurve, Rs
 use Rattle.names.specs.declared.Cipher.{Cipher}
 use Rattle.names.specs.declared.Kdf.{Kdf}
 use Rattle.names_codes.specs.Codes.{algorithmCoded, cipherCoded, kdfCoded}
-use Rattle.format.specs.Format.{PublicBytes, PrivateBytes, Key, keyOf, filledKey, ofPoint, ofScalar, scalarFilled, ofModulus, ofNumbers}
+use Rattle.format.specs.Format.{PublicBytes, PrivateBytes, Key, keyOf, filledKey, ofPoint, ofScalar, ofModulus, ofNumbers}
 use Rattle.key_material.specs.Material.{publicOf, privateOf, checkintOf}
 use Rattle.key_material.specs.declared.Material.{Material}
 use Rattle.key_material.specs.declared.Checkint.{Checkint}
@@ -36,21 +36,23 @@ use Rattle.writer_listed.specs.Listed.{listedKeys, isListed}
 use Rattle.writer_again.specs.Rewrite.{plainAgain, plainAgainLeft, recordReply, recordLeft, rewriteReply, rewriteLeft, isRewritten, handedReply, handedLeft, isHanded, reply-plain, left-plain}
 use Rattle.armour_text.specs.Text.{exportReply, exportLeft}
 use Rattle.armour_text.specs.Import.{importReply, importLeft}
+use Rattle.report_parts.specs.Parts.{textReply, isHandedText}
 use Rattle.inspect_report.specs.Report.{reportOf, reportReply, isReport}
+use Rattle.keys_report.specs.Lines.{keysReport, isKeysReport}
 use Rattle.buffer.specs.Puts.{placed, fits}
 use Rattle.edit_shells.specs.Shells.{changedAt, removedAt, openedAt, openedSize}
 use Rattle.edit_shells.specs.Edits.{changePlaces, removePlaces, addPlaces, renewed, isEdit, isOpened}
 use Rattle.edit_file.specs.Edits.{changeReply, changeLeft, isChange, removeReply, removeLeft, isRemove, addReply, addLeft, isAdd}
 use Rattle.laws_edits.specs.Steps.{change, remove, add}
-use Rattle.c_numbers.specs.Numbers.{replyOf}
-use Rattle.c_numbers.specs.declared.Reply.{Reply}
-use Rattle.saltorchard.specs.Interface.{namesNothing, checkintFor, codedPlainReply, codedPlainLeft, codedEncryptedReply, codedEncryptedLeft, codedAddReply, codedAddLeft, answersC}
+use Rattle.c_reply.specs.Replies.{replyOf, namesNothing, answersC}
+use Rattle.c_reply.specs.declared.Reply.{Reply}
+use Rattle.c_writing.specs.Coded.{checkintFor, codedPlainReply, codedPlainLeft, codedEncryptedReply, codedEncryptedLeft}
+use Rattle.c_add.specs.Added.{codedAddReply, codedAddLeft}
 use Rattle.claims.specs.Change.{refused-stays}
 
 -- the entries of the library
 pub data Entry : Type 0 where
   write-parts : Elliptic → List ℕ → List ℕ → ℕ → List ℕ → Entry
-  write-filled : Elliptic → List ℕ → List ℕ → ℕ → List ℕ → Entry
   write-numbers : List ℕ → List ℕ → List ℕ → List ℕ → List ℕ → List ℕ → ℕ → List ℕ → Entry
   write-rsa : List ℕ → List ℕ → List ℕ → List ℕ → List ℕ → List ℕ → Checkint → List ℕ → Entry
   write-plain : Material → Checkint → List ℕ → Entry
@@ -69,7 +71,9 @@ pub data Entry : Type 0 where
   change-places : ℕ → ℕ → ℕ → ℕ → ℕ → List ℕ → Entry
   remove-places : ℕ → ℕ → ℕ → ℕ → ℕ → ℕ → ℕ → ℕ → Entry
   open-places : ℕ → ℕ → ℕ → ℕ → ℕ → ℕ → Entry
+  hand-text : List ℕ → Entry
   write-report : List ℕ → Entry
+  write-keys-report : List ℕ → Entry
   export : List ℕ → Entry
   import : List ℕ → Entry
 
@@ -82,8 +86,6 @@ rsaKey m e d iqmp p q comment = keyOf Rsa (ofModulus m e) (ofNumbers d iqmp p q)
 
 abbrev pub Promise : Entry → List ℕ → Written → List ℕ → Type 0
 Promise (write-parts e point scalar checkint comment) old r out = isPlain (OnCurve e) (ofPoint point) (ofScalar scalar) checkint comment old r out
-Promise (write-filled e point scalar checkint comment) old r out =
-    isPlain (OnCurve e) (ofPoint point) (ofScalar (scalarFilled e scalar)) checkint comment old r out
 Promise (write-numbers n e d iqmp p q checkint comment) old r out = isPlain Rsa (ofModulus n e) (ofNumbers d iqmp p q) checkint comment old r out
 Promise (write-rsa n e d iqmp p q given comment) old r out = isPlain Rsa (ofModulus n e) (ofNumbers d iqmp p q) (checkintOf given d) comment old r out
 Promise (write-plain m given comment) old r out =
@@ -106,7 +108,9 @@ Promise (remove-places n count blob after section pair past end) old r out =
     isEdit (removePlaces blob after section pair past end) (removedAt old count blob after section pair past end) n old r out
 Promise (open-places n count section end blob own) old r out =
     isOpened (addPlaces section end) (openedSize section end blob own) (openedAt old count section end blob own) n old r out
+Promise (hand-text text) old r out = isHandedText text old r out
 Promise (write-report s) old r out = isReport s old r out
+Promise (write-keys-report s) old r out = isKeysReport s old r out
 Promise (export b) old r out = answers (exportReply b (length old)) (exportLeft b old) r out
 Promise (import t) old r out = answers (importReply t (length old)) (importLeft t old) r out
 
@@ -264,12 +268,16 @@ coded-add-keeps n code public private comment old g w =
     by-kind-of (OnCurve k) f = curve-keeps n k public private comment old g f
     by-kind-of Rsa f = refl
 
-report-keeps : (s old : List ℕ) (g : Fault) → reportReply s old ≡ written.Refused g → placed old 0 (reportOf s) ≡ old
-unfolding reportReply placed
-report-keeps s old g e =
-    by-bool (fits old 0 (reportOf s))
-    (λ b. let d : written.Length (length (reportOf s)) ≡ written.Refused g = rw b at e in clash cc)
+text-keeps : (text old : List ℕ) (g : Fault) → textReply text old ≡ written.Refused g → placed old 0 text ≡ old
+unfolding placed
+text-keeps text old g e =
+    by-bool (fits old 0 text)
+    (λ b. let d : written.Length (length text) ≡ written.Refused g = rw b at e in clash cc)
     (λ b. rw b)
+
+report-keeps : (s old : List ℕ) (g : Fault) → reportReply s old ≡ written.Refused g → placed old 0 (reportOf s) ≡ old
+unfolding reportReply
+report-keeps s old g e = text-keeps (reportOf s) old g e
 
 export-keeps : (b old : List ℕ) (g : Fault) → exportReply b (length old) ≡ written.Refused g → exportLeft b old ≡ old
 unfolding exportLeft
@@ -291,8 +299,6 @@ kept w r after out old g keeps p e = p .1 ∙ keeps g (sym (p .0) ∙ e)
 pub refused-keeps : (entry : Entry) (old : List ℕ) (r : Written) (out : List ℕ) (g : Fault) → Promise entry old r out → r ≡ written.Refused g → out ≡ old
 refused-keeps (write-parts e point scalar checkint comment) old r out g promise q =
     kept _ r _ out old g (plain-keeps (OnCurve e) (ofPoint point) (ofScalar scalar) checkint comment old) promise q
-refused-keeps (write-filled e point scalar checkint comment) old r out g promise q =
-    kept _ r _ out old g (plain-keeps (OnCurve e) (ofPoint point) (ofScalar (scalarFilled e scalar)) checkint comment old) promise q
 refused-keeps (write-numbers n e d iqmp p q checkint comment) old r out g promise w =
     kept _ r _ out old g (plain-keeps Rsa (ofModulus n e) (ofNumbers d iqmp p q) checkint comment old) promise w
 refused-keeps (write-rsa n e d iqmp p q given comment) old r out g promise w =
@@ -320,7 +326,9 @@ refused-keeps (remove-places n count blob after section pair past end) old r out
     p .1 ∙ ap (λ (w : Written). renewed w (removedAt old count blob after section pair past end) n old) (sym (p .0) ∙ e)
 refused-keeps (open-places n count section end blob own) old r out g p e =
     p .1 ∙ ap (λ (w : Written). left w (openedAt old count section end blob own) old) (sym (p .0) ∙ e)
+refused-keeps (hand-text text) old r out g p e = kept _ r _ out old g (text-keeps text old) p e
 refused-keeps (write-report s) old r out g p e = kept _ r _ out old g (report-keeps s old) (p .0) e
+refused-keeps (write-keys-report s) old r out g p e = kept _ r _ out old g (text-keeps (keysReport s) old) (p .0) e
 refused-keeps (export b) old r out g p e = kept _ r _ out old g (export-keeps b old) p e
 refused-keeps (import t) old r out g p e = kept _ r _ out old g (import-keeps t old) p e
 

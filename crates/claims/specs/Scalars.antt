@@ -1,95 +1,170 @@
--- docs/RULES.md, 6.5 and 10.2: short scalars, on every curve by one proof for any SIZE. Which bytes may be a scalar's string, what is read of
--- them and which are in the form; what the writer makes of a scalar; that files of the old writer, which kept leading zeros, are read.
+-- docs/RULES.md, 6.5 and 10.2: short scalars, on every curve by one proof for any SIZE, of every key of a file of 1 to 16. Which bytes may be a
+-- scalar's string, what is read of them and which are in the form; what the writer makes of scalars; that keys as the old writer wrote them, with
+-- leading zeros kept, are read.
 use Prim.Native.Nat.{ℕ, zero, suc, _+_, _-_, _≤_, _<_, _^_}
 use native.Mathlib.Omega.{arith}
-use mathlib.Core.Path.{_≡_, refl, sym, _∙_, ap}
-use mathlib.Core.Bool.{Bool, true, false}
-use mathlib.Core.List.{List}
+use mathlib.Core.Path.{_≡_, refl, sym, _∙_, ap, ap₂}
+use mathlib.Core.Bool.{Bool, true, false, _&&_}
+use mathlib.Core.List.{List, [], _∷_, map}
 use borrow.Author.Tests.{eq-eqb, ne-eqb, eqb-true, eqb-false, lt-ltb, le-ltb, le-leb, lt-leb, leb-true, ltb-true, ltb-false}
-use lib.Dec.{eqb, ltb}
-use lib.ListN.{length, getD}
+use lib.Dec.{eqb, ltb, leb}
+use lib.ListN.{length, getD, length-map}
 use lib.Seq.{getD-drop}
 use Rattle.fields.specs.Bytes.{AllBytes}
 use Rattle.fields.specs.Fields.{fault, stringAt, viewOf}
-use Rattle.fields.specs.Place.{by-bool, string-place}
+use Rattle.fields.specs.Place.{clash, by-bool, string-place}
 use Rattle.fields.specs.Rest.{view-length}
 use Rattle.fields.specs.declared.Cursor.{Cursor}
 use Rattle.fields.specs.declared.Part.{Part}
 use Rattle.fields.specs.declared.Field.the-variants as field
 use Rattle.fields.specs.declared.Refusal.{Refusal}
-use Rattle.fields.specs.declared.Refusal.the-variants.{Length, FormatEncoding, TrailingData}
-use Rattle.names.specs.declared.Elliptic.the-variants.{Ecdsa}
-use Rattle.names.specs.declared.Algorithm.the-variants.{Elliptic as OnCurve}
+use Rattle.fields.specs.declared.Refusal.the-variants.{Length, FormatEncoding, TrailingData, CharacterEncoding}
+use Rattle.names.specs.declared.Elliptic.the-variants.{Ed25519, Ecdsa}
+use Rattle.names.specs.declared.Algorithm.{Algorithm}
+use Rattle.names.specs.declared.Algorithm.the-variants.{Elliptic as OnCurve, Rsa}
 use Rattle.names.specs.declared.Curve.{Curve}
 use Rattle.names.specs.Algorithms.{sizeOf}
 use Rattle.utf8.specs.Utf8.{utf8}
 use Rattle.mpint.specs.Mpint.{value, isMpint, zerosBefore, significant}
 use Rattle.mpint.specs.Laws.{mpint-same}
-use Rattle.format.specs.Format.{PublicBytes, PrivateBytes, ofPoint, ofScalar, standing, minimal, leadingZero, zeroLength, notZero, PublicFits, blob, keypair, plainImage, writtenImage, alone, entry, keyOf}
-use Rattle.format.specs.Scalars.{standing-again, significant-length, significant-first, value-standing, mpint-standing, minimal-mpint, minimal-value}
-use Rattle.key_pairs.specs.Pairs.{privateBytes, isScalar, scalarAt}
+use Rattle.format.specs.Format.{PublicBytes, PrivateBytes, ofScalar, standing, minimal, leadingZero, zeroLength, notZero, trimmed, PublicFits, PrivateFits, MayStand, keypair, writtenPair, Key, keyOf, keyBlob, Entry, entry, standingEntry, standingEntries, writtenEntry, plainImage, writtenImage}
+use Rattle.format.specs.Scalars.{standing-again, significant-length, significant-first, value-standing, minimal-mpint, minimal-value}
+use Rattle.key_pairs.specs.Pairs.{isScalar, scalarAt}
 use Rattle.key_pairs.specs.Scalar.{scalar-some, scalar-short, scalar-stands}
-use Rattle.reader_entries.specs.Back.{KeyFits}
+use Rattle.reader_entries.specs.Entries.{noKey}
+use Rattle.reader_entries.specs.Back.{KeyFits, AllFit}
 use Rattle.reader_section.specs.declared.Kind.the-variants.{Plain}
 use Rattle.reader_image.specs.declared.Fields.{Fields}
 use Rattle.reader_image.specs.declared.ImageRead.the-variants as read
 use Rattle.reader_image.specs.Container.{keysIn, readAt}
 use Rattle.reader_image.specs.Form.{formOf}
-use Rattle.reader_image.specs.Back.{plain-image-back}
-use Rattle.reader_image.specs.FormLaws.{form-back}
+use Rattle.writer_reply.specs.declared.Written.{Written}
 use Rattle.writer_reply.specs.declared.Written.the-variants as written
-use Rattle.writer_plain.specs.Plain.{plainReply}
-use Rattle.claims.specs.Reading.{elliptic-held}
-use Rattle.claims.specs.Form.{keyIn, scalarIn, Stands, fit-at, ecdsa-there, ecdsa-fits, ecdsa-may, stands-fit, stands-some}
+use Rattle.writer_reply.specs.Reply.{sized}
+use Rattle.writer_plain.specs.Plain.{keyChecked, keysChecked, keysReply}
+use Rattle.claims.specs.Reading.{held, elliptic-held, key-held, trimmedKey, blobs-trimmed, imageOf, Within, plain-admitted}
+use Rattle.claims.specs.Form.{keyIn, scalarIn, Stands, isMinimal, allMinimal, fit-at, ecdsa-there, ecdsa-fits, ecdsa-may, keys-minimal, keys-form, stands-fit, stands-some}
 
 -- ---- what is read
 
--- an image of an ECDSA key in which these bytes stand as the scalar's string
-abbrev pub storedImage : Curve → ℕ → List ℕ → List ℕ → List ℕ → List ℕ
-storedImage k n point stored comment =
-    plainImage n (alone (blob (OnCurve (Ecdsa k)) (ofPoint point))) (alone (entry (keypair (OnCurve (Ecdsa k)) 0 (ofPoint point) (ofScalar stored)) comment))
+-- an image of keys in which each scalar's string stands as it is handed in, zeros and all
+abbrev pub storedImage : ℕ → List Key → List ℕ
+storedImage n keys = plainImage n (map keyBlob keys) (map (standingEntry 0) keys)
 
--- it is read, the scalar without its leading zeros, and is in the form or not
-pub record ReadAs (stored s : List ℕ) (form : Bool) : Type 0 where
+-- that of an ECDSA key may be any that a scalar's may be; the private bytes of the other kinds fit
+abbrev pub StoredFits : Algorithm → PublicBytes → PrivateBytes → Type 0
+StoredFits (OnCurve Ed25519) key x = PrivateFits (OnCurve Ed25519) key x
+StoredFits (OnCurve (Ecdsa k)) key x = (isScalar (sizeOf k) (x .scalar) ≡ true) × (length (x .scalar) ≤ sizeOf k + 1) × (x ≡ ofScalar (x .scalar))
+StoredFits Rsa key x = PrivateFits Rsa key x
+
+abbrev pub AllStored : List Key → Type 0
+AllStored [] = Unit {0}
+AllStored (k ∷ keys) =
+    (PublicFits (k .algorithm) (k .public) × StoredFits (k .algorithm) (k .public) (k .private) × (utf8 (k .comment) ≡ true)) × AllStored keys
+
+-- whether every ECDSA key's string is RFC 4251's mpint
+abbrev pub storedMinimal : List Key → Bool
+storedMinimal [] = true
+storedMinimal (k ∷ keys) = isMinimal (k .algorithm) 0 (k .private) && storedMinimal keys
+
+-- such an image is read, each scalar without its leading zeros, and is in the form or not
+pub record ReadAs (s : List ℕ) (n : ℕ) (keys : List Key) (form : Bool) : Type 0 where
   pub fields : Fields
   pub read : readAt s ≡ read.Record fields
-  pub scalar : viewOf s (fields .section .private .scalar) ≡ significant stored
+  pub plain : fields .section .kind ≡ Plain
+  pub checkint : fields .section .checkint ≡ n
+  pub same-keys : keysIn s fields ≡ map trimmedKey keys
   pub form-is : formOf s fields ≡ form
 
-pair-stored :
-    (k : Curve) (key : PublicBytes) (stored : List ℕ)
-    → keypair (OnCurve (Ecdsa k)) 0 key (ofScalar stored) ≡ keypair (OnCurve (Ecdsa k)) (zerosBefore stored) key (ofScalar (significant stored))
-unfolding keypair
-pair-stored k key stored = rw (standing-again stored)
+-- the zeros before a scalar in its string
+abbrev stringZeros : Algorithm → PrivateBytes → ℕ
+stringZeros (OnCurve Ed25519) x = 0
+stringZeros (OnCurve (Ecdsa k)) x = zerosBefore (x .scalar)
+stringZeros Rsa x = 0
 
--- every string that may be a scalar's is read, and is in the form exactly if it is RFC 4251's mpint
-pub reads-stored :
-    (k : Curve) (n : ℕ) (point stored comment : List ℕ) → n < 2 ^ 32 → PublicFits (OnCurve (Ecdsa k)) (ofPoint point) → isScalar (sizeOf k) stored ≡ true
-    → length stored ≤ sizeOf k + 1 → utf8 comment ≡ true → length (storedImage k n point stored comment) ≤ 65535
-    → ReadAs stored (storedImage k n point stored comment) (isMpint stored)
-unfolding privateBytes
-reads-stored k n point stored comment fit public is long text small =
-    let a = OnCurve (Ecdsa k) in
-    let key = ofPoint point in
-    let x = ofScalar (significant stored) in
-    let zeros = zerosBefore stored in
-    let some = scalar-some (sizeOf k) stored is in
+abbrev pub keyStringZeros : Key → ℕ
+keyStringZeros k = stringZeros (k .algorithm) (k .private)
+
+pair-stored : (a : Algorithm) (key : PublicBytes) (x : PrivateBytes) → keypair a 0 key x ≡ keypair a (stringZeros a x) key (trimmed a x)
+unfolding keypair
+pair-stored (OnCurve Ed25519) key x = refl
+pair-stored (OnCurve (Ecdsa k)) key x = rw (standing-again (x .scalar))
+pair-stored Rsa key x = refl
+
+-- so its entry is that of the key as a record tells it, after so many zeros
+pub entry-stored : (k : Key) → standingEntry 0 k ≡ standingEntry (keyStringZeros k) (trimmedKey k)
+entry-stored k = ap (λ (pair : List ℕ). entry pair (k .comment)) (pair-stored (k .algorithm) (k .public) (k .private))
+
+entries-stored : (keys : List Key) → map (standingEntry 0) keys ≡ standingEntries (map keyStringZeros keys) (map trimmedKey keys)
+entries-stored [] = refl
+entries-stored (k ∷ keys) = ap₂ (λ (e : Entry) (l : List Entry). e ∷ l) (entry-stored k) (entries-stored keys)
+
+private-stored :
+    (a : Algorithm) (key : PublicBytes) (x : PrivateBytes) → StoredFits a key x → PrivateFits a key (trimmed a x) × MayStand a (stringZeros a x) (trimmed a x)
+private-stored (OnCurve Ed25519) key x fits = ((fits .0, refl), refl)
+private-stored (OnCurve (Ecdsa k)) key x fits =
+    let stored = x .scalar in
+    let some = scalar-some (sizeOf k) stored (fits .0) in
     let first = significant-first stored some in
     let left = significant-length stored in
-    let short : length (significant stored) ≤ sizeOf k = omega (arith, left, scalar-short (sizeOf k) stored is long) in
-    let may : zeros + length (significant stored) ≤ sizeOf k + 1 = omega (arith, left) in
-    let s = storedImage k n point stored comment in
-    let fits : KeyFits a zeros key x comment = record { public = public; private = ((short, first), refl); may = may; text = text } in
-    let stands : s ≡ plainImage n (alone (blob a key)) (alone (entry (keypair a zeros key x) comment)) = ap (λ (pair : List ℕ). plainImage n (alone (blob a key)) (alone (entry pair comment))) (pair-stored k key stored) in
-    let b = plain-image-back s n a zeros key x comment small fit fits stands in
+    let short : length (significant stored) ≤ sizeOf k = omega (arith, left, scalar-short (sizeOf k) stored (fits .0) (fits .1)) in
+    let may : zerosBefore stored + length (significant stored) ≤ sizeOf k + 1 = omega (arith, left, some, fits .1) in
+    (((short, first), refl), may)
+private-stored Rsa key x fits = (fits, refl)
+
+-- and fits
+pub key-stored :
+    (k : Key) → PublicFits (k .algorithm) (k .public) × StoredFits (k .algorithm) (k .public) (k .private) × (utf8 (k .comment) ≡ true)
+    → KeyFits (k .algorithm) (keyStringZeros k) (k .public) (trimmedKey k .private) (k .comment)
+key-stored k fits =
+    let p = private-stored (k .algorithm) (k .public) (k .private) (fits .1) in
+    record { public = fits .0; private = p .0; may = p .1; text = fits .2 }
+
+keys-stored : (keys : List Key) → AllStored keys → AllFit (map keyStringZeros keys) (map trimmedKey keys)
+keys-stored [] fits = tt
+keys-stored (k ∷ keys) fits = (key-stored k (fits .0), keys-stored keys (fits .1))
+
+-- as many zeros as the rule asks for stand exactly where the string is an mpint
+minimal-stored : (a : Algorithm) (x : PrivateBytes) → isMinimal a (stringZeros a x) (trimmed a x) ≡ isMinimal a 0 x
+minimal-stored (OnCurve Ed25519) x = refl
+minimal-stored (OnCurve (Ecdsa k)) x = ap isMpint (standing-again (x .scalar))
+minimal-stored Rsa x = refl
+
+all-minimal : (keys : List Key) → allMinimal (map keyStringZeros keys) (map trimmedKey keys) ≡ storedMinimal keys
+all-minimal [] = refl
+all-minimal (k ∷ keys) = ap₂ _&&_ (minimal-stored (k .algorithm) (k .private)) (all-minimal keys)
+
+-- every string that may be a scalar's is read, of any key of a file, and the file is in the form exactly if each is RFC 4251's mpint
+pub reads-stored :
+    (n : ℕ) (k : Key) (others : List Key) → n < 2 ^ 32 → AllStored (k ∷ others) → length others ≤ 15 → length (storedImage n (k ∷ others)) ≤ 65535
+    → ReadAs (storedImage n (k ∷ others)) n (k ∷ others) (storedMinimal (k ∷ others))
+reads-stored n k others fit fits few small =
+    let keys = k ∷ others in
+    let zs = map keyStringZeros keys in
+    let told = map trimmedKey keys in
+    let s = storedImage n keys in
+    let stands : s ≡ imageOf n zs told = ap₂ (plainImage n) (blobs-trimmed keys) (entries-stored keys) in
+    let many : length (map trimmedKey others) ≡ length others = length-map others trimmedKey in
+    let within : Within n zs told =
     record {
+      checkint-fits = fit;
+      keys-fit = keys-stored keys fits;
+      some = omega arith;
+      few = omega (arith, many);
+      limit = omega (arith, ap length stands);
+    } in
+    let b = plain-admitted n (keyStringZeros k) (map keyStringZeros others) (trimmedKey k) (map trimmedKey others) within in
+    rw stands
+    (record {
       fields = b .fields;
       read = b .read;
-      scalar = ap (λ (y : PrivateBytes). y .scalar) (b .same-private);
+      plain = b .plain;
+      checkint = b .same-checkint;
+      same-keys = b .same-keys;
       form-is =
-          form-back s n a zeros key x comment _ fits stands b ∙ sym (mpint-standing zeros (significant stored) first)
-          ∙ ap isMpint (standing-again stored);
-    }
+          keys-form (imageOf n zs told) (b .fields) n zs told (b .plain) (b .same-checkint) (b .same-keys) (keys-stored keys fits) refl
+          ∙ keys-minimal zs told (keys-stored keys fits) ∙ all-minimal keys;
+    })
 
 -- and no other: of every ECDSA key in an accepted plain image, of the one that i others stand before, the string in the image, zeros and scalar, is one that may
 -- be a scalar's; the scalar has 1 to SIZE bytes and no leading zero, and stands for the string's number
@@ -190,36 +265,109 @@ all-significant : (x : List ℕ) → AllBytes x → AllBytes (significant x)
 unfolding significant
 all-significant x all i = rw (getD-drop (zerosBefore x) x i 0) (all (zerosBefore x + i))
 
--- the string that stands for a scalar that was written is RFC 4251's mpint of the scalar's number, and there is no other
-pub record Minimal (k : Curve) (n : ℕ) (key : PublicBytes) (x : PrivateBytes) (comment : List ℕ) : Type 0 where
-  pub image :
-      writtenImage n (alone (keyOf (OnCurve (Ecdsa k)) key x comment))
-      ≡ plainImage n (alone (blob (OnCurve (Ecdsa k)) key)) (alone (entry (keypair (OnCurve (Ecdsa k)) 0 key (ofScalar (minimal (x .scalar)))) comment))
-  pub mpint : isMpint (minimal (x .scalar)) ≡ true
-  pub number : value (minimal (x .scalar)) ≡ value (x .scalar)
-  pub only : (b : List ℕ) → AllBytes b → isMpint b ≡ true → value b ≡ value (x .scalar) → b ≡ minimal (x .scalar)
+-- the key whose ECDSA scalar is the minimal mpint
+abbrev minimalPrivate : Algorithm → PrivateBytes → PrivateBytes
+minimalPrivate (OnCurve Ed25519) x = x
+minimalPrivate (OnCurve (Ecdsa k)) x = ofScalar (minimal (x .scalar))
+minimalPrivate Rsa x = x
+
+abbrev pub minimalKey : Key → Key
+minimalKey k = keyOf (k .algorithm) (k .public) (minimalPrivate (k .algorithm) (k .private)) (k .comment)
+
+pair-minimal : (a : Algorithm) (key : PublicBytes) (x : PrivateBytes) → writtenPair a key x ≡ keypair a 0 key (minimalPrivate a x)
+unfolding keypair
+pair-minimal (OnCurve Ed25519) key x = refl
+pair-minimal (OnCurve (Ecdsa k)) key x = refl
+pair-minimal Rsa key x = refl
+
+entries-minimal : (keys : List Key) → map writtenEntry keys ≡ map (standingEntry 0) (map minimalKey keys)
+entries-minimal [] = refl
+entries-minimal (k ∷ keys) =
+    ap₂ (λ (pair : List ℕ) (l : List Entry). entry pair (k .comment) ∷ l) (pair-minimal (k .algorithm) (k .public) (k .private)) (entries-minimal keys)
+
+blobs-minimal : (keys : List Key) → map keyBlob keys ≡ map keyBlob (map minimalKey keys)
+blobs-minimal [] = refl
+blobs-minimal (k ∷ keys) = ap (λ (l : List (List ℕ)). keyBlob k ∷ l) (blobs-minimal keys)
+
+-- it is RFC 4251's mpint of the scalar's number, and there is no other
+pub record MinimalOf (x : List ℕ) : Type 0 where
+  pub mpint : isMpint (minimal x) ≡ true
+  pub number : value (minimal x) ≡ value x
+  pub only : (b : List ℕ) → AllBytes b → isMpint b ≡ true → value b ≡ value x → b ≡ minimal x
+
+minimal-of : (x : List ℕ) → AllBytes x → zerosBefore x < length x → MinimalOf x
+minimal-of x all some =
+    let mpint = minimal-mpint x some in
+    let bytes = all-standing (zeroLength (leadingZero (significant x))) (significant x) (all-significant x all) in
+    record {
+      mpint = mpint;
+      number = minimal-value x;
+      only = λ b bytes-b m v. mpint-same b (minimal x) bytes-b bytes m mpint (v ∙ sym (minimal-value x));
+    }
+
+-- in what is written of keys, so stands the scalar of every ECDSA key
+pub record Minimal (n : ℕ) (keys : List Key) : Type 0 where
+  pub image : writtenImage n keys ≡ storedImage n (map minimalKey keys)
+  pub each : (i : ℕ) (k : Curve) → getD keys i noKey .algorithm ≡ OnCurve (Ecdsa k) → MinimalOf (getD keys i noKey .private .scalar)
+
+-- each key's scalar is bytes
+abbrev pub AllScalars : List Key → Type 0
+AllScalars [] = Unit {0}
+AllScalars (k ∷ keys) = AllBytes (k .private .scalar) × AllScalars keys
+
+key-minimal :
+    (a : Algorithm) (key : PublicBytes) (x : PrivateBytes) (next : Written) (size : ℕ) (k : Curve) → a ≡ OnCurve (Ecdsa k) → AllBytes (x .scalar)
+    → keyChecked a key x next ≡ written.Length size → MinimalOf (x .scalar)
+key-minimal a key x next size k q all e =
+    let w : keyChecked (OnCurve (Ecdsa k)) key x next ≡ written.Length size = rw q at e in
+    minimal-of (x .scalar) all (ltb-true (zerosBefore (x .scalar)) (length (x .scalar)) (elliptic-held (Ecdsa k) key x next size w .some))
+
+each-minimal :
+    (keys : List Key) (next : Written) (size : ℕ) → AllScalars keys → keysChecked keys next ≡ written.Length size → (i : ℕ) (k : Curve)
+    → getD keys i noKey .algorithm ≡ OnCurve (Ecdsa k) → MinimalOf (getD keys i noKey .private .scalar)
+unfolding keysChecked
+each-minimal [] next size all e i k q = clash (let o : OnCurve Ed25519 ≡ OnCurve (Ecdsa k) = q in cc)
+each-minimal (x ∷ keys) next size all e zero k q = key-minimal (x .algorithm) (x .public) (x .private) _ size k q (all .0) e
+each-minimal (x ∷ keys) next size all e (suc i) k q =
+    let h₁ = key-held (x .algorithm) (x .public) (x .private) _ size e in
+    let h₂ = held (utf8 (x .comment)) CharacterEncoding (keysChecked keys next) size (h₁ .1) in
+    each-minimal keys next size (all .1) (h₂ .1) i k q
 
 pub written-minimal :
-    (k : Curve) (n : ℕ) (key : PublicBytes) (x : PrivateBytes) (comment : List ℕ) (room size : ℕ) → AllBytes (x .scalar)
-    → plainReply (OnCurve (Ecdsa k)) key x n comment room ≡ written.Length size → Minimal k n key x comment
-unfolding plainReply writtenImage keypair
-written-minimal k n key x comment room size all e =
-    let scalar = x .scalar in
-    let some = ltb-true (zerosBefore scalar) (length scalar) (elliptic-held (Ecdsa k) key x _ size e .some) in
-    let mpint = minimal-mpint scalar some in
-    let bytes = all-standing (zeroLength (leadingZero (significant scalar))) (significant scalar) (all-significant scalar all) in
+    (keys : List Key) (n room size : ℕ) → AllScalars keys → keysReply keys n room ≡ written.Length size → Minimal n keys
+unfolding keysReply writtenImage
+written-minimal keys n room size all e =
+    let few = leb 1 (length keys) && leb (length keys) 16 in
+    let passed = held few Length (keysChecked keys (sized (writtenImage n keys) room)) size e in
     record {
-      image = refl;
-      mpint = mpint;
-      number = minimal-value scalar;
-      only = λ b bytes-b m v. mpint-same b (minimal scalar) bytes-b bytes m mpint (v ∙ sym (minimal-value scalar));
+      image = ap₂ (plainImage n) (blobs-minimal keys) (entries-minimal keys);
+      each = each-minimal keys (sized (writtenImage n keys) room) size all (passed .1);
     }
 
 -- ---- the old writer's files
 
--- it wrote all SIZE bytes, after a zero where the first is 0x80 or more
+-- it wrote all SIZE bytes of a scalar, after a zero where the first is 0x80 or more
 abbrev pub oldScalar : List ℕ → List ℕ
 oldScalar x = standing (zeroLength (leadingZero x)) x
+
+abbrev oldPrivate : Algorithm → PrivateBytes → PrivateBytes
+oldPrivate (OnCurve Ed25519) x = x
+oldPrivate (OnCurve (Ecdsa k)) x = ofScalar (oldScalar (x .scalar))
+oldPrivate Rsa x = x
+
+abbrev pub oldKey : Key → Key
+oldKey k = keyOf (k .algorithm) (k .public) (oldPrivate (k .algorithm) (k .private)) (k .comment)
+
+-- a key as it took it
+abbrev pub OldFits : Algorithm → PublicBytes → PrivateBytes → Type 0
+OldFits (OnCurve Ed25519) key x = PrivateFits (OnCurve Ed25519) key x
+OldFits (OnCurve (Ecdsa k)) key x = (length (x .scalar) ≡ sizeOf k) × (notZero (Ecdsa k) (x .scalar) ≡ true)
+OldFits Rsa key x = PrivateFits Rsa key x
+
+abbrev pub AllOld : List Key → Type 0
+AllOld [] = Unit {0}
+AllOld (k ∷ keys) =
+    (PublicFits (k .algorithm) (k .public) × OldFits (k .algorithm) (k .public) (k .private) × (utf8 (k .comment) ≡ true)) × AllOld keys
 
 old-scalar : (k : Curve) (x : List ℕ) → length x ≡ sizeOf k → notZero (Ecdsa k) x ≡ true → (isScalar (sizeOf k) (oldScalar x) ≡ true) × (length (oldScalar x) ≤ sizeOf k + 1)
 unfolding isScalar
@@ -230,11 +378,21 @@ old-scalar k x long some =
     rw w (scalar-stands (sizeOf k) 1 x first (omega arith) (omega arith), omega arith))
     (λ w. rw w (rw (some, le-leb (length x) (sizeOf k) (omega arith)), omega arith))
 
--- such a file is read, and is in the form exactly if what it has is an mpint
+old-fits : (a : Algorithm) (key : PublicBytes) (x : PrivateBytes) → OldFits a key x → StoredFits a key (oldPrivate a x)
+old-fits (OnCurve Ed25519) key x fits = fits
+old-fits (OnCurve (Ecdsa k)) key x fits = let is = old-scalar k (x .scalar) (fits .0) (fits .1) in (is .0, is .1, refl)
+old-fits Rsa key x fits = fits
+
+all-old : (keys : List Key) → AllOld keys → AllStored (map oldKey keys)
+all-old [] fits = tt
+all-old (k ∷ keys) fits =
+    ((fits .0 .0, old-fits (k .algorithm) (k .public) (k .private) (fits .0 .1), fits .0 .2), all-old keys (fits .1))
+
+-- keys that stand as it wrote them are read, in files of one, which it wrote, and of several; such a file is in the form exactly if what it has
+-- is mpints
 pub old-read :
-    (k : Curve) (n : ℕ) (point x comment : List ℕ) → n < 2 ^ 32 → PublicFits (OnCurve (Ecdsa k)) (ofPoint point) → length x ≡ sizeOf k
-    → notZero (Ecdsa k) x ≡ true → utf8 comment ≡ true → length (storedImage k n point (oldScalar x) comment) ≤ 65535
-    → ReadAs (oldScalar x) (storedImage k n point (oldScalar x) comment) (isMpint (oldScalar x))
-old-read k n point x comment fit public long some text small =
-    let is = old-scalar k x long some in
-    reads-stored k n point (oldScalar x) comment fit public (is .0) (is .1) text small
+    (n : ℕ) (k : Key) (others : List Key) → n < 2 ^ 32 → AllOld (k ∷ others) → length others ≤ 15
+    → length (storedImage n (map oldKey (k ∷ others))) ≤ 65535
+    → ReadAs (storedImage n (map oldKey (k ∷ others))) n (map oldKey (k ∷ others)) (storedMinimal (map oldKey (k ∷ others)))
+old-read n k others fit fits few small =
+    reads-stored n (oldKey k) (map oldKey others) fit (all-old (k ∷ others) fits) (omega (arith, length-map others oldKey)) small

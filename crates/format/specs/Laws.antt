@@ -1,5 +1,5 @@
 -- Fields regrouped, the lengths of what the format writes, and that an image says in which form its scalars stand (`standing-same`).
-use Prim.Native.Nat.{ℕ, _+_, _<_, _^_}
+use Prim.Native.Nat.{ℕ, _+_, _<_}
 use native.Mathlib.Omega.{arith}
 use mathlib.Core.Path.{_≡_, refl, sym, _∙_, ap, ap₂}
 use mathlib.Core.List.{List, [], _∷_, _++_, append-assoc, append-nil}
@@ -18,7 +18,7 @@ use Rattle.names.specs.declared.Algorithm.the-variants.{Elliptic as OnCurve, Rs
 use Rattle.names.specs.declared.Curve.the-variants.{Nistp256, Nistp384, Nistp521}
 use Rattle.names.specs.Algorithms.{algorithmName, size-small}
 use Rattle.names.specs.Ciphers.{cipherName, kdfName}
-use Rattle.format.specs.Format.{PublicBytes, PrivateBytes, Key, Entry, entry, alone, magic, options, header, curveField, publicFields, blob, standing, pairFields, keypair, MayStand, blobFields, entryFields, standingEntry, standingEntries, content, section, plainImage, paddingLength, paddingBytes, publicLength, privateLength, LengthAllowed}
+use Rattle.format.specs.Format.{PublicBytes, PrivateBytes, Key, Entry, magic, options, header, curveField, publicFields, blob, standing, pairFields, keypair, MayStand, blobFields, entryFields, standingEntry, standingEntries, content, section, plainImage, paddingLength, paddingBytes, publicLength, privateLength, LengthAllowed}
 use Rattle.format.specs.Scalars.{standing-length}
 
 -- a public key or a keypair and what comes after it, field by field
@@ -57,14 +57,6 @@ entry-then e more t = simp append-assoc
 pub blob-field-then :
     (key : List ℕ) (more : List (List ℕ)) (t : List ℕ) → join (blobFields (key ∷ more)) ++ t ≡ string key ++ (join (blobFields more) ++ t)
 blob-field-then key more t = append-assoc (string key) (join (blobFields more)) t
-
--- of one key
-pub alone-then :
-    (n : ℕ) (pair comment t : List ℕ)
-    → content n (alone (entry pair comment)) ++ t ≡ uint32 n ++ (uint32 n ++ (pair ++ (string comment ++ t)))
-alone-then n pair comment t =
-    content-then n (alone (entry pair comment)) t
-    ∙ ap (λ (l : List ℕ). uint32 n ++ (uint32 n ++ l)) (entry-then (entry pair comment) [] t)
 
 -- a padding's length, and that of what it fills up
 pub padding-length : (n : ℕ) → length (take (paddingLength n) paddingBytes) ≡ paddingLength n

@@ -1,14 +1,14 @@
 -- Scalars of any size: zeros in front are dropped, filled in and asked for by one rule, and what the writer makes of a scalar is RFC 4251's
 -- mpint of its number.
-use Prim.Native.Nat.{ℕ, zero, suc, _+_, _-_, _*_, _≤_, _<_, _^_}
+use Prim.Native.Nat.{ℕ, zero, suc, _+_, _-_, _≤_, _<_}
 use native.Mathlib.Omega.{arith}
 use mathlib.Core.Path.{_≡_, refl, sym, _∙_, ap, ap₂}
-use mathlib.Core.Bool.{Bool, true, false, cond}
-use mathlib.Core.List.{List, [], _∷_, _++_, map}
+use mathlib.Core.Bool.{Bool, true, false}
+use mathlib.Core.List.{List, [], _∷_, map}
 use borrow.Author.Tests.{ltb-true, ltb-false, leb-true, leb-false, eq-eqb, ne-eqb, lt-ltb, le-ltb}
 use lib.Dec.{eqb, ltb, leb}
 use lib.ListN.{length, drop, getD, replicate, length-append, length-drop, length-replicate}
-use lib.Seq.{getD-drop, drop-at}
+use lib.Seq.{getD-drop}
 use Rattle.fields.specs.Place.{by-bool}
 use Rattle.names.specs.declared.Elliptic.{Elliptic}
 use Rattle.names.specs.declared.Elliptic.the-variants.{Ed25519, Ecdsa}
@@ -18,7 +18,7 @@ use Rattle.names.specs.Algorithms.{sizeOf}
 use Rattle.mpint.specs.Mpint.{value, isMpint, zerosBefore, significant}
 use Rattle.mpint.specs.Values.{value-cons}
 use Rattle.mpint.specs.Zeros.{mpint-bytes, zeros-le, zeros-found}
-use Rattle.format.specs.Format.{PublicBytes, PrivateBytes, Key, filledKey, Entry, entry, ofScalar, privateLength, standing, scalarBytes, filledTo, scalarFilled, trimmed, filled, notZero, leadingZero, zeroLength, zerosAsked, minimal, MayStand, LengthAllowed, ScalarFits, PrivateFits, keypair, keyOf, keyBlob, standingEntry, standingEntries, writtenEntry, plainImage, writtenImage}
+use Rattle.format.specs.Format.{PublicBytes, PrivateBytes, Key, filledKey, Entry, entry, ofScalar, privateLength, standing, scalarBytes, filledTo, scalarFilled, trimmed, filled, notZero, leadingZero, zeroLength, zerosAsked, minimal, MayStand, LengthAllowed, ScalarFits, PrivateFits, keypair, keyBlob, standingEntry, standingEntries, writtenEntry, plainImage, writtenImage}
 
 -- ---- zeros in front
 

@@ -1,12 +1,10 @@
 -- docs/RULES.md, 13.2 and 13.3: the program's examples, and the limit for every input.
 use Prim.Native.Nat.{ℕ, _<_}
-use Prim.Native.String.{String}
 use mathlib.Core.Path.{_≡_, refl}
 use mathlib.Core.Bool.{true}
-use mathlib.Core.List.{List, [], _∷_, _++_}
+use mathlib.Core.List.{List, [], _∷_}
 use borrow.Author.Tests.{lt-ltb}
 use lib.ListN.{length}
-use Rattle.fields.specs.Bytes.{ascii}
 use Rattle.fields.specs.Fields.{hasRoom, bytesAt}
 use Rattle.names.specs.declared.Algorithm.the-variants.{Elliptic as OnCurve, Rsa}
 use Rattle.names.specs.declared.Elliptic.the-variants.{Ed25519, Ecdsa}
@@ -16,12 +14,8 @@ use Rattle.names.specs.declared.Kdf.the-variants as kdf
 use Rattle.reader_header.specs.Header.{magicAt, cipherAt, headerAt}
 use Rattle.reader_image.specs.Container.{readAt}
 use Rattle.buffer.specs.Decimal.{digitsOf, digits, decimal}
-use Rattle.inspect_report.specs.Report.{Plain, Encrypted, Refused, lineFeed, line, bitsLine, names, lines, summaryOf, reportOf}
-
--- lines as they are printed
-abbrev pub printed : List String → List ℕ
-printed [] = []
-printed (text ∷ more) = ascii text ++ lineFeed ++ printed more
+use Rattle.report_parts.specs.Parts.{printed, refusedLine}
+use Rattle.inspect_report.specs.Report.{Plain, Encrypted, Refused, line, bitsLine, names, lines, summaryOf, reportOf}
 
 -- an Ed25519 image with comment `oven7`, 234 bytes
 pub oven7 :
@@ -65,15 +59,15 @@ sealed = refl
 
 -- two bytes left over, the first of them byte 241
 pub left-over : lines (Refused 6 2 241) ≡ printed ("refused 6 2 241" ∷ [])
-unfolding lines decimal digits digitsOf
+unfolding lines refusedLine decimal digits digitsOf
 left-over = refl
 
 -- empty input
 pub nothing : reportOf [] ≡ printed ("refused 1 0 0" ∷ [])
-unfolding reportOf summaryOf readAt headerAt cipherAt magicAt bytesAt hasRoom lines decimal digits digitsOf
+unfolding reportOf summaryOf readAt headerAt cipherAt magicAt bytesAt hasRoom lines refusedLine decimal digits digitsOf
 nothing = refl
 
 -- input above the limit
 pub above : (s : List ℕ) → 65535 < length s → reportOf s ≡ printed ("refused 11 0 0" ∷ [])
-unfolding reportOf summaryOf readAt headerAt cipherAt lines decimal digits digitsOf
+unfolding reportOf summaryOf readAt headerAt cipherAt lines refusedLine decimal digits digitsOf
 above s h = rw (lt-ltb 65535 (length s) h)

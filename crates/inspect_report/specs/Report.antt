@@ -8,7 +8,6 @@ use lib.ListN.{length}
 use Rattle.fields.specs.Bytes.{ascii, join}
 use Rattle.fields.specs.Refusals.{numberOf, countOf}
 use Rattle.fields.specs.declared.Fault.{Fault}
-use Rattle.fields.specs.declared.Refusal.the-variants.{Room}
 use Rattle.names.specs.declared.Algorithm.{Algorithm}
 use Rattle.names.specs.declared.Algorithm.the-variants.{Elliptic as OnCurve, Rsa}
 use Rattle.names.specs.declared.Cipher.{Cipher}
@@ -20,11 +19,10 @@ use Rattle.reader_section.specs.declared.Section.{Section}
 use Rattle.reader_image.specs.Container.{onRead, readAt}
 use Rattle.reader_image.specs.Form.{onKind, formOf}
 use Rattle.buffer.specs.Decimal.{decimal}
-use Rattle.buffer.specs.Puts.{fits, placed}
-use Rattle.buffer.specs.Runs.{isRun}
-use Rattle.writer_reply.specs.Reply.{unless, answers}
+use Rattle.buffer.specs.Puts.{placed}
+use Rattle.report_parts.specs.Parts.{lineFeed, refusedLine, textReply, isShort}
+use Rattle.writer_reply.specs.Reply.{answers}
 use Rattle.writer_reply.specs.declared.Written.{Written}
-use Rattle.writer_reply.specs.declared.Written.the-variants as written
 
 -- Comment, padding, ciphertext, tag and image are lengths in bytes; bits are RSA's modulus's. `form` says whether the image is in the writer's form.
 pub data Summary : Type 0 where
@@ -45,9 +43,6 @@ refusedAs f = Refused (numberOf (f .why)) (countOf (f .why)) (f .at)
 
 unfoldable pub summaryOf : List ℕ → Summary
 summaryOf s = onRead (readAt s) refusedAs (λ f. accepted (f .header) (f .section) (length s) (formOf s f))
-
-abbrev pub lineFeed : List ℕ
-lineFeed = 10 ∷ []
 
 -- a label, a value, a line feed
 unfoldable pub line : List ℕ → List ℕ → List ℕ
@@ -89,14 +84,14 @@ lines (Encrypted algorithm bits cipher kdf ciphertext tag image) =
     ∷ line (ascii "tag ") (decimal tag)
     ∷ line (ascii "image ") (decimal image)
     ∷ []))
-lines (Refused number count at) = join (ascii "refused " ∷ decimal number ∷ ascii " " ∷ decimal count ∷ ascii " " ∷ decimal at ∷ lineFeed ∷ [])
+lines (Refused number count at) = refusedLine number count at
 
 unfoldable pub reportOf : List ℕ → List ℕ
 reportOf s = lines (summaryOf s)
 
 -- what writing it to the start of a buffer replies: its length, or 9 where the buffer is shorter
 unfoldable pub reportReply : List ℕ → List ℕ → Written
-reportReply s old = unless (fits old 0 (reportOf s)) Room (written.Length (length (reportOf s)))
+reportReply s old = textReply (reportOf s) old
 
 -- the promise of a report: that reply, and the lines at the start of the buffer where they fit; 256 bytes are always enough
 abbrev pub isReport : List ℕ → List ℕ → Written → List ℕ → Type 0
@@ -106,4 +101,4 @@ isReport s old r out = answers (reportReply s old) (placed old 0 (reportOf s)) r
 
 -- what putting a summary's lines at the start of a text answers, r, and leaves, out, where there is room. 256 bytes are enough.
 abbrev pub isText : List ℕ → Summary → ℕ → List ℕ → Type 0
-isText old x r out = (length (lines x) ≤ 256) × isRun old 0 (lines x) r out
+isText old x r out = isShort 256 old 0 (lines x) r out

@@ -8,27 +8,18 @@ use lib.ListN.{length, length-append}
 use Rattle.fields.specs.Bytes.{join}
 use Rattle.names.specs.declared.Algorithm.{Algorithm}
 use Rattle.names.specs.declared.Algorithm.the-variants.{Elliptic as OnCurve, Rsa}
-use Rattle.names.specs.declared.Elliptic.the-variants.{Ed25519, Ecdsa}
 use Rattle.names.specs.declared.Cipher.{Cipher}
-use Rattle.names.specs.declared.Curve.the-variants.{Nistp256, Nistp384, Nistp521}
 use Rattle.names.specs.declared.Kdf.{Kdf}
-use Rattle.names.specs.Algorithms.{algorithmName}
 use Rattle.names.specs.Ciphers.{row}
 use Rattle.buffer.specs.Decimal.{decimal-short}
 use Rattle.buffer.specs.Runs.{join-append}
 use Rattle.names_spelling.specs.Spelling.{kdf-length}
+use Rattle.report_parts.specs.Parts.{refused-short, algorithm-short}
 use Rattle.inspect_report.specs.Report.{Summary, Plain, Encrypted, Refused, line, bitsLine, names, formName, lines}
 
 line-length : (label value : List ℕ) → length (line label value) ≡ length label + length value + 1
 unfolding line
 line-length label value = simp length-append (omega arith)
-
-algorithm-short : (a : Algorithm) → length (algorithmName a) ≤ 19
-algorithm-short (OnCurve Ed25519) = omega arith
-algorithm-short (OnCurve (Ecdsa Nistp256)) = omega arith
-algorithm-short (OnCurve (Ecdsa Nistp384)) = omega arith
-algorithm-short (OnCurve (Ecdsa Nistp521)) = omega arith
-algorithm-short Rsa = omega arith
 
 bits-short : (a : Algorithm) (bits : ℕ) → bits < 2 ^ 64 → length (bitsLine a bits) ≤ 26
 unfolding bitsLine
@@ -57,4 +48,4 @@ lines-short (Plain a bits c k comment padding image form) h =
 lines-short (Encrypted a bits c k ciphertext tag image) h =
     simp (length-append, line-length, join-append)
     (omega (arith, names-short a bits c k (h .0), decimal-short ciphertext (h .1), decimal-short tag (h .2), decimal-short image (h .3)))
-lines-short (Refused number count at) h = simp length-append (omega (arith, decimal-short number (h .0), decimal-short count (h .1), decimal-short at (h .2)))
+lines-short (Refused number count at) h = omega (arith, refused-short number count at (h .0) (h .1) (h .2))

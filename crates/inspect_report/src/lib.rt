@@ -2,14 +2,12 @@
 // at which byte. What writes them is handed those, and no byte of the image.
 ghost use Rattle.fields.specs.Bytes.{ascii, join};
 ghost use Rattle.fields.specs.Fields.{viewOf};
-ghost use Rattle.fields.specs.Refusals.{numberOf, countOf};
 ghost use Rattle.buffer.specs.Decimal.{decimal};
 ghost use Rattle.buffer.specs.Puts.{isPut};
 ghost use Rattle.buffer.specs.Runs.{isRun};
 ghost use Rattle.names_spelling.specs.Spelling.{nameTable};
-ghost use Rattle.inspect_report.specs.Report.{Plain, Encrypted, Refused, accepted, summaryOf, line, bitsLine, names, formName, isText, isReport};
+ghost use Rattle.inspect_report.specs.Report.{Plain, Encrypted, accepted, summaryOf, line, bitsLine, names, formName, isText, isReport};
 use fields::Part;
-use fields::Refusal;
 use names::Algorithm;
 use names::Cipher;
 use names::Kdf;
@@ -119,21 +117,6 @@ fn put_encrypted(
     put_number(out, d, b"image ", image)
 }
 
-// The line of a refused image, at the start of a text: number, count, and the byte at which the failing field
-// began.
-fn put_refused(out: &mut [u8], why: Refusal, at: usize) -> usize
-    ensures { λ r. ⌜ isText (now (out .entry)) (Refused (numberOf why) (countOf why) at) r (now (out .exit)) ⌝ }
-{
-    let number = why.number();
-    let a = buffer::put(out, 0, b"refused ");
-    let b = buffer::put_decimal(out, a, number as usize);
-    let c = buffer::put(out, b, b" ");
-    let d = buffer::put_decimal(out, c, why.count());
-    let e = buffer::put(out, d, b" ");
-    let f = buffer::put_decimal(out, e, at);
-    buffer::put(out, f, b"\n")
-}
-
 fn put_accepted(out: &mut [u8], header: Header, section: Section, image: usize, form: bool) -> usize
     ensures { λ r. ⌜ isText (now (out .entry)) (accepted header section image form) r (now (out .exit)) ⌝ }
 {
@@ -181,7 +164,7 @@ fn put_report(out: &mut [u8], image: &[u8]) -> usize
     match reader_image::read_with_form(image) {
         FormRead::Refused(f) => {
             let why = f.why;
-            put_refused(out, why, f.at)
+            report_parts::put_refused(out, 0, why, f.at)
         }
         FormRead::Record(f, form) => put_accepted(out, f.header, f.section, image.len(), form),
     }
@@ -194,8 +177,5 @@ pub fn write_report(image: &[u8], out: &mut [u8]) -> Written
 {
     let mut text = [0u8; 256];
     let n = put_report(&mut text, image);
-    if out.len() < n {
-        return writer_reply::refused(Refusal::Room);
-    }
-    Written::Length(buffer::put(out, 0, &text[..n]))
+    report_parts::hand_text(&text[..n], out)
 }

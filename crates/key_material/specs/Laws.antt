@@ -12,7 +12,7 @@ use Rattle.fields.specs.Room.{view-in, view-out}
 use Rattle.buffer.specs.Puts.{splice, fits, placed, zeros, zeros-length, placed-fits, no-put, splice-length, take-splice}
 use Rattle.names.specs.declared.Elliptic.{Elliptic}
 use Rattle.names.specs.declared.Elliptic.the-variants.{Ed25519, Ecdsa}
-use Rattle.names.specs.Algorithms.{sizeOf, size-small}
+use Rattle.names.specs.Algorithms.{size-small}
 use Rattle.format.specs.Format.{standing, scalarFilled}
 use Rattle.format.specs.Scalars.{standing-length}
 use Rattle.key_material.specs.Material.{publicOf, privateOf, mixed, derivedCheckint, padded, zerosMissing, materialOf}

@@ -29,7 +29,7 @@ use Rattle.reader_section.specs.declared.SectionRead.{SectionRead}
 use Rattle.reader_section.specs.declared.SectionRead.the-variants as section-read
 use Rattle.reader_section.specs.Section.{checkintsAt, paddingAt, closedAt, contentAt, endedAt, plainAt, encryptedAt}
 use Rattle.reader_section.specs.Read.{by-section}
-use Rattle.laws_fields.specs.Fields.{Lies, After, Uint32Lies, EndingLies, lies-after, after-after, good-after, uint32-lies, bytes-lies, string-lies, string-in, lies-within, end-lies}
+use Rattle.laws_fields.specs.Fields.{Lies, After, Uint32Lies, EndingLies, lies-after, after-after, good-after, uint32-lies, bytes-lies, string-lies, string-in, end-lies}
 use Rattle.laws_fields.specs.Pairs.{keypair-lies}
 use Rattle.laws_places.specs.Header.{blob-field-lies}
 

@@ -13,7 +13,6 @@ use Rattle.names.specs.declared.Curve.{Curve}
 use Rattle.names.specs.declared.Curve.the-variants.{Nistp256, Nistp384, Nistp521}
 use Rattle.names.specs.declared.CurveName.{CurveName}
 use Rattle.names.specs.declared.CurveName.the-variants as curve-name
-use Rattle.names.specs.declared.Elliptic.{Elliptic}
 use Rattle.names.specs.declared.Elliptic.the-variants.{Ed25519, Ecdsa}
 use Rattle.names.specs.declared.Algorithm.{Algorithm}
 use Rattle.names.specs.declared.Algorithm.the-variants.{Elliptic as OnCurve, Rsa}

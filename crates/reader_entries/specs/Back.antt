@@ -30,7 +30,7 @@ use Rattle.reader_blobs.specs.Blobs.{blobFieldAt}
 use Rattle.reader_blobs.specs.Back.{blob-field-back}
 use Rattle.reader_entries.specs.declared.Entry.{Entry}
 use Rattle.reader_entries.specs.declared.Entry.the-variants as entry
-use Rattle.reader_entries.specs.Entries.{Listed, Are, Not, Next-key, Keys, Keys-are, Keys-not, sameKey, entryAt, nextAt, moreAt, keysAt, keyRead}
+use Rattle.reader_entries.specs.Entries.{Listed, Are, Next-key, Keys, Keys-are, sameKey, entryAt, nextAt, moreAt, keysAt, keyRead}
 
 -- a key that fits the format, a scalar in a form that it may have, and a comment that is UTF-8
 pub record KeyFits (a : Algorithm) (zeros : ℕ) (key : PublicBytes) (x : PrivateBytes) (comment : List ℕ) : Type 0 where

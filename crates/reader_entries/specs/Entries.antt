@@ -1,8 +1,7 @@
 -- docs/RULES.md, 5.3 to 5.5, and of the places 7.3: what reading the keys of a plain section finds, in order. RSA keys are compared by n and e.
 use Prim.Native.Nat.{ℕ, zero, suc}
-use mathlib.Core.Path.{_≡_, refl}
 use mathlib.Core.List.{List, [], _∷_}
-use mathlib.Core.Bool.{Bool, true, false, cond, _&&_}
+use mathlib.Core.Bool.{Bool, cond, _&&_}
 use lib.ListN.{length}
 use Rattle.fields.specs.Bytes.{sameBytes}
 use Rattle.fields.specs.Fields.{fault, onField, stringAt, viewOf}
@@ -20,12 +19,13 @@ use Rattle.utf8.specs.Utf8.{utf8}
 use Rattle.format.specs.Format.{Key, keyOf, ofPoint, ofScalar}
 use Rattle.key_public.specs.declared.Public.{Public}
 use Rattle.key_public.specs.Keys.{publicBytes}
-use Rattle.key_pairs.specs.declared.Keypair.the-variants as keypair
 use Rattle.key_pairs.specs.declared.Private.{Private}
 use Rattle.key_pairs.specs.Pairs.{onKeypair, privateBytes, keypairAt}
 use Rattle.places.specs.declared.Places.{Places}
 use Rattle.places.specs.Places.{placesOf}
 use Rattle.reader_blobs.specs.Blobs.{onBlobField, blobFieldAt}
+use Rattle.reader_entries.specs.declared.Paired.{Paired}
+use Rattle.reader_entries.specs.declared.Paired.the-variants as paired
 use Rattle.reader_entries.specs.declared.Entry.{Entry}
 use Rattle.reader_entries.specs.declared.Entry.the-variants as entry
 use Rattle.reader_entries.specs.declared.KeyFields.{KeyFields}
@@ -128,30 +128,18 @@ keyPlaced s b at =
 
 -- ---- as the code reads a key
 
+-- a keypair; public key unlike the blob's: 5, at the keypair's name
+abbrev pub onPaired : {R : Type 0} → Paired → (Fault → R) → (Private → Cursor → R) → R
+onPaired (paired.Refused f) refused key = refused f
+onPaired (paired.Key private d) refused key = key private d
+
+unfoldable pub pairAt : List ℕ → Cursor → Algorithm → Public → Paired
+pairAt s c algorithm public =
+    onKeypair (keypairAt s c) paired.Refused (λ a p private d.
+    cond (sameKey s a p algorithm public) (paired.Key private d) (paired.Refused (fault PublicKey (c .at))))
+
 -- a comment string; not UTF-8: 7
 unfoldable pub commentAt : List ℕ → Cursor → Field
 commentAt s c =
     onField (stringAt s c) field.Refused (λ comment d.
     cond (utf8 (viewOf s comment)) (field.Part comment d) (field.Refused (fault CharacterEncoding (c .at))))
-
-pub entry-comment :
-    (s : List ℕ) (c : Cursor) (algorithm : Algorithm) (public : Public) (a : Algorithm) (p : Public) (private : Private) (d : Cursor)
-    → keypairAt s c ≡ keypair.Pair a p private d → sameKey s a p algorithm public ≡ true
-    → entryAt s c algorithm public ≡ onField (commentAt s d) entry.Refused (entry.Key private)
-unfolding entryAt commentAt
-entry-comment s c algorithm public a p private d k e = rw (k, e) (by (stringAt s d))
-  where
-    by :
-        (r : Field)
-        → onField r entry.Refused (λ comment e. cond (utf8 (viewOf s comment)) (entry.Key private comment e) (entry.Refused (fault CharacterEncoding (d .at))))
-        ≡ onField (onField r field.Refused (λ comment e. cond (utf8 (viewOf s comment)) (field.Part comment e) (field.Refused (fault CharacterEncoding (d .at))))) entry.Refused
-        (entry.Key private)
-    by (field.Refused f) = refl
-    by (field.Part comment e) = told (utf8 (viewOf s comment))
-      where
-        told :
-            (b : Bool)
-            → cond b (entry.Key private comment e) (entry.Refused (fault CharacterEncoding (d .at)))
-            ≡ onField (cond b (field.Part comment e) (field.Refused (fault CharacterEncoding (d .at)))) entry.Refused (entry.Key private)
-        told true = refl
-        told false = refl

@@ -1,3 +1,4 @@
 pub mod Entries
 pub mod Back
 pub mod Read
+pub mod Paired

@@ -2,11 +2,11 @@
 // key after the other.
 ghost use mathlib.Core.Path.{_≡_};
 ghost use Rattle.fields.specs.Bytes.{sameBytes};
-ghost use Rattle.fields.specs.Fields.{fault, onField, viewOf};
+ghost use Rattle.fields.specs.Fields.{fault, viewOf};
 ghost use Rattle.fields.specs.declared.Refusal.the-variants.{PublicKey};
 ghost use Rattle.names.specs.declared.Algorithm.the-variants.{Rsa};
-ghost use Rattle.reader_entries.specs.declared.Entry.the-variants as entry;
-ghost use Rattle.reader_entries.specs.Entries.{sameKey, entryAt, commentAt, keyPlaced};
+ghost use Rattle.reader_entries.specs.declared.Paired.the-variants as paired;
+ghost use Rattle.reader_entries.specs.Entries.{sameKey, pairAt, entryAt, commentAt, keyPlaced};
 use fields::Cursor;
 use fields::Fault;
 use fields::Field;
@@ -67,7 +67,7 @@ fn same_numbers(image: &[u8], p: Public, b: Algorithm, q: Public) -> bool
 }
 
 // A comment's string, which must be UTF-8.
-fn read_comment(c: Cursor, image: &[u8]) -> Field
+pub fn read_comment(c: Cursor, image: &[u8]) -> Field
     ensures { λ r. ⌜ r ≡ commentAt (now (image .entry)) c ⌝ }
 {
     let at = c.at;
@@ -85,50 +85,60 @@ fn read_comment(c: Cursor, image: &[u8]) -> Field
     }
 }
 
-pub enum Entry {
-    Key(Private, Part, Cursor),
+// A private key, and the place after its keypair.
+pub enum Paired {
+    Key(Private, Cursor),
     Refused(Fault),
 }
 
-fn unlike(at: usize) -> Entry
-    ensures { λ r. ⌜ r ≡ entry.Refused (fault PublicKey at) ⌝ }
+fn unlike(at: usize) -> Paired
+    ensures { λ r. ⌜ r ≡ paired.Refused (fault PublicKey at) ⌝ }
 {
-    Entry::Refused(Fault {
+    Paired::Refused(Fault {
         why: Refusal::PublicKey,
         at: at,
     })
 }
 
-fn with_comment(private: Private, comment: Field) -> Entry
-    ensures { λ r. ⌜ r ≡ onField comment entry.Refused (entry.Key private) ⌝ }
-{
-    match comment {
-        Field::Refused(f) => Entry::Refused(f),
-        Field::Part(p, d) => Entry::Key(private, p, d),
-    }
-}
-
-// One key of a section, its keypair and comment, held to the public key of its blob. RSA and the curves go apart: the compiler then
-// knows what a kind lacks, and neither compares nor copies it.
-pub fn read_entry(c: Cursor, image: &[u8], algorithm: Algorithm, public: Public) -> Entry
-    ensures { λ r. ⌜ r ≡ entryAt (now (image .entry)) c algorithm public ⌝ }
+// A keypair, held to the public key of its blob. RSA and the curves go apart: the compiler then knows what a kind lacks, and
+// neither compares nor copies it.
+pub fn read_pair(c: Cursor, image: &[u8], algorithm: Algorithm, public: Public) -> Paired
+    ensures { λ r. ⌜ r ≡ pairAt (now (image .entry)) c algorithm public ⌝ }
 {
     let at = c.at;
     match key_pairs::read_keypair(c, image) {
-        Keypair::Refused(f) => return Entry::Refused(f),
+        Keypair::Refused(f) => return Paired::Refused(f),
         Keypair::Pair(a, p, private, d) => match a {
             Algorithm::Rsa => {
                 if same_numbers(image, p, algorithm, public) {
-                    return with_comment(private, read_comment(d, image));
+                    return Paired::Key(private, d);
                 }
                 return unlike(at);
             }
             Algorithm::Elliptic(_) => {
                 if same_key(image, a, p, algorithm, public) {
-                    return with_comment(private, read_comment(d, image));
+                    return Paired::Key(private, d);
                 }
                 return unlike(at);
             }
+        },
+    }
+}
+
+pub enum Entry {
+    Key(Private, Part, Cursor),
+    Refused(Fault),
+}
+
+// One key of a section: its keypair, held to the public key of its blob, and its comment.
+pub fn read_entry(c: Cursor, image: &[u8], algorithm: Algorithm, public: Public) -> Entry
+    ensures { λ r. ⌜ r ≡ entryAt (now (image .entry)) c algorithm public ⌝ }
+{
+    match read_pair(c, image, algorithm, public) {
+        Paired::Refused(f) => Entry::Refused(f),
+        Paired::Key(private, d) => match read_comment(d, image) {
+            Field::Refused(f) => Entry::Refused(f),
+            Field::Part(comment, e) => Entry::Key(private, comment, e),
         },
     }
 }

@@ -9,7 +9,6 @@ use lib.ListN.{length, length-append}
 use lib.Seq.{slice}
 use Rattle.fields.specs.Bytes.{uint32, string, join, same-self}
 use Rattle.fields.specs.Fields.{absent, whole, within, bytesAt, viewOf}
-use Rattle.fields.specs.Place.{string-place}
 use Rattle.fields.specs.Rest.{rest, Good, rest-whole, rest-within, view-absent, length-string}
 use Rattle.fields.specs.Back.{FieldBack, also, Uint32Back, short-of, bytes-back, string-back, uint32-back, end-back}
 use Rattle.fields.specs.declared.Cursor.{Cursor}

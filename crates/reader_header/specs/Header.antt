@@ -17,7 +17,6 @@ use Rattle.fields.specs.declared.Field.the-variants as field
 use Rattle.fields.specs.declared.Uint32.{Uint32}
 use Rattle.fields.specs.declared.Uint32.the-variants as uint32
 use Rattle.fields.specs.declared.Refusal.the-variants.{Length, FormatEncoding, Crypto, AlgorithmUnknown, Size}
-use Rattle.names.specs.declared.Algorithm.{Algorithm}
 use Rattle.names.specs.declared.Algorithm.the-variants.{Elliptic as OnCurve}
 use Rattle.names.specs.declared.Elliptic.the-variants.{Ed25519}
 use Rattle.names.specs.declared.Cipher.{Cipher}
@@ -30,7 +29,6 @@ use Rattle.names.specs.declared.KdfName.{KdfName}
 use Rattle.names.specs.declared.KdfName.the-variants as kdf-name
 use Rattle.names.specs.Ciphers.{cipherNamed, kdfNamed, isNone}
 use Rattle.format.specs.Format.{magic}
-use Rattle.key_public.specs.declared.Public.{Public}
 use Rattle.key_public.specs.Keys.{pointPlace}
 use Rattle.reader_blobs.specs.declared.BlobField.{BlobField}
 use Rattle.reader_blobs.specs.declared.BlobField.the-variants as blob-field

@@ -1,5 +1,6 @@
 // The container's header: magic, cipher, KDF with its options, key count, public blobs.
 ghost use mathlib.Core.Path.{_≡_};
+ghost use Rattle.reader_blobs.specs.Blobs.{blobsAt};
 ghost use Rattle.reader_header.specs.Header.{magicAt, cipherAt, noneAt, bcryptAt, kdfAt, keysAllowed, countAt, keysAt, answersHeader};
 use fields::Cursor;
 use fields::Ending;
@@ -199,21 +200,26 @@ fn read_count(c: Cursor, image: &[u8], cipher: Cipher) -> Uint32
     }
 }
 
+// The place after so many more blobs; after none it is known, and nothing is called.
+fn read_others(c: Cursor, image: &[u8], more: usize) -> Blobs
+    ensures { λ r. ⌜ r ≡ blobsAt (now (image .entry)) c more ⌝ }
+{
+    if more == 0 {
+        return Blobs::After(c);
+    }
+    reader_blobs::read_blobs(c, image, more)
+}
+
 // The first public blob, and the place after the last of those that follow it.
 fn read_keys(c: Cursor, image: &[u8], more: usize) -> BlobField
     ensures { λ r. ⌜ r ≡ keysAt (now (image .entry)) c more ⌝ }
 {
     match reader_blobs::read_blob_field(c, image) {
         BlobField::Refused(f) => BlobField::Refused(f),
-        BlobField::Key(a, p, public, d) => {
-            if more == 0 {
-                return BlobField::Key(a, p, public, d);
-            }
-            match reader_blobs::read_blobs(d, image, more) {
-                Blobs::Refused(f) => BlobField::Refused(f),
-                Blobs::After(e) => BlobField::Key(a, p, public, e),
-            }
-        }
+        BlobField::Key(a, p, public, d) => match read_others(d, image, more) {
+            Blobs::Refused(f) => BlobField::Refused(f),
+            Blobs::After(e) => BlobField::Key(a, p, public, e),
+        },
     }
 }
 

@@ -8,7 +8,7 @@ use mathlib.Core.List.{List, [], _∷_, map}
 use borrow.Author.Tests.{eq-eqb}
 use lib.Dec.{eqb}
 use lib.ListN.{length, take, drop, getD}
-use Rattle.fields.specs.Bytes.{AllBytes, sameBytes, same-true, same-self, and-true}
+use Rattle.fields.specs.Bytes.{AllBytes, sameBytes, same-true, same-self}
 use Rattle.fields.specs.Fields.{viewOf}
 use Rattle.fields.specs.declared.Cursor.{Cursor}
 use Rattle.fields.specs.declared.Fault.{Fault}
@@ -16,7 +16,7 @@ use Rattle.fields.specs.Place.{clash, by-bool}
 use Rattle.names.specs.declared.Elliptic.the-variants.{Ed25519, Ecdsa}
 use Rattle.names.specs.declared.Algorithm.{Algorithm}
 use Rattle.names.specs.declared.Algorithm.the-variants.{Elliptic as OnCurve, Rsa}
-use Rattle.format.specs.Format.{PublicBytes, PrivateBytes, Key, PrivateFits, MayStand, leadingZero, zeroLength, zerosAsked, blob, keypair, keyOf, keyBlob, entry, alone, standingEntries, plainImage, writtenImage, encryptedImage, filledKey}
+use Rattle.format.specs.Format.{PublicBytes, PrivateBytes, Key, PrivateFits, MayStand, leadingZero, zeroLength, zerosAsked, blob, keyOf, keyBlob, standingEntries, plainImage, writtenImage, encryptedImage, filledKey}
 use Rattle.format.specs.Laws.{AllMay, allowed-small, standing-same}
 use Rattle.format.specs.Scalars.{AllPrivate, keyZeros, rule-may, fits-allowed, written-own}
 use Rattle.key_public.specs.Keys.{publicBytes}
@@ -27,16 +27,15 @@ use Rattle.reader_section.specs.declared.Kind.{Kind}
 use Rattle.reader_section.specs.declared.Kind.the-variants.{Plain, Encrypted}
 use Rattle.places.specs.Places.{places-next}
 use Rattle.reader_entries.specs.Entries.{keyRead, onKeyRead, keyPlaced}
-use Rattle.reader_entries.specs.Back.{KeyFits, AllFit}
+use Rattle.reader_entries.specs.Back.{AllFit}
 use Rattle.reader_entries.specs.Read.{AllStand, stands-found}
 use Rattle.reader_header.specs.Header.{secondBlob}
 use Rattle.reader_image.specs.declared.Fields.{Fields}
 use Rattle.reader_image.specs.declared.ImageRead.{ImageRead}
 use Rattle.reader_image.specs.declared.ImageRead.the-variants as read
-use Rattle.reader_image.specs.Back.{PlainImageBack}
 use Rattle.reader_image.specs.Container.{otherPlaces, keysIn, readAt}
 use Rattle.reader_image.specs.Form.{onKind, rewritten, formOf, scalarStands, scalarInForm, othersInForm, scalarsInForm, recordInForm}
-use Rattle.reader_image.specs.Read.{KeysText, EncryptedText, ImageText, keys-alone, plain-text, encrypted-text, image-text}
+use Rattle.reader_image.specs.Read.{KeysText, EncryptedText, ImageText, plain-text, encrypted-text, image-text}
 
 -- a scalar is short, and RSA has none
 pub scalar-short : (a : Algorithm) (key : PublicBytes) (x : PrivateBytes) → PrivateFits a key x → length (x .scalar) < 67
@@ -101,28 +100,6 @@ form-stands s f zs text fits plain =
     let differ : false ≡ true = sym w ∙ ap (λ (l : List ℕ). sameBytes l zs) z ∙ same-self zs in
     clash cc)
     (λ v. v))))
-
--- of one key
-one-form : (x y : ℕ) → sameBytes (alone x) (alone y) ≡ eqb x y
-one-form x y = sym (and-true (eqb x y))
-
--- the one key of an image that is read back
-pub back-keys :
-    (s : List ℕ) (n : ℕ) (a : Algorithm) (key : PublicBytes) (x : PrivateBytes) (comment : List ℕ) (padding : ℕ) (b : PlainImageBack s n a key x comment padding)
-    → keysIn s (b .fields) ≡ alone (keyOf a key x comment)
-back-keys s n a key x comment padding b =
-    keys-alone s (b .fields) (b .one-key) ∙ rw (b .same-algorithm, b .same-public, b .same-private, b .same-comment)
-
--- of an image that the format writes and that is read back
-pub form-back :
-    (s : List ℕ) (n : ℕ) (a : Algorithm) (zeros : ℕ) (key : PublicBytes) (x : PrivateBytes) (comment : List ℕ) (padding : ℕ) → KeyFits a zeros key x comment
-    → s ≡ plainImage n (alone (blob a key)) (alone (entry (keypair a zeros key x) comment)) → (b : PlainImageBack s n a key x comment padding)
-    → formOf s (b .fields) ≡ eqb (zerosAsked a x) zeros
-form-back s n a zeros key x comment padding fits text b =
-    let one = back-keys s n a key x comment padding b in
-    form-stands s (b .fields) (alone zeros) (rw (one, b .same-checkint) text) (rw one (fits, tt)) (b .plain)
-    ∙ ap (λ (keys : List Key). sameBytes (map keyZeros keys) (alone zeros)) one
-    ∙ one-form (zerosAsked a x) zeros
 
 zero-small : (b : Bool) → zeroLength b < 2
 zero-small true = omega arith

@@ -116,13 +116,6 @@ pub record KeysText (s : List ℕ) (f : Fields) : Type 0 where
   pub second-ends : second .end ≡ length s
   pub stand : AllStand s bytes second (secondBlob s (f .header)) (otherPlaces f) more-zeros
 
--- a record of one key has no others
-pub keys-alone : (s : List ℕ) (f : Fields) → f .header .count ≡ 1 → keysIn s f ≡ alone (firstIn s f)
-unfolding keysIn
-keys-alone s f e =
-    let none : f .header .count - 1 ≡ 0 = omega (arith, e) in
-    rw none
-
 -- an accepted encrypted image
 pub record EncryptedText (s : List ℕ) (f : Fields) : Type 0 where
   pub fits : length s ≤ 65535

@@ -200,7 +200,7 @@ pub fn scalars_in_form(
     others_in_form(image, b, places, 1, count - 1)
 }
 
-// The same of a record.
+// The same of a record. With one key its places aren't looked at, nor copied.
 fn record_in_form(image: &[u8], f: Fields) -> bool
     requires { ⌜ f .header .blob .start + f .header .blob .length ≤ length (now image) ⌝ }
     ensures { λ r. ⌜ r ≡ recordInForm (now (image .entry)) f ⌝ }
@@ -210,6 +210,10 @@ fn record_in_form(image: &[u8], f: Fields) -> bool
     let private = section.private;
     let kind = section.kind;
     let algorithm = header.algorithm;
+    let count = header.count;
+    if count < 2 {
+        return scalar_in_form(image, kind, algorithm, private.scalar);
+    }
     let first = header.blob;
     let second = first.start + first.length;
     let places = section.places;
@@ -219,7 +223,7 @@ fn record_in_form(image: &[u8], f: Fields) -> bool
         algorithm,
         private.scalar,
         second,
-        header.count,
+        count,
         places,
     )
 }

@@ -20,6 +20,7 @@ use names::Cipher;
 use places::Places;
 use reader_blobs::BlobField;
 use reader_entries::Entry;
+use reader_entries::Paired;
 
 pub enum Kind {
     Plain,
@@ -201,8 +202,40 @@ fn read_others(
     }
 }
 
+// The same. After a key alone comes the end, without the copies that the others' function costs.
+fn read_rest(
+    c: Cursor,
+    image: &[u8],
+    b: Cursor,
+    more: usize,
+    checkint: u32,
+    at: usize,
+    private: Private,
+    comment: Part,
+    past: Cursor,
+) -> SectionRead
+    ensures { λ r. ⌜ r ≡ followedAt (now (image .entry)) c b more checkint at private comment past ⌝ }
+{
+    if more != 0 {
+        return read_others(c, image, b, more, checkint, at, private, comment, past);
+    }
+    match read_end(c, image, past) {
+        Ending::Refused(f) => return SectionRead::Refused(f),
+        Ending::Clean => {
+            let places = Places::none();
+            return SectionRead::Section(plain(
+                checkint,
+                c.remaining(),
+                private,
+                comment,
+                places.push(at),
+            ));
+        }
+    }
+}
+
 // The keys from c on, the padding after the last and the image's end: one key of this algorithm and public key, and
-// so many more, their blobs from b on. One key alone goes straight, without the copies that the others' function costs.
+// so many more, their blobs from b on. The first key's two parts are read one by one: as one entry they would be copied once more.
 fn read_keys(
     c: Cursor,
     image: &[u8],
@@ -216,26 +249,14 @@ fn read_keys(
     ensures { λ r. ⌜ r ≡ endedAt past (closedAt (now (image .entry)) checkint (keysAt (now (image .entry)) c algorithm public b more)) ⌝ }
 {
     let at = c.at;
-    match reader_entries::read_entry(c, image, algorithm, public) {
-        Entry::Refused(f) => return SectionRead::Refused(f),
-        Entry::Key(private, comment, d) => {
-            if more != 0 {
-                return read_others(d, image, b, more, checkint, at, private, comment, past);
+    match reader_entries::read_pair(c, image, algorithm, public) {
+        Paired::Refused(f) => return SectionRead::Refused(f),
+        Paired::Key(private, d) => match reader_entries::read_comment(d, image) {
+            Field::Refused(f) => return SectionRead::Refused(f),
+            Field::Part(comment, e) => {
+                return read_rest(e, image, b, more, checkint, at, private, comment, past);
             }
-            match read_end(d, image, past) {
-                Ending::Refused(f) => return SectionRead::Refused(f),
-                Ending::Clean => {
-                    let places = Places::none();
-                    return SectionRead::Section(plain(
-                        checkint,
-                        d.remaining(),
-                        private,
-                        comment,
-                        places.push(at),
-                    ));
-                }
-            }
-        }
+        },
     }
 }
 

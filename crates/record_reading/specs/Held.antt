@@ -13,13 +13,10 @@ use lib.Seq.{take-all}
 use denote.Ref.{RefT, now}
 use Rattle.fields.specs.Fields.{part, absent, viewOf, viewStart, isView}
 use Rattle.fields.specs.Room.{view-in, start-in}
-use Rattle.fields.specs.Refusals.{numberOf}
+use Rattle.fields.specs.Refusals.{numberOf, never-zero}
 use Rattle.fields.specs.declared.Part.{Part}
 use Rattle.fields.specs.declared.Fault.{Fault}
-use Rattle.fields.specs.declared.Refusal.{Refusal}
-use Rattle.fields.specs.declared.Refusal.the-variants.{Length, FormatEncoding, Crypto, AlgorithmUnknown, PublicKey, TrailingData, CharacterEncoding, Encrypted, Room, Form, Size}
 use Rattle.reader_image.specs.declared.Fields.{Fields}
-use Rattle.reader_image.specs.declared.ImageRead.{ImageRead}
 use Rattle.reader_image.specs.declared.ImageRead.the-variants as read
 use Rattle.reader_image.specs.Container.{readAt, sectionReadAt, noFields, toldRead}
 use Rattle.reader_image.specs.FormLaws.{by-read}
@@ -84,19 +81,6 @@ absent-absent image over v o w = (
   w .1 ∙ o .1,
   w .2 ∙ ap (λ (i : ℕ). over .ptr .1 + i) (absent-view (now over) .1) ∙ add-zero (over .ptr .1) ∙ o .2,
 )
-
-never-zero : (why : Refusal) → eqb (numberOf why) 0 ≡ false
-never-zero Length = refl
-never-zero FormatEncoding = refl
-never-zero Crypto = refl
-never-zero AlgorithmUnknown = refl
-never-zero PublicKey = refl
-never-zero (TrailingData left) = refl
-never-zero CharacterEncoding = refl
-never-zero Encrypted = refl
-never-zero Room = refl
-never-zero Form = refl
-never-zero Size = refl
 
 found-none : (s : List ℕ) (g : Fault) → readAt s ≡ read.Refused g → (foundAt s .fields ≡ noFields) × (eqb (foundAt s .number) 0 ≡ false)
 unfolding foundAt toldRead

@@ -1,4 +1,5 @@
-// Replays the stored header halves, each handed in within a record, and the records of RSA keys.
+// Replays the stored header halves, each handed in within a record, and the records of RSA keys and of
+// several keys.
 fn main() {
     replay_handed::replay_records();
 }

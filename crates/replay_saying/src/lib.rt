@@ -10,6 +10,7 @@ use reader_image::ImageRead;
 use reader_parts::Which;
 use reader_section::Section;
 use replay_telling::say_number;
+use replay_telling::say_place;
 use replay_telling::word;
 
 // ---- the views
@@ -68,11 +69,6 @@ fn say_rsa_views(image: &[u8], f: Fields) {
 
 // ---- what the section read says of its header half
 
-fn say_place(part: Part) {
-    say_number(part.start);
-    say_number(part.length);
-}
-
 fn absent(part: Part) -> bool {
     (part.start == 0) & (part.length == 0)
 }
@@ -113,8 +109,7 @@ fn say_section_read(image: &[u8], half: Header) {
     word(b"section");
     match reader_image::read_section(image, half) {
         ImageRead::Refused(f) => {
-            let why = f.why;
-            replay_telling::say_reply(why.number(), why.count(), f.at, 0);
+            replay_telling::say_refused(f);
             word(b"\n");
         }
         ImageRead::Record(g) => say_section(g.section),

@@ -1,11 +1,17 @@
--- What the replaying programs take from bytes: a number at a place, what a stored code stands for, and what remains of all of the
--- bytes modulo a prime.
+-- What the replaying programs take from bytes: a number at a place, the places of a call's texts, what a stored code stands for, and
+-- what remains of all of the bytes modulo a prime.
 use Prim.Native.Nat.{ℕ, _+_, _*_, _%_}
+use mathlib.Core.Bool.{cond}
 use mathlib.Core.List.{List, [], _∷_}
+use lib.Dec.{eqb}
 use lib.ListN.{length}
 use Rattle.fields.specs.Fields.{uint32At, onUint32}
+use Rattle.fields.specs.declared.Part.{Part}
+use Rattle.key_material.specs.declared.Checkint.{Checkint}
+use Rattle.key_material.specs.declared.Checkint.the-variants as checkint
 use Rattle.names.specs.declared.Algorithm.{Algorithm}
-use Rattle.names.specs.declared.Algorithm.the-variants.{Elliptic as OnCurve}
+use Rattle.names.specs.declared.Algorithm.the-variants.{Elliptic as OnCurve, Rsa}
+use Rattle.names.specs.declared.Elliptic.{Elliptic}
 use Rattle.names.specs.declared.Elliptic.the-variants.{Ed25519}
 use Rattle.names.specs.declared.AlgorithmName.{AlgorithmName}
 use Rattle.names.specs.declared.AlgorithmName.the-variants as algorithm-name
@@ -23,6 +29,10 @@ use Rattle.names_codes.specs.Codes.{algorithmCoded, cipherCoded, kdfCoded}
 unfoldable pub numberIn : List ℕ → ℕ → ℕ
 numberIn s at = onUint32 (uint32At s (record { at = at; end = length s })) (λ f. 0) (λ n d. n)
 
+-- of a call's head, the i-th text's place and length, which stand after four numbers
+unfoldable pub textIn : List ℕ → ℕ → Part
+textIn s i = record { start = numberIn s (i * 8 + 16); length = numberIn s (i * 8 + 20) }
+
 -- what is named, or the first of its kind
 abbrev pub knownAlgorithm : AlgorithmName → Algorithm
 knownAlgorithm (algorithm-name.Known a) = a
@@ -39,6 +49,18 @@ knownKdf kdf-name.Unknown = kdf.None
 -- what a number's lowest byte is the code of
 unfoldable pub algorithmOf : ℕ → Algorithm
 algorithmOf n = knownAlgorithm (algorithmCoded (n % 256))
+
+-- a kind over a curve, or the first of them
+abbrev pub knownElliptic : Algorithm → Elliptic
+knownElliptic (OnCurve e) = e
+knownElliptic Rsa = Ed25519
+
+unfoldable pub ellipticOf : ℕ → Elliptic
+ellipticOf n = knownElliptic (algorithmOf n)
+
+-- 1 and any number for the derived checkint, another number and the given one
+unfoldable pub checkintOf : ℕ → ℕ → Checkint
+checkintOf derive value = cond (eqb derive 1) checkint.Derived (checkint.Given value)
 
 unfoldable pub cipherOf : ℕ → Cipher
 cipherOf n = knownCipher (cipherCoded (n % 256))

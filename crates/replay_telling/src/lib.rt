@@ -2,9 +2,13 @@
 // buffer, and the numbers and codes in what they have read.
 ghost use mathlib.Core.Path.{_≡_};
 ghost use Prim.Native.Nat.{_+_, _*_, _%_};
-ghost use Rattle.replay_telling.specs.Telling.{numberIn, algorithmOf, cipherOf, kdfOf, nextRest, restOf};
+ghost use Rattle.fields.specs.Fields.{isView};
+ghost use Rattle.replay_telling.specs.Telling.{numberIn, textIn, algorithmOf, ellipticOf, checkintOf, cipherOf, kdfOf, nextRest, restOf};
 use fields::Cursor;
+use fields::Fault;
+use fields::Part;
 use fields::Uint32;
+use key_material::Checkint;
 use libc::STDOUT_FILENO;
 use names::Algorithm;
 use names::AlgorithmName;
@@ -37,6 +41,21 @@ pub fn halves(upper: u32, lower: u32) -> usize
     (upper as usize) * 4294967296 + (lower as usize)
 }
 
+// The i-th text of a call, whose place and length stand in its head after four numbers.
+pub fn text_of<'a>(head: &[u8], texts: &'a [u8], i: u8) -> &'a [u8]
+    ensures { λ r. ⌜ isView r (texts .entry) (textIn (now (head .entry)) i) ⌝ }
+{
+    let start = number_at(head, (i as usize) * 8 + 16) as usize;
+    let length = number_at(head, (i as usize) * 8 + 20) as usize;
+    fields::view(
+        texts,
+        Part {
+            start: start,
+            length: length,
+        },
+    )
+}
+
 // ---- codes that were read: the lowest byte of a number. One that names nothing isn't stored.
 
 fn code(n: u32) -> u8
@@ -52,6 +71,27 @@ pub fn algorithm_of(n: u32) -> Algorithm
         AlgorithmName::Known(algorithm) => algorithm,
         AlgorithmName::Unknown => Algorithm::Elliptic(Elliptic::Ed25519),
     }
+}
+
+// The kind of a key over a curve. A code of RSA isn't stored where one is wanted.
+pub fn elliptic_of(n: u32) -> Elliptic
+    ensures { λ r. ⌜ r ≡ ellipticOf n ⌝ }
+{
+    let algorithm = algorithm_of(n);
+    match algorithm {
+        Algorithm::Elliptic(kind) => kind,
+        Algorithm::Rsa => Elliptic::Ed25519,
+    }
+}
+
+// 1 is for the derived checkint.
+pub fn checkint_of(derive: u32, value: u32) -> Checkint
+    ensures { λ r. ⌜ r ≡ checkintOf derive value ⌝ }
+{
+    if derive == 1 {
+        return Checkint::Derived;
+    }
+    Checkint::Given(value)
 }
 
 pub fn cipher_of(n: u32) -> Cipher
@@ -88,6 +128,27 @@ pub fn say_number(n: usize)
     io::print_decimal(STDOUT_FILENO, n as u64);
 }
 
+// The entry that a stored call is of.
+pub fn say_entry(code: u32)
+    ensures { λ r. ⌜ r ≡ tt ⌝ }
+{
+    let names =
+        b"plain    encryptedrewrite  change   rsa      keys     change_ofadd      add_rsa  remove   ";
+    let name = Part {
+        start: (code as usize) * 9,
+        length: 9,
+    };
+    word(fields::view(names, name));
+}
+
+// Where a part begins, and its length.
+pub fn say_place(part: Part)
+    ensures { λ r. ⌜ r ≡ tt ⌝ }
+{
+    say_number(part.start);
+    say_number(part.length);
+}
+
 // A reply: the refusal's number, count and place, or the length that was written.
 pub fn say_reply(number: u8, count: usize, at: usize, length: usize)
     ensures { λ r. ⌜ r ≡ tt ⌝ }
@@ -98,14 +159,18 @@ pub fn say_reply(number: u8, count: usize, at: usize, length: usize)
     say_number(length);
 }
 
+pub fn say_refused(f: Fault)
+    ensures { λ r. ⌜ r ≡ tt ⌝ }
+{
+    let why = f.why;
+    say_reply(why.number(), why.count(), f.at, 0);
+}
+
 pub fn say_written(written: Written)
     ensures { λ r. ⌜ r ≡ tt ⌝ }
 {
     match written {
-        Written::Refused(f) => {
-            let why = f.why;
-            say_reply(why.number(), why.count(), f.at, 0);
-        }
+        Written::Refused(f) => say_refused(f),
         Written::Length(length) => say_reply(0, 0, 0, length),
     }
 }

@@ -1,14 +1,13 @@
 -- The fields of a blob and of a keypair over a curve, as they are put; that they join to these, and how long they are.
 use Prim.Native.Nat.{ℕ, _+_}
 use native.Mathlib.Omega.{arith}
-use mathlib.Core.Path.{_≡_, refl, _∙_, ap}
+use mathlib.Core.Path.{_≡_, _∙_, ap}
 use mathlib.Core.List.{List, [], _∷_, append-assoc, append-nil}
-use lib.ListN.{length, length-append, length-replicate}
+use lib.ListN.{length, length-append}
 use Rattle.fields.specs.Bytes.{string, join}
 use Rattle.fields.specs.Rest.{length-string}
-use Rattle.names.specs.declared.Curve.{Curve}
 use Rattle.names.specs.declared.Elliptic.{Elliptic}
-use Rattle.names.specs.declared.Elliptic.the-variants.{Ed25519, Ecdsa}
+use Rattle.names.specs.declared.Elliptic.the-variants.{Ed25519}
 use Rattle.names.specs.declared.Algorithm.the-variants.{Elliptic as OnCurve}
 use Rattle.names.specs.Algorithms.{algorithmName}
 use Rattle.mpint.specs.Mpint.{significant}

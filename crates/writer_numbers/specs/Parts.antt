@@ -1,6 +1,5 @@
 -- How long an RSA key's blob and keypair are, by the lengths of its numbers.
 use Prim.Native.Nat.{ℕ, _+_}
-use native.Mathlib.Omega.{arith}
 use mathlib.Core.Path.{_≡_, _∙_, ap}
 use mathlib.Core.List.{List}
 use lib.ListN.{length}

@@ -2,15 +2,10 @@
 -- Rests on the contracts being equations.
 use denote.Ref.{now}
 use Rattle.buffer.specs.Determined.{DeterminedBuffer}
-use Rattle.writer_plain.proofs.write_filled.Reads as write-filled
-use Rattle.writer_plain.proofs.write_filled.Kinds as write-filled-kinds
 use Rattle.writer_plain.proofs.write_parts.Reads as write-parts
 use Rattle.writer_plain.proofs.write_parts.Kinds as write-parts-kinds
 use Rattle.writer_plain.proofs.write_plain.Reads as write-plain
 use Rattle.writer_plain.proofs.write_plain.Kinds as write-plain-kinds
-
-pub write-filled-determined : DeterminedBuffer 4 write-filled-kinds.ps write-filled-kinds.r write-filled.Post (λ κs s. now (s .1 .1 .1 .1 .1 .0))
-write-filled-determined κs a r₁ r₂ s₁ s₂ p q = (cc, cc)
 
 pub write-parts-determined : DeterminedBuffer 4 write-parts-kinds.ps write-parts-kinds.r write-parts.Post (λ κs s. now (s .1 .1 .1 .1 .1 .0))
 write-parts-determined κs a r₁ r₂ s₁ s₂ p q = (cc, cc)

@@ -1,4 +1,4 @@
--- An accepted write meets every condition of its keys: what is known of a key that passed the plain writer's tests.
+-- docs/RULES.md, 10.5 and 10.6: an accepted write meets every condition of its keys. What is known of a key that passed the plain writer's tests.
 use Prim.Native.Nat.{ℕ}
 use mathlib.Core.Path.{_≡_, refl, sym, _∙_, ap}
 use mathlib.Core.Bool.{Bool, true, false}
@@ -29,10 +29,6 @@ held false why next k e = clash cc
 abbrev pub Own : Algorithm → PublicBytes → PrivateBytes → Type 0
 Own (OnCurve e) key x = (key ≡ ofPoint (key .point)) × (x ≡ ofScalar (x .scalar))
 Own Rsa key x = (key ≡ ofModulus (key .modulus) (key .exponent)) × (x ≡ ofNumbers (x .d) (x .iqmp) (x .p) (x .q))
-
-pub own-of : (a : Algorithm) (key : PublicBytes) (x : PrivateBytes) → PublicFits a key → PrivateFits a key x → Own a key x
-own-of (OnCurve e) key x fits fit = (fits .2, fit .1)
-own-of Rsa key x fits fit = (fits .1, fit .1)
 
 -- what a key over a curve is that passed its tests
 pub record EllipticHeld (e : Elliptic) (point scalar : List ℕ) (next : Written) (k : ℕ) : Type 0 where

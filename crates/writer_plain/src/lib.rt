@@ -3,12 +3,11 @@
 ghost use mathlib.Core.Path.{_≡_};
 ghost use Prim.Native.Nat.{_<_};
 ghost use Rattle.names.specs.declared.Algorithm.the-variants.{Elliptic as OnCurve};
-ghost use Rattle.format.specs.Format.{ofPoint, ofScalar, entry, keyOf, alone, scalarFilled, writtenPair, writtenImage};
+ghost use Rattle.format.specs.Format.{ofPoint, ofScalar, entry, keyOf, alone, writtenPair, writtenImage};
 ghost use Rattle.format.specs.Lengths.{entriesLength};
 ghost use Rattle.buffer.specs.Runs.{isRun};
 ghost use Rattle.key_material.specs.Material.{publicOf, privateOf, checkintOf};
 ghost use Rattle.writer_reply.specs.Reply.{isSized};
-ghost use Rattle.writer_curve.specs.Taken.{scalarTaken};
 ghost use Rattle.writer_plain.specs.Plain.{isPlain};
 use fields::Part;
 use fields::Refusal;
@@ -68,44 +67,6 @@ fn write_sized(
     Written::Length(put_plain(out, algorithm, point, scalar, checkint, comment, entries))
 }
 
-// A plain image of lent parts, the scalar filled with zeros in front, or as it is.
-fn write_taken(
-    filling: bool,
-    algorithm: Elliptic,
-    point: &[u8],
-    scalar: &[u8],
-    checkint: u32,
-    comment: &[u8],
-    out: &mut [u8],
-) -> Written
-    ensures { λ r. ⌜ isPlain (OnCurve algorithm) (ofPoint (now (point .entry))) (ofScalar (scalarTaken filling algorithm (now (scalar .entry)))) checkint (now (comment .entry)) (now (out .entry)) r (now (out .exit)) ⌝ }
-{
-    match writer_curve::check(filling, algorithm, point, scalar) {
-        Written::Refused(f) => Written::Refused(f),
-        Written::Length(_) => {
-            if !utf8::is_utf8(comment) {
-                return writer_reply::refused(Refusal::CharacterEncoding);
-            }
-            write_sized(algorithm, point, scalar, checkint, comment, out)
-        }
-    }
-}
-
-// A plain image of lent parts: the public string or point; the seed, or a scalar of at most its size, which is
-// filled with zeros in front. A record's scalar is written again so.
-pub fn write_filled(
-    algorithm: Elliptic,
-    point: &[u8],
-    scalar: &[u8],
-    checkint: u32,
-    comment: &[u8],
-    out: &mut [u8],
-) -> Written
-    ensures { λ r. ⌜ isPlain (OnCurve algorithm) (ofPoint (now (point .entry))) (ofScalar (scalarFilled algorithm (now (scalar .entry)))) checkint (now (comment .entry)) (now (out .entry)) r (now (out .exit)) ⌝ }
-{
-    write_taken(true, algorithm, point, scalar, checkint, comment, out)
-}
-
 // A plain image of lent parts: the public string or point, the seed or scalar of exactly its length.
 pub fn write_parts(
     algorithm: Elliptic,
@@ -117,7 +78,15 @@ pub fn write_parts(
 ) -> Written
     ensures { λ r. ⌜ isPlain (OnCurve algorithm) (ofPoint (now (point .entry))) (ofScalar (now (scalar .entry))) checkint (now (comment .entry)) (now (out .entry)) r (now (out .exit)) ⌝ }
 {
-    write_taken(false, algorithm, point, scalar, checkint, comment, out)
+    match writer_curve::check(false, algorithm, point, scalar) {
+        Written::Refused(f) => Written::Refused(f),
+        Written::Length(_) => {
+            if !utf8::is_utf8(comment) {
+                return writer_reply::refused(Refusal::CharacterEncoding);
+            }
+            write_sized(algorithm, point, scalar, checkint, comment, out)
+        }
+    }
 }
 
 // A plain image of key material, with the given checkint or the derived one.

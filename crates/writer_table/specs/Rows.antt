@@ -14,7 +14,7 @@ use Rattle.names_codes.specs.Codes.{algorithmCoded}
 use Rattle.writer_reply.specs.declared.Written.the-variants as written
 use Rattle.writer_reply.specs.Reply.{refused}
 use Rattle.writer_parts.specs.Checks.{passed, Checking, checking-nothing, checking-unless}
-use Rattle.writer_parts.specs.Sizes.{capped, capped-small, capped-large, capped-sum}
+use Rattle.writer_parts.specs.Sizes.{capped, capped-small, capped-large}
 use Rattle.writer_table.specs.Table.{rowsFrom, rows, codeKnown, every, tableFits, tableChecked}
 
 less-one : (n : ℕ) → suc n - 1 ≡ n

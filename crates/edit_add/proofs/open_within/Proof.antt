@@ -2,7 +2,6 @@
 use Prim.Native.Nat.{_+_, _-_}
 use native.Mathlib.Omega.{arith}
 use mathlib.Core.Path.{_≡_, sym}
-use lib.ListN.{length}
 use Rattle.edit_shells.specs.Shells.{openedAt, openedSize}
 use Rattle.edit_shells.specs.Edits.{room-size, room-none}
 use Rattle.edit_add.specs.Open.{size-is, size-over, open-puts}

@@ -1,7 +1,6 @@
 -- `edit_shells::put_ending` meets its contract: a put of the padding and one of the zeros, of none where the padding ends at n or past it.
 use native.Mathlib.Omega.{arith}
 use mathlib.Core.Path.{_∙_}
-use Rattle.buffer.specs.Puts.{zeros}
 use Rattle.edit_shells.specs.Edits.{no-zeros}
 use borrow.Author.Needs.{needs}
 use Rattle.edit_shells.proofs.put_ending.Statement.{statement}

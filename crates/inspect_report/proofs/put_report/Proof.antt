@@ -3,6 +3,7 @@
 use mathlib.Core.Path.{_≡_, refl}
 use mathlib.Core.List.{List}
 use Prim.Native.Nat.{ℕ}
+use native.Mathlib.Omega.{arith}
 use borrow.Author.Needs.{needs}
 use lib.ListN.{length}
 use Rattle.reader_image.specs.declared.FormRead.{FormRead}
@@ -11,7 +12,7 @@ use Rattle.reader_image.specs.declared.ImageRead.{ImageRead}
 use Rattle.reader_image.specs.declared.ImageRead.the-variants as read
 use Rattle.reader_image.specs.Container.{onRead, readAt}
 use Rattle.reader_image.specs.Form.{formOf, formReadAt}
-use Rattle.inspect_report.specs.Report.{Summary, accepted, refusedAs, summaryOf}
+use Rattle.inspect_report.specs.Report.{Summary, accepted, refusedAs, lines, summaryOf}
 use Rattle.inspect_report.proofs.put_report.Statement.{statement}
 use Rattle.inspect_report.proofs.put_report.Tie as tie
 
@@ -50,7 +51,11 @@ same-length : tie.Need-same-length
 same-length c = search needs
 
 returns : tie.Need-returns
-returns c = rw (summary-found, ← c .before .before .before .before .before .before .before .read-with-form .ensures .0, c .before .before .before .before .before .f .given .1) (c .before .before .put-refused .ensures)
+unfolding lines
+returns c =
+    let put = c .before .before .put-refused .ensures in
+    rw (summary-found, ← c .before .before .before .before .before .before .before .read-with-form .ensures .0, c .before .before .before .before .before .f .given .1)
+    (omega (arith, put .0), λ room. put .1)
 
 same-length-2 : tie.Need-same-length-2
 same-length-2 c = search needs

@@ -1,2 +1,0 @@
-pub mod Interface
-pub mod Halves
