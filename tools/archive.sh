@@ -1,10 +1,11 @@
 #!/usr/bin/env bash
 # bash tools/archive.sh: proves and compiles the functions for C and puts them into target/staticlib/libsaltorchard.a, an object for each of their
-# crates. A program links those that it calls; and what in an object only one function calls, the compiler makes part of it, which the reads
-# are the faster for.
+# crates, the static libraries c_NAME_c over c_NAME. A program links those that it calls; and what in an object only one function calls, the
+# compiler makes part of it, which the reads are the faster for.
 set -euo pipefail
 cd "$(dirname "$0")/.."
 crates=(c_interface c_settings c_armour c_header c_section c_key c_read c_remove c_change c_add c_writing c_rewrite)
+crates=("${crates[@]/%/_c}")
 archive=libsaltorchard.a
 
 fail() { printf 'archive.sh: %s\n' "$*" >&2; exit 1; }
@@ -12,12 +13,11 @@ for tool in rt ar; do
     command -v "$tool" >/dev/null 2>&1 || fail "$tool is missing"
 done
 rm -f "target/staticlib/$archive"
-log=$(mktemp)
-trap 'rm -f "$log"' EXIT
-rt check "${crates[@]}" >"$log" 2>&1 || { cat "$log" >&2; fail "not all is proved"; }
-printf '%s\n' "${crates[@]}" | xargs -P 2 -I{} rt staticlib {} >"$log" 2>&1 || { cat "$log" >&2; fail "not all is compiled"; }
+bash tools/build.sh "${crates[@]}" || fail "not all is proved and compiled"
 for crate in "${crates[@]}"; do
-    ! grep -Eq 'foreign=|axioms=' "target/log/$crate.say" || fail "$crate rests on the contract of a C function, which nothing proves"
+    verdict=$(tail -n 1 "target/log/$crate.log")
+    [[ $verdict = "logic=proved "* ]] || fail "$crate: rt doesn't end with a verdict"
+    [[ ! $verdict =~ (foreign|axioms)= ]] || fail "$crate rests on the contract of a C function, which nothing proves"
 done
 
 cd target/staticlib

@@ -7,7 +7,7 @@ Of each of the five kinds ssh-keygen makes KEYS new keys (2 if none is said) and
 and encrypted with each of the nine ciphers. Of every file `dearmour` must give the bytes that Python's base64 finds in it, and
 `armour` of these the file, to the byte. The first and the last file of each key are also given with other line ends, in lines of 64
 columns, cut and changed: then the programs must answer as the independent model does.
-It exits with 1 at the first difference. ssh-keygen and the two built programs are needed (`rt check armour dearmour`).
+It exits with 1 at the first difference. ssh-keygen and the two built programs are needed (`bash tools/build.sh armour dearmour`).
 """
 import base64
 import shutil

@@ -23,7 +23,8 @@ def text(path):
 
 def lines(path):
     """How many lines there are to read: without empty ones, and those that bring names in."""
-    return sum(1 for line in text(path).splitlines() if line.strip() and not line.startswith(("use ", "ghost use ")))
+    read = re.sub(r"^(?:ghost )?use [^\n{]*(?:\{[^}]*\}[^\n]*)?$", "", text(path), flags=re.M)
+    return sum(1 for line in read.splitlines() if line.strip())
 
 
 def counted():
@@ -62,11 +63,12 @@ def whole():
         if "docs/RULES.md, " not in source.partition("\nuse ")[0]:
             yield f"{name} is to be read, and doesn't begin with the rules that it states"
         words = set(re.split(r"[\s(){}.,;]+", definitions(source)))
-        used = re.findall(r"^(?:unfoldable pub )?use Rattle·(\w+)(?:·specs)?\.specs\.([A-Z]\w+)\.\{([^}]*)\}", source, re.M)
+        used = re.findall(r"^(?:(?:pub|unfoldable) )*use Rattle\.(\w+)\.specs\.([A-Z]\w+)\.\{([^}]*)\}", source, re.M)
         for below, module, names in used:
             other = f"{below}/{module}"
-            resting = sorted(words & set(names.split(", ")))
-            if resting and other not in listed() and (name, other) not in FOR_LAWS and crate != "claims":
+            resting = sorted(words & {name.split()[-1] for name in names.split(",") if name.strip()})
+            is_ours = os.path.isdir(f"crates/{below}")
+            if is_ours and resting and other not in listed() and (name, other) not in FOR_LAWS and crate != "claims":
                 yield f"docs/AUDIT.md has {name} read, which rests on {', '.join(resting)} of {other}, and not that"
 
 

@@ -1,35 +1,33 @@
 """Holds the entries of claims/Refusals, `Entry` and `EntryC`, over which `refused-keeps` and `place-said` go, to the sources: they are
 exactly the public functions that take a lent buffer and can refuse, and claims/Entries has a theorem for each, from the contract that
-the checker made of that function to its line. That a theorem holds is the checker's to say; this reads text and proves nothing.
-check_texts.py runs it."""
-import glob
+the checker made of that function to its line. An export for C is the function that it calls (check_exports.py). That a theorem holds is
+the checker's to say; this reads text and proves nothing. check_texts.py runs it."""
 import re
+
+import tree
 
 LIST = "crates/claims/specs/Refusals.antt"
 THEOREMS = "crates/claims/specs/Entries.antt"
 # A struct that holds a reference: the checker makes no plain form of the contract, which cites the definition that the line has.
-BY_HAND = {"recorded-rewrite": (("record_writing", "rewrite"), "isHanded")}
+BY_HAND = {"recorded_rewrite": (("record_writing", "rewrite"), "IsHanded")}
 # Their functions put bytes where they fit and answer a place: they refuse nothing.
 PUTS = ("buffer", "names_spelling", "report_parts", "writer_curve", "writer_numbers", "writer_rows", "edit_shells")
 
 LENT = re.compile(r"&(?:'\w+ )?mut \[u8[\];]")
-FUNCTION = re.compile(r'\bpub (?:extern "C" )?fn (\w+)(?:<[^>]*>)?\(([^)]*)\)(?:\s*->\s*(\w+))?(?:\s*ensures \{ λ \w+\. ⌜ (\w+))?')
+# What reads from a stream or a file fills a buffer with what that gives, and is a program's, which hands it on.
+STREAM = re.compile(r"\b(?:Read|Files)\b")
+FUNCTION = re.compile(r"\bpub fn (\w+)(<[^>]*>)?\(([^)]*)\)(?:\s*->\s*(\w+)[^\n{]*)?(?:\s*ensures(?: \w+)? \{\s*(\w+))?")
 THEOREM = re.compile(
-    r"^pub (\S+)-listed :\s+Listed \d+ (\S+)-kinds\.ps (\S+)-kinds\.r (\S+)-reads\.Post\s+\(λ κs a r s\.\s+PromiseC? \(?(\S+) ", re.M
+    r"^pub (\S+)_listed :\s+Listed \d+ (\S+)_kinds\.ps (\S+)_kinds\.r (\S+)_reads\.Post\s+\(λ κs a r s\.\s+PromiseC? \(?(\S+) ", re.M
 )
-
-
-def text_of(path):
-    with open(path, encoding="utf-8") as file:
-        return file.read()
 
 
 def lent_functions():
     """Each public function that takes a lent buffer: its crate and name, its answer, and the definition that its contract begins with."""
-    for path in sorted(glob.glob("crates/*/src/*.rt")):
-        source = re.sub(r"//[^\n]*", "", text_of(path))
-        for name, parameters, answer, definition in FUNCTION.findall(source):
-            if LENT.search(parameters):
+    for path in tree.files("crates/*/src/*.rt"):
+        source = re.sub(r"//[^\n]*", "", tree.text(path))
+        for name, types, parameters, answer, definition in FUNCTION.findall(source):
+            if LENT.search(parameters) and not STREAM.search(types + parameters):
                 yield (path.split("/")[1], name), answer, definition
 
 
@@ -40,14 +38,14 @@ def is_put(function, answer):
 
 def lines():
     """The constructors of the two lists."""
-    for block in re.findall(r"^pub data EntryC? : Type 0 where\n((?:  .*\n)+)", text_of(LIST), re.M):
+    for block in re.findall(r"^pub data EntryC? : Type 0 where\n((?:  .*\n)+)", tree.text(LIST), re.M):
         yield from re.findall(r"^  (\S+) :", block, re.M)
 
 
 def tied():
     """The function whose contract a line's theorem begins with."""
-    text = text_of(THEOREMS)
-    uses = re.findall(r"^use Rattle·(\w+)\.proofs\.(\w+)\.Reads as (\S+)-reads$", text, re.M)
+    text = tree.text(THEOREMS)
+    uses = re.findall(r"^use Rattle\.(\w+)\.proofs\.(\w+)\.Reads as (\S+)_reads$", text, re.M)
     functions = {line: (crate, name) for crate, name, line in uses}
     for names in THEOREM.findall(text):
         if len(set(names)) == 1 and names[0] in functions:

@@ -2,7 +2,7 @@
 """Holds the C interface's number to what it numbers. bindings/c/interface.txt has a line for each interface: its number and the
 sha256 of the header's declarations, which are the header without comments, white space and the functions that it defines itself,
 `static inline`: these aren't the archive's. The last line is the present one: the digest must be the header's, and the number that of
-the header, of the Rust crate, of the Python module and of the archive's function. Where git knows the file's earlier versions, their
+the header, of the Rust crate, of the Python module and of the function that the archive exports. Where git knows the file's earlier versions, their
 lines must stand. With --digest it prints the header's digest, for a new line."""
 import hashlib
 import re
@@ -14,7 +14,7 @@ LINES = "bindings/c/interface.txt"
 CRATE = "bindings/rust/src/c.rs"
 BUILD = "bindings/rust/build.rs"
 PYTHON = "bindings/python/saltorchard.py"
-SOURCE = "crates/c_interface/src/lib.rt"
+SOURCE = "crates/c_interface_c/src/lib.rt"
 NAME = r"saltorchard_interface_(\d+)"
 # A function that the header defines: its head is a line, its braces stand at the margin, and all between them is indented and no
 # directive. What is laid out otherwise stays among the declarations.

@@ -6,11 +6,15 @@ import fnmatch
 import os
 import re
 
+import tree as project
+
 CODE = (".rt", ".rs", ".py", ".c", ".h", ".sh", ".awk")
 SUFFIXES = (*CODE, ".md", ".txt", ".antt", ".edit", ".toml")
 SCRIPTS = ("inspect", "keys", "armour", "dearmour", ".ci/run")
 FORMER = ("docs/changes/", "CHANGELOG.md")
-RT = "check ci dev doc fmt goals help mir must-fail prove selftest staticlib try version".split()
+RT = "all check ci doc expand fmt help lemma lib must-fail names new plant run seed selftest test tidy try verdict version".split()
+# Which of them take names of crates.
+OF_CRATES = "ci must-fail".split()
 
 # Names that aren't the project's own, by whose they are; with `::` at its end whatever such a type or module has.
 OTHERS = {
@@ -27,7 +31,7 @@ NOT_OURS = {name for names in OTHERS.values() for name in names.split()}
 SHAPES = (
     (r"[a-z0-9]+(-[a-z0-9]+)+", ("antt", "quoted", "code")),
     (r"[a-z0-9]+([A-Z][a-z0-9]*)+", ("antt",)),
-    (r"\w+_\w+", ("code",)),
+    (r"\w+_\w+", ("antt", "code")),
     (r"[A-Z]\w*[a-z]\w*", ("antt", "code")),
 )
 
@@ -53,8 +57,7 @@ class Tree:
         self.paths, self.ends, self.documents = set(), set(), {}
         self.antt, self.code, self.quoted = set(), set(), set()
         self.folders, self.homes = {}, {}
-        for base, folders, files in os.walk("."):
-            folders[:] = [folder for folder in folders if folder not in (".git", "target", "__pycache__")]
+        for base, folders, files in project.walk():
             for name in folders + files:
                 self.enter(os.path.join(base, name)[2:])
             for name in files:
@@ -102,7 +105,7 @@ class Tree:
 
 def is_path(word):
     """Whether a word is a path of this tree's: not one of another system's, nor with a part that the reader is to fill in."""
-    if not re.fullmatch(r"[\w./*-]+", word) or re.match(r"/|usr/|target/|\.\./", word) or re.search(r"(^|/)[A-Z]+(/|$)", word):
+    if not re.fullmatch(r"[\w./*-]+", word) or re.match(r"/|usr/|target/|out/|\.\./", word) or re.search(r"(^|/)[A-Z]+(/|$)", word):
         return False
     return "/" in word or word.endswith(SUFFIXES)
 
@@ -124,7 +127,8 @@ def command_faults(tree, parts):
         yield from (part for part in parts if re.fullmatch(r"--[a-z][a-z-]*", part) and part not in tree.quoted)
     if parts[0] == "rt" and len(parts) > 1:
         yield from ([] if parts[1] in RT else [f"rt {parts[1]}"])
-        yield from (part for part in parts[2:] if re.fullmatch(r"[a-z]\w*", part) and f"crates/{part}" not in tree.paths)
+        crates = parts[2:] if parts[1] in OF_CRATES else []
+        yield from (part for part in crates if re.fullmatch(r"[a-z]\w*", part) and f"crates/{part}" not in tree.paths)
 
 
 def member_faults(tree, span):
@@ -147,7 +151,7 @@ def name_faults(tree, span):
 
 
 def plain_path_faults(tree, path):
-    if is_path(path) and "target" not in path.split("/") and path not in tree.paths:
+    if is_path(path) and not {"target", "out"} & set(path.split("/")) and path not in tree.paths:
         yield path
 
 

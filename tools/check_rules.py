@@ -1,20 +1,16 @@
 """Holds the rules' numbers together: what a text cites of docs/RULES.md is there, every rule from 2 on has a row in docs/CONTRACTS.md, and no
 text speaks of rules that stand elsewhere. A definition cites `docs/RULES.md, 4.1 to 4.6 and 8.1`, a document `rule 4.4` or
 `rules 3.3 and 3.4`. check_texts.py runs it."""
-import glob
 import re
+
+import tree
 
 RULES = "docs/RULES.md"
 NUMBER = r"\d+(?:\.\d+)?"
 LIST = rf"{NUMBER}(?:(?:, | and | to |, and ){NUMBER})*"
 CITED = re.compile(rf"(?:docs/RULES\.md,|\b[Rr]ules?) ({LIST})(?![\w.]*\d)")
-PLACES = ("crates/**/*.antt", "crates/**/*.rt", "crates/**/*.edit", "docs/**/*.md", "*.md", "tools/*.py", "tools/*.md", "oracle/**/*.rs", "oracle/*.md", "bindings/**/*.[ch]")
+PLACES = ("crates/*.antt", "crates/*.rt", "crates/*.edit", "docs/*.md", "[!/]*.md", "tools/*.py", "tools/*.md", "oracle/*.rs", "oracle/*.md", "bindings/*.[ch]")
 ELSEWHERE = re.compile(r"\b[Dd]ocuments?\s+0[12]\b|\bthe\s+paper\b|\bsteps?\s+[1-7]\b")
-
-
-def text(path):
-    with open(path, encoding="utf-8") as file:
-        return file.read()
 
 
 def known(rules):
@@ -30,21 +26,18 @@ def cited(said):
 
 
 def files():
-    for pattern in PLACES:
-        for path in glob.glob(pattern, recursive=True):
-            if "target" not in path.split("/") and not path.endswith("check_rules.py"):
-                yield path
+    return [path for path in tree.files(*PLACES) if not path.endswith("check_rules.py")]
 
 
 def faults():
-    numbers = known(text(RULES))
+    numbers = known(tree.text(RULES))
     wrong = []
     for path in files():
-        said = text(path)
+        said = tree.text(path)
         wrong += [f"{path} cites the rule {number}, which isn't there" for number in set(cited(said)) - numbers]
         if ELSEWHERE.search(said):
             wrong.append(f"{path} speaks of rules that stand elsewhere")
-    rows = {number for cell in re.findall(r"^\| ([\d., ]+) \|", text("docs/CONTRACTS.md"), re.M) for number in re.findall(NUMBER, cell)}
+    rows = {number for cell in re.findall(r"^\| ([\d., ]+) \|", tree.text("docs/CONTRACTS.md"), re.M) for number in re.findall(NUMBER, cell)}
     stated = {number for number in numbers if "." in number and not number.startswith("1.")}
     wrong += [f"docs/CONTRACTS.md has no row for the rule {number}" for number in sorted(stated - rows)]
     wrong += [f"docs/CONTRACTS.md has a row for the rule {number}, which isn't there" for number in sorted(rows - numbers)]

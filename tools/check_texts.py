@@ -2,8 +2,9 @@
 """What the gate holds the texts to, beside the proofs: every public function of a library has a contract that asks nothing,
 a theorem NAME_determined and a place in docs/CONTRACTS.md, every proof and specification file says at its top what it is, nothing
 names a place outside the project, what a document names and links to is there, the rows of docs/REFUSALS.md are those of cases_places.py,
-the claims' list of entries is whole, the rules' numbers that are cited are there, what docs/AUDIT.md and docs/PROVED.md count and link is so,
-the counts of docs/ARCHITECTURE.md are the tree's, and no merge is left half done. It reads text and proves nothing."""
+the claims' list of entries is whole, what C calls says what is proved of it, the rules' numbers that are cited are there, what docs/AUDIT.md
+and docs/PROVED.md count and link is so, the counts of docs/ARCHITECTURE.md are the tree's, and no merge is left half done. It reads text
+and proves nothing."""
 import glob
 import os
 import re
@@ -11,9 +12,11 @@ import sys
 
 import check_audit
 import check_entries
+import check_exports
 import check_names
 import check_places
 import check_rules
+import tree
 
 OUTSIDE = re.compile(r"\.\./shared|/work/|/opt/rattle|https?://[^\s)]*(debian|pypi|crates\.io)")
 CODE = (".rt", ".antt", ".py", ".sh", ".md", ".edit", ".txt", ".rs", ".c", ".h", ".toml", ".awk")
@@ -24,40 +27,41 @@ def without_comments(text):
 
 
 def public_functions(text):
-    """The name of each `pub fn`, with the clauses that stand between its parameters and its body."""
+    """The name of each `pub fn`, with what stands between its name and its body: parameters, answer and clauses."""
     for m in re.finditer(r'\bpub (?:extern "C" )?fn (\w+)', text):
         head = text[m.end():text.index("\n{", m.end()) if "\n{" in text[m.end():] else len(text)]
         body = re.search(r"\n\s*\{\n", text[m.end():])
         yield m.group(1), text[m.end():m.end() + body.start()] if body else head
 
 
-def proofs_of(crate):
-    found = ""
-    for base, _, files in os.walk(os.path.join("crates", crate, "proofs")):
-        for name in files:
-            if name.endswith(".antt"):
-                found += open(os.path.join(base, name), encoding="utf-8").read()
-    return found
+def libraries():
+    """The source of each library, by its name; those of the static libraries are check_exports.py's."""
+    static = set(tree.static_libraries())
+    for path in tree.files("crates/*/src/lib.rt"):
+        crate = path.split("/")[1]
+        if crate not in static:
+            yield crate, without_comments(tree.text(path))
+
+
+def reads_stream(clauses):
+    """Whether a function reads from a stream or a file, which give what no contract can say: then no reply is the only one."""
+    return re.search(r"\b(?:Read|Files)\b", re.split(r"\n\s*(?:requires|ensures)\b", clauses)[0])
 
 
 def contracts():
-    for crate in sorted(os.listdir("crates")):
-        source = os.path.join("crates", crate, "src", "lib.rt")
-        if not os.path.exists(source):
-            continue
-        proofs = proofs_of(crate)
-        for name, clauses in public_functions(without_comments(open(source, encoding="utf-8").read())):
-            if "ensures" not in clauses:
+    for crate, source in libraries():
+        proofs = all_text(f"crates/{crate}/proofs/*.antt")
+        for name, clauses in public_functions(source):
+            if not re.search(r"\bensures\b", clauses):
                 yield f"{crate}::{name} has no ensures"
-            if "requires" in clauses:
+            if re.search(r"\brequires\b", clauses):
                 yield f"{crate}::{name} asks its caller"
-            if not re.search(r"(?<![\w-])%s_determined :" % name, proofs):
+            if not reads_stream(clauses) and not re.search(r"(?m)^ *(?:pub )?%s_determined :" % name, proofs):
                 yield f"{crate}::{name} has no theorem {name}_determined"
 
 
 def texts():
-    for base, folders, files in os.walk("."):
-        folders[:] = [f for f in folders if f not in (".git", "target", "__pycache__")]
+    for base, _, files in tree.walk():
         for name in files:
             path = os.path.join(base, name)
             if not name.endswith(CODE) and name not in ("inspect", "keys", "armour", "dearmour", "run", "NOTICE"):
@@ -72,8 +76,7 @@ def texts():
 
 
 def all_text(*patterns):
-    files = [f for p in patterns for f in glob.glob(p, recursive=True)]
-    return "\n".join(open(f, encoding="utf-8").read() for f in files)
+    return "\n".join(map(tree.text, tree.files(*patterns)))
 
 
 def named_edits(document):
@@ -97,14 +100,12 @@ def contracts_document():
     for name in re.findall(r"^\| [^|]*\(([A-Z]\w+)\)", document, re.M):
         if not os.path.exists(f"crates/claims/specs/{name}.antt"):
             yield f"docs/CONTRACTS.md names claims/{name}, which isn't there"
-    words = set(re.findall(r"[\w-]+", all_text("crates/**/*.antt", "crates/**/*.rt", "tools/*.py")))
+    words = set(re.findall(r"[\w-]+", all_text("crates/*.antt", "crates/*.rt", "tools/*.py")))
     for name in sorted(set(re.findall(r"`([\w-]+)`", document))):
         if name not in words and not os.path.isdir(f"crates/{name}"):
             yield f"docs/CONTRACTS.md names {name}, which isn't there"
-    for crate in sorted(os.listdir("crates")):
-        source = os.path.join("crates", crate, "src", "lib.rt")
-        text = without_comments(open(source, encoding="utf-8").read()) if os.path.exists(source) else ""
-        for name, _ in public_functions(text):
+    for crate, source in libraries():
+        for name, _ in public_functions(source):
             if not re.search(r"(`|::)%s`" % name, document):
                 yield f"{crate}::{name} isn't in docs/CONTRACTS.md"
 
@@ -118,8 +119,7 @@ def named_functions():
 
 
 def documents():
-    found = glob.glob("**/*.md", recursive=True)
-    return [path for path in found if "target" not in path.split("/")]
+    return tree.files("*.md")
 
 
 def cited_files():
@@ -140,12 +140,15 @@ def cited_files():
 
 
 def counts():
-    """docs/ARCHITECTURE.md says how many crates, public functions and must-fail edits there are."""
-    sources = [without_comments(open(path, encoding="utf-8").read()) for path in glob.glob("crates/*/src/lib.rt")]
-    said = open("docs/ARCHITECTURE.md", encoding="utf-8").read()
+    """docs/ARCHITECTURE.md says how many crates, public functions, exports and must-fail edits there are; crates.txt lists each crate."""
+    said = tree.text("docs/ARCHITECTURE.md")
+    exports = [tree.text(f"crates/{crate}/src/lib.rt").count(check_exports.EXPORT) for crate in tree.static_libraries()]
+    if set(tree.crates()) != set(os.listdir("crates")):
+        yield "crates.txt doesn't list the folders of crates/"
     for row in (
-        f"lines of Rattle in {len(os.listdir('crates'))} crates",
-        f"| public functions | {sum(len(list(public_functions(text))) for text in sources)}, ",
+        f"lines of Rattle in {len(tree.crates())} crates",
+        f"| public functions | {sum(len(list(public_functions(source))) for _, source in libraries())}, ",
+        f"| exports for C | {sum(exports)}, ",
         f"| must-fail edits | {len(glob.glob('crates/*/must-fail/*.edit'))}, ",
     ):
         if row not in said:
@@ -157,15 +160,15 @@ def licences():
     for name in ("LICENSE-APACHE", "LICENSE-MIT", "NOTICE"):
         if not os.path.exists(name):
             yield f"{name} isn't there"
-    for path in glob.glob("*/**/Cargo.toml", recursive=True):
-        if "target" not in path.split("/") and 'license = "Apache-2.0 OR MIT"' not in open(path, encoding="utf-8").read():
+    for path in tree.files("*/Cargo.toml"):
+        if 'license = "Apache-2.0 OR MIT"' not in tree.text(path):
             yield f"{path} doesn't name the licences"
 
 
 def main():
     checks = (licences, counts, cited_files, contracts, texts, contracts_document, named_functions)
     wrong = [line for check in checks for line in check()]
-    for part in (check_places, check_entries, check_names, check_rules, check_audit):
+    for part in (check_places, check_entries, check_exports, check_names, check_rules, check_audit):
         wrong += part.faults()
     for line in wrong:
         print(line)

@@ -10,7 +10,7 @@ goes through the program `inspect`, whose whole output must be the model's; an a
 one's comment is changed three times and back, and what results must be the first bytes. Of the keys that are files of their own it
 says how many import takes, by the model. Keys stay in memory or in a private temporary folder that is removed; they are published test
 keys. Status 1 if anything differs, 3 if the packages can't be had here. The archive and the program are needed
-(`bash tools/archive.sh`, `rt check inspect`), and gcc.
+(`bash tools/archive.sh`, `bash tools/build.sh inspect`), and gcc.
 """
 import base64
 import binascii

@@ -12,7 +12,7 @@ if anything differs. A writer that isn't here is named with its Debian package a
 writer could not make, is a failure too.
 
 The keys are new and random each time, so the counts differ from run to run. Python's libraries are those of the Python that
-runs this or, where it lacks one, of Debian's. The built programs are needed (`rt check inspect dearmour`). TIMES 1 makes some 570
+runs this or, where it lacks one, of Debian's. The built programs are needed (`bash tools/build.sh inspect dearmour`). TIMES 1 makes some 570
 files, and with 470 took a minute and a half where the program ran under an emulator.
 """
 import os
@@ -467,7 +467,7 @@ def main():
     times = int(words[0]) if words else 1
     for name in ("inspect", "dearmour"):
         if not (ROOT / "target" / "bin" / name).exists():
-            sys.exit(f"the program {name} isn't built: rt check {name}")
+            sys.exit(f"the program {name} isn't built: bash tools/build.sh {name}")
     here, missing = writers_here()
     print("\nThe keys are random: the counts differ from run to run.\n")
     print(COLUMNS.format(*TITLES), flush=True)

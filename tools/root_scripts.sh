@@ -19,10 +19,10 @@ need() {
     done
 }
 
-# PROGRAM..: rt's check, one at a time: two at once, as in a pipe of two scripts, spoil each other's proofs.
-check() {
+# PROGRAM..: built by rt, one script at a time: two may ask at once, as in a pipe. No option of this shell goes on to rt's.
+ask_rt() {
     flock -w 5 "$root/crates.txt" true 2>/dev/null || say "another script is building: waiting for it"
-    cd "$root" && flock -o crates.txt rt check "$@" 2>&1 </dev/null || echo "$me: it was not built"
+    cd "$root" && flock -o crates.txt env -u SHELLOPTS bash tools/build.sh "$@" 2>&1 </dev/null || echo "$me: it was not built"
 }
 
 # PROGRAM..: asks rt each time, so that no program answers that is older than its sources. Each crate that is proved anew is told.
@@ -40,8 +40,8 @@ build() {
     [ $all_built = yes ] || say "first use: proving and building the program, which takes some minutes"
     while IFS= read -r line; do
         log+=$line$'\n'
-        case $line in "rt: "*" proved ("[0-9]*" s)") say "${line#rt: }" ;; esac
-    done < <(check "$@")
+        case $line in *" proved") say "$line" ;; esac
+    done < <(ask_rt "$@")
     case $log in *"$me: it was not built"$'\n') printf '%s' "$log" >&2; return 1 ;; esac
 }
 

@@ -13,7 +13,7 @@ P-256 and P-521. The model makes an image of each key with every number of zeros
 fits. `puttygen` must read exactly those that are in the form here, `ssh-keygen` exactly those whose scalar's first byte is below
 0x80, each with the right public key, and the program must print what the model says.
 
-It exits with 1 if anything differs. ssh-keygen is needed, and the built program (`rt check inspect`) unless --model is said.
+It exits with 1 if anything differs. ssh-keygen is needed, and the built program (`bash tools/build.sh inspect`) unless --model is said.
 Without puttygen, Debian's package putty-tools, its part is left out, and the script says so. The keys are new each time.
 """
 import argparse
@@ -178,7 +178,7 @@ def main():
     if shutil.which("ssh-keygen") is None:
         sys.exit("ssh-keygen is missing: nothing was compared")
     if not words.model and not (ROOT / "target" / "bin" / "inspect").exists():
-        sys.exit("the program inspect isn't built (rt check inspect): nothing was compared; --model goes without it")
+        sys.exit("the program inspect isn't built (bash tools/build.sh inspect): nothing was compared; --model goes without it")
     results = [new_keys(kind, count, not words.model) for kind, count in (("p521", words.p521), ("p256", words.p256))]
     images = [image for found, _ in results for image in found]
     faults = [fault for _, found in results for fault in found]

@@ -1,6 +1,6 @@
 #!/usr/bin/env bash
 # What the toolchain refuses: a small crate is proved, and then, changed in one way each, must be refused, for the reason that belongs to the
-# change. It takes about fifteen seconds, in a temporary folder. For whoever audits the proofs: docs/AUDIT.md.
+# change. It takes some minutes, in a temporary folder. For whoever audits the proofs: docs/AUDIT.md.
 set -euo pipefail
 
 folder=$(mktemp -d)
@@ -8,25 +8,25 @@ trap 'rm -rf "$folder"' EXIT
 crate=$folder/crates/more
 
 new_crate() {
-    rm -rf "$folder/crates" "$folder/target"
+    rm -rf "$folder/crates"
     mkdir -p "$crate/src" "$crate/specs"
     echo "more:" >"$folder/crates.txt"
     cat >"$crate/src/lib.rt" <<'RT'
-ghost use mathlib.Core.Path.{_≡_};
-ghost use Prim.Native.Nat.{_+_, _<_};
+// One more.
+#![tactic(auto)]
+
+ghost use Rattle.std.specs.Prelude.{◌≡◌, ◌+◌, ◌<◌};
 
 // One more, of a number below 200.
 pub fn more(x: u8) -> u8
-    requires { ⌜ x < 200 ⌝ }
-    ensures { λ r. ⌜ r ≡ x + 1 ⌝ }
+    requires { x < 200 }
+    ensures { result ≡ x + 1 }
 {
     x + 1
 }
 RT
     cat >"$crate/specs/Lib.antt" <<'ANTT'
-use Prim.Native.Nat.{ℕ, _+_}
-use Prim.Axiom.{lem, LEM}
-use mathlib.Core.Path.{_≡_, refl}
+use Rattle.std.specs.Prelude.{ℕ, ◌+◌, ◌≡◌, refl}
 
 pub same : (n : ℕ) → n ≡ n
 same n = refl
@@ -65,11 +65,14 @@ echo "a good crate: $(tail -n 1 "$folder/said")"
 changed "a hole in a proof" "\`same\` is not admitted: has-holes" specs/Lib.antt 's/^same n = refl/same n = ?/'
 added "a statement without a proof" "is declared but not defined" specs/Lib.antt '\npub wish : (n : ℕ) → n ≡ n + 1\n'
 added "an axiom of one's own" "\`wish\` is not admitted: axiom" specs/Lib.antt '\naxiom wish : (n : ℕ) → n ≡ n + 1\n'
-added "the logic's own axiom" "rests on antt's axiom" specs/Lib.antt '\npub classical : LEM {0}\nclassical = lem\n'
-added "a foreign contract" "it declares C functions of its own" src/lib.rt '\nextern "C" {\n    fn chosen(x: u8) -> u8\n        ensures { λ r. ⌜ r ≡ x ⌝ };\n}\n'
+new_crate
+sed -i '1i use Prim.Axiom.{lem, Lem}' "$crate/specs/Lib.antt"
+printf '\npub classical : Lem {0}\nclassical = lem\n' >>"$crate/specs/Lib.antt"
+refused "the logic's own axiom" "rests on antt's axiom"
+added "a foreign contract" "declares the foreign function \`more::chosen\`, and names nothing to link" src/lib.rt '\nunsafe extern "C" {\n    safe fn chosen(x: u8) -> u8\n        ensures { result ≡ x };\n}\n'
 changed "a wrong answer" "it is not proved that what the function ensures holds" src/lib.rt 's/^    x + 1$/    x + 2/'
-changed "a sum that may wrap" "it is not proved that" src/lib.rt '/requires/d'
+changed "a sum that may wrap" "it is not proved that the sum fits its type" src/lib.rt '/requires/d'
 new_crate
 mkdir -p "$folder/crates/other/src"
 cp "$crate/src/lib.rt" "$folder/crates/other/src"
-refused "a file that no crate has" "in no crate that crates.txt lists, so nothing proves it"
+refused "a file that no crate has" "no check reads $folder/crates/other/src/lib.rt"

@@ -15,8 +15,8 @@ from model_armour import BEGIN, END
 
 ROOT = pathlib.Path(__file__).resolve().parent.parent
 IMAGE = (CORPUS / "keygen-ed25519-ascii.bin").read_bytes()
-# What the scripts run, beside rt.
-COMMANDS = "env bash sh readlink dirname uname tr sed head base64 grep awk flock".split()
+# What the scripts run, beside rt and what rt itself needs.
+COMMANDS = "env bash sh readlink dirname uname tr sed head base64 grep awk flock mkdir cmp cat python3".split()
 
 
 def hold(what, got, wanted):
@@ -71,8 +71,9 @@ def with_script(folder, name, body):
 
 
 def checked_already(folder):
-    """A PATH whose rt answers a check at once: all is built, and the first calls have asked it."""
-    return with_script(folder, "rt", f'[ "$1" = check ] || exec {shutil.which("rt")} "$@"')["PATH"]
+    """A PATH whose rt answers at once that it runs a crate's program: all is built, and the first calls have asked it."""
+    answer = 'echo "rt: running out/${PWD##*/}; as it was built" >&2'
+    return with_script(folder, "rt", f'[ "$1" != run ] || {{ {answer}; exit; }}\nexec {shutil.which("rt")} "$@"')["PATH"]
 
 
 def without(folder, missing):

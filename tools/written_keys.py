@@ -8,7 +8,7 @@ comments. The program `afresh` reads each file and writes its key anew: the same
 checkint. Then `ssh-keygen -y` must find in the new file the public key and the comment of the old one, and the bytes must be
 those of the independent model. Every new key must be written; those whose scalar is short are counted, and the corpus has some.
 The stored corpus is written too; it has RSA keys of up to 8,192 bits.
-It exits with 1 at the first difference. ssh-keygen and the built program are needed (`rt check afresh`).
+It exits with 1 at the first difference. ssh-keygen and the built program are needed (`bash tools/build.sh afresh`).
 """
 import base64
 import pathlib

@@ -11,31 +11,26 @@ cd "$(dirname "$0")"
 # shellcheck source=../../tools/x86_64.sh
 . ../../tools/x86_64.sh
 root=$(cd ../.. && pwd)
-made=$root/target/bench-utf8
 binutils=${SALTORCHARD_CC%gcc}
+# Outside the repository, in which rt takes no crate that crates.txt doesn't list.
+made=$(mktemp -d)
+trap 'rm -rf "$made"' EXIT
 
-# What the project's own check has proved of utf8, where that was done. rt goes by it only if it is of the same files.
-take_proved() { # NAME
-    local kept
-    for kept in rlib/utf8.rlib stamp/utf8; do
-        [ -e "$root/target/$kept" ] || return 0
-        mkdir -p "$made/$1/target/${kept%/*}"
-        cp -r "$root/target/$kept" "$made/$1/target/$kept"
-    done
-}
-
-# The check has no C name of its own. So it is proved in a folder of its own, under a function that only calls it.
+# The check has no C name of its own. So it is proved in a folder of its own, under a function that only calls it. What the project's own
+# check has proved of it, rt takes over where the files are the same.
 prove() { # NAME: proves made/NAME/crates/utf8 and the function NAME over it, and leaves made/NAME/NAME.o
     mkdir -p "$made/$1/crates/$1/src"
-    printf 'utf8:\n%s: utf8\n' "$1" >"$made/$1/crates.txt"
+    printf 'utf8:\n%s staticlib: utf8\n' "$1" >"$made/$1/crates.txt"
     cat >"$made/$1/crates/$1/src/lib.rt" <<RATTLE
-#[no_mangle]
+#![tactic(auto)]
+
+#[unsafe(no_mangle)]
 pub extern "C" fn $1(text: &[u8]) -> bool {
     utf8::is_utf8(text)
 }
 RATTLE
-    (cd "$made/$1" && rt staticlib "$1") >"$made/$1.log" 2>&1 || { cat "$made/$1.log" >&2; exit 1; }
-    (cd "$made/$1" && "${binutils}ar" x "target/staticlib/lib$1.a")
+    (cd "$made/$1/crates/$1" && rt lib --cpu x86-64) >"$made/$1.log" 2>&1 || { cat "$made/$1.log" >&2; exit 1; }
+    (cd "$made/$1" && "${binutils}ar" x "crates/$1/out/lib$1.a")
 }
 
 # How a loop lies in the processor's lines of 64 bytes can double its time. So the code is linked four times, at each place in a line
@@ -52,10 +47,10 @@ place() { # NAME: puts NAME_0, NAME_16, NAME_32 and NAME_48 into made/lib/libNAM
     done
 }
 
-rm -rf "$made"
-mkdir -p "$made/lib" "$made/utf8_now/crates"
-cp -r "$root/crates/utf8" "$made/utf8_now/crates/"
-take_proved utf8_now
+mkdir -p "$made/lib" "$made/utf8_now/crates/utf8"
+for part in src specs proofs; do
+    [ ! -d "$root/crates/utf8/$part" ] || cp -r "$root/crates/utf8/$part" "$made/utf8_now/crates/utf8"
+done
 prove utf8_now
 place utf8_now
 if [ $# -eq 1 ] && [ "$1" != --check ]; then

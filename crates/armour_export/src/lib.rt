@@ -1,6 +1,8 @@
 // Export: bytes as the text of an armoured file.
 //
 // The text's size is known before a byte is written, so a refused export has written nothing.
+#![tactic(auto)]
+
 ghost use Rattle.std.specs.Prelude.{◌≡◌, [], ◌∷◌, ◌++◌, ◌+◌, ◌-◌, ◌/◌, ◌%◌, ◌≤◌, ◌<◌, length, drop};
 ghost use Rattle.std.proofs.lemmas.List.Edits.{sets};
 ghost use Rattle.writer_reply.specs.Reply.{Answers};
@@ -14,7 +16,7 @@ use fields::Refusal;
 use writer_reply::Written;
 
 // Where the next byte of the text goes, how many columns its line has left, and which of the bytes comes next.
-#[derive(Drop)]
+#[derive(Clone, Copy)]
 struct Place {
     at: usize,
     left: usize,

@@ -1,4 +1,6 @@
 // Groups of four signs: how many bytes each gives.
+#![tactic(auto)]
+
 ghost use Rattle.std.specs.Prelude.{◌≡◌, ◌&&◌, cond, eqb};
 ghost use Rattle.armour_signs.specs.Alphabet.{value_of};
 ghost use Rattle.armour_groups.specs.Kinds.{kind_of, one_of, two_of};

@@ -1,6 +1,8 @@
 // Import: the bytes that the text of an armoured file carries.
 //
 // All of the text is judged first, and only then decoded, so a refused import has written nothing.
+#![tactic(auto)]
+
 ghost use Rattle.std.specs.Prelude.{◌≡◌, ◌+◌, ◌/◌, ◌%◌, ◌≤◌, ◌<◌, length, take, drop};
 ghost use Rattle.std.proofs.lemmas.List.Edits.{sets};
 ghost use Rattle.writer_reply.specs.Reply.{Answers};
@@ -18,7 +20,7 @@ use fields::Refusal;
 use writer_reply::Written;
 
 // Four signs, the place after them, and how many columns the last one's line has left.
-#[derive(Drop)]
+#[derive(Clone, Copy)]
 struct Four {
     w: u8,
     x: u8,

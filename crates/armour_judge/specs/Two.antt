@@ -1,5 +1,5 @@
 -- Two whole lines at once: 140 signs are 35 groups, one of which the line end parts, and carry 105 bytes.
-use Rattle.std.specs.Prelude.{ℕ, ◌+◌, ◌*◌, ◌-◌, ◌<◌, ◌≤◌, ◌≡◌, List, ◌∷◌, Bool, true, ◌&&◌, leb, length, get_or}
+use Rattle.std.specs.Prelude.{ℕ, ◌+◌, ◌*◌, ◌<◌, ◌≤◌, ◌≡◌, List, ◌∷◌, Bool, true, ◌&&◌, leb, length, get_or}
 use Rattle.std.proofs.Common.{add_assoc, add-zero, arith, sym, ap, ◌∙◌, leb-true}
 use Rattle.fields.specs.Bytes.{AllBytes, both_true}
 use Rattle.armour_signs.specs.Alphabet.{value_of, all_signs}

@@ -1,6 +1,8 @@
 // Judging a text: whether it is that of some bytes, and of how many.
 //
 // A text is gone through by groups of four signs, where the line may end among them, and by whole lines as long as there are two.
+#![tactic(auto)]
+
 ghost use Rattle.std.specs.Prelude.{◌≡◌, ◌&&◌, suc, ◌+◌, ◌*◌, ◌≤◌, leb, length};
 ghost use Rattle.armour_signs.specs.Alphabet.{all_signs};
 ghost use Rattle.armour_judge.specs.Rest.{rest, Ended};
@@ -12,28 +14,28 @@ ghost use Rattle.armour_judge.specs.Two.{Pairs};
 ghost use Rattle.armour_judge.specs.Judgement.{judge_of};
 
 // The place past a line end.
-#[derive(Drop)]
+#[derive(Clone, Copy)]
 enum Past {
     At(usize),
     Nowhere,
 }
 
 // A sign, the place after it, and how many columns its line has left.
-#[derive(Drop)]
+#[derive(Clone, Copy)]
 enum Sign {
     Is(u8, usize, usize),
     Missing,
 }
 
 // Four signs, the place after them, and how many columns the last one's line has left.
-#[derive(Drop)]
+#[derive(Clone, Copy)]
 enum Group {
     Are(u8, u8, u8, u8, usize, usize),
     Missing,
 }
 
 // How many bytes a text carries, or that it is no list's text.
-#[derive(Drop)]
+#[derive(Clone, Copy)]
 pub enum Judged {
     Count(usize),
     Bad,

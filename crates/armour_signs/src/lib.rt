@@ -1,6 +1,8 @@
 // The alphabet of base64 (RFC 4648, table 1): the sign of each value, the value of each sign, and which bytes are signs.
 //
 // A table is handed out whole, so that a caller builds it once and lends it to what looks into it.
+#![tactic(auto)]
+
 ghost use Rattle.std.specs.Prelude.{◌≡◌, ◌&&◌, ◌+◌, leb, length};
 ghost use Rattle.armour_signs.specs.Alphabet.{signs, value_of, values, is_sign, all_signs};
 

@@ -1,5 +1,7 @@
 // Writing into a lent buffer. A put writes all of its bytes at a place and answers the place past them;
 // where they don't fit it changes nothing and answers the place that it was given.
+#![tactic(auto)]
+
 ghost use Rattle.std.specs.Prelude.{◌≡◌, ◌≤◌, length, take, drop};
 ghost use Rattle.fields.specs.Bytes.{uint32, string};
 ghost use Rattle.format.specs.Format.{padding_length, padding_bytes};

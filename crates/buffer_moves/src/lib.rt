@@ -1,4 +1,6 @@
 // Bytes moved within one lent buffer, to the left or to the right. The two places may overlap.
+#![tactic(auto)]
+
 ghost use Rattle.std.specs.Prelude.{◌≡◌, ◌+◌, ◌≤◌, length};
 ghost use Rattle.buffer_moves.specs.Moves.{run, moved};
 

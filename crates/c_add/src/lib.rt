@@ -1,4 +1,6 @@
 // A key added, for C. A code that names nothing is refused with 4 before all else.
+#![tactic(auto)]
+
 ghost use Rattle.names.specs.declared.Algorithm.TheVariants.{Rsa};
 ghost use Rattle.format.specs.Format.{key_of, of_modulus, of_numbers};
 ghost use Rattle.edit_file.specs.Edits.{add_reply, add_left};
@@ -10,8 +12,7 @@ use names::{Algorithm, AlgorithmName};
 use names_codes::algorithm_coded;
 
 // A key on a curve. RSA's code names nothing here.
-#[unsafe(no_mangle)]
-pub extern "C" fn saltorchard_add_key(
+pub fn saltorchard_add_key(
     buffer: &mut [u8],
     n: usize,
     algorithm: u8,
@@ -33,8 +34,7 @@ pub extern "C" fn saltorchard_add_key(
 }
 
 // An RSA key, whose modulus is m.
-#[unsafe(no_mangle)]
-pub extern "C" fn saltorchard_add_rsa(
+pub fn saltorchard_add_rsa(
     buffer: &mut [u8],
     n: usize,
     m: &[u8],

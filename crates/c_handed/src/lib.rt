@@ -1,4 +1,6 @@
 // A header half that is handed in as plain numbers: the half, if they are an accepted header's.
+#![tactic(auto)]
+
 ghost use Rattle.std.specs.Prelude.{◌≡◌};
 ghost use Rattle.c_handed.specs.Handed.{same_place, same_image, part_of, code_of, rounds_of, half_from, placed_half, half_of};
 
@@ -9,7 +11,7 @@ use names::{Algorithm, AlgorithmName, Cipher, CipherName, Kdf, KdfName};
 use names_codes::{algorithm_coded, cipher_coded, kdf_coded};
 use reader_header::Header;
 
-#[derive(Drop)]
+#[derive(Clone, Copy)]
 pub enum Half {
     Header(Header),
     Forged,

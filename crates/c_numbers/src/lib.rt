@@ -1,5 +1,7 @@
 // What a read found, the header read alone, or of one key, in plain numbers: the structs of the functions for C that
 // read.
+#![tactic(auto)]
+
 ghost use Rattle.std.specs.Prelude.{◌≡◌};
 ghost use Rattle.fields.specs.Fields.{absent};
 ghost use Rattle.c_numbers.specs.Numbers.{place_of, form_code, refused_image, accepted_image, image_of, half_image, header_of, refused_key, accepted_key, looked_key};
@@ -14,14 +16,14 @@ use reader_keys::Looked;
 
 // Where a field stands; 0 and 0 where the image has none.
 #[repr(C)]
-#[derive(Drop)]
+#[derive(Clone, Copy)]
 pub struct Place {
     pub start: u64,
     pub length: u64,
 }
 
 #[repr(C)]
-#[derive(Drop)]
+#[derive(Clone, Copy)]
 pub struct Image {
     pub number: u64,
     pub count: u64,
@@ -54,7 +56,7 @@ pub struct Image {
 
 // One key of an image.
 #[repr(C)]
-#[derive(Drop)]
+#[derive(Clone, Copy)]
 pub struct Key {
     pub number: u64,
     pub count: u64,

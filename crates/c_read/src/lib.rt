@@ -1,12 +1,13 @@
 // The full read for C.
+#![tactic(auto)]
+
 ghost use Rattle.std.specs.Prelude.{◌≡◌};
 ghost use Rattle.reader_image.specs.Form.{form_read_at};
 ghost use Rattle.c_numbers.specs.Numbers.{image_of};
 
 use c_numbers::{Image, image_of};
 
-#[unsafe(no_mangle)]
-pub extern "C" fn saltorchard_read(image: &[u8]) -> Image
+pub fn saltorchard_read(image: &[u8]) -> Image
     ensures { result ≡ image_of (form_read_at image.now) }
 {
     image_of(reader_image::read_with_form(image))

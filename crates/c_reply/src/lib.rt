@@ -1,4 +1,6 @@
 // What a writer answered, in plain numbers: the struct of the functions for C that write.
+#![tactic(auto)]
+
 ghost use Rattle.std.specs.Prelude.{◌≡◌};
 ghost use Rattle.c_reply.specs.Replies.{names_nothing, reply_of};
 
@@ -6,7 +8,7 @@ use fields::Refusal;
 use writer_reply::Written;
 
 #[repr(C)]
-#[derive(Drop)]
+#[derive(Clone, Copy)]
 pub struct Reply {
     pub number: u64,
     pub count: u64,

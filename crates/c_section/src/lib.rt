@@ -1,4 +1,6 @@
 // The section read for C. Before all else a half that isn't the image's is refused with 1.
+#![tactic(auto)]
+
 ghost use Rattle.std.specs.Prelude.{◌≡◌};
 ghost use Rattle.c_section.specs.Sections.{forged_half, section_c};
 
@@ -17,8 +19,7 @@ fn forged_half() -> Image
 }
 
 // The section that goes on from a header, with all that a full read answers.
-#[unsafe(no_mangle)]
-pub extern "C" fn saltorchard_read_section(image: &[u8], header: Image) -> Image
+pub fn saltorchard_read_section(image: &[u8], header: Image) -> Image
     ensures { result ≡ section_c image.now header }
 {
     match half_of(header) {

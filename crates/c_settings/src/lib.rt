@@ -1,4 +1,6 @@
 // Reconnect settings for C: a record by itself, and the store.
+#![tactic(auto)]
+
 ghost use Rattle.std.specs.Prelude.{◌≡◌};
 ghost use Rattle.setting_record.specs.Record.{read_reply, write_reply, write_left};
 ghost use Rattle.setting_store.specs.Store.{get_reply, put_reply, put_left};
@@ -11,7 +13,7 @@ use setting_record::Answer;
 
 // A setting in plain numbers. Refused or empty, all after `number` is 0.
 #[repr(C)]
-#[derive(Drop)]
+#[derive(Clone, Copy)]
 pub struct Setting {
     pub number: u64,
     pub used: u64,
@@ -49,16 +51,14 @@ fn setting_of(answer: Answer) -> Setting
 }
 
 // A record by itself.
-#[unsafe(no_mangle)]
-pub extern "C" fn saltorchard_read_setting(bytes: &[u8]) -> Setting
+pub fn saltorchard_read_setting(bytes: &[u8]) -> Setting
     ensures { result ≡ setting_of (read_reply bytes.now) }
 {
     setting_of(setting_record::read(bytes))
 }
 
 // A record, into four lent bytes.
-#[unsafe(no_mangle)]
-pub extern "C" fn saltorchard_write_setting(
+pub fn saltorchard_write_setting(
     version: u8,
     kind: u8,
     milliseconds: u64,
@@ -70,16 +70,14 @@ pub extern "C" fn saltorchard_write_setting(
 }
 
 // A device's setting, or that its place is empty.
-#[unsafe(no_mangle)]
-pub extern "C" fn saltorchard_store_get(store: &[u8], device: u64) -> Setting
+pub fn saltorchard_store_get(store: &[u8], device: u64) -> Setting
     ensures { result ≡ setting_of (get_reply store.now device) }
 {
     setting_of(setting_store::get(store, device))
 }
 
 // A device's record, into its place.
-#[unsafe(no_mangle)]
-pub extern "C" fn saltorchard_store_put(
+pub fn saltorchard_store_put(
     store: &mut [u8],
     device: u64,
     version: u8,
@@ -92,8 +90,7 @@ pub extern "C" fn saltorchard_store_put(
 }
 
 // A store, moved to version 2.
-#[unsafe(no_mangle)]
-pub extern "C" fn saltorchard_store_move(store: &mut [u8]) -> Reply
+pub fn saltorchard_store_move(store: &mut [u8]) -> Reply
     ensures { AnswersC (move_reply store.old) (move_left store.old) result store.new }
 {
     reply_of(setting_store::move_to_v2(store))

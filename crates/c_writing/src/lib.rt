@@ -1,4 +1,6 @@
 // The writers for C. A code that names nothing is refused with 4 before all else.
+#![tactic(auto)]
+
 ghost use Rattle.std.specs.Prelude.{◌≡◌, false, length};
 ghost use Rattle.names.specs.declared.Algorithm.TheVariants.{Rsa};
 ghost use Rattle.format.specs.Format.{of_modulus, of_numbers};
@@ -31,8 +33,7 @@ fn given_checkint(derive: u8, given: u32) -> Checkint
 }
 
 // Keys on a curve. RSA has a writer of its own, and its code names nothing here.
-#[unsafe(no_mangle)]
-pub extern "C" fn saltorchard_write_plain(
+pub fn saltorchard_write_plain(
     algorithm: u8,
     public: &[u8],
     private: &[u8],
@@ -59,8 +60,7 @@ pub extern "C" fn saltorchard_write_plain(
     }
 }
 
-#[unsafe(no_mangle)]
-pub extern "C" fn saltorchard_write_rsa(
+pub fn saltorchard_write_rsa(
     n: &[u8],
     e: &[u8],
     d: &[u8],
@@ -89,8 +89,7 @@ pub extern "C" fn saltorchard_write_rsa(
 
 // 1 to 16 keys of any kind, 19 numbers each: the algorithm's code, then start and length within the bytes of
 // public, private, comment, n, e, d, iqmp, p and q.
-#[unsafe(no_mangle)]
-pub extern "C" fn saltorchard_write_keys(
+pub fn saltorchard_write_keys(
     keys: &[usize],
     bytes: &[u8],
     derive: u8,
@@ -102,8 +101,7 @@ pub extern "C" fn saltorchard_write_keys(
     reply_of(writer_keys::write_keys(bytes, keys, given_checkint(derive, checkint), out))
 }
 
-#[unsafe(no_mangle)]
-pub extern "C" fn saltorchard_write_encrypted(
+pub fn saltorchard_write_encrypted(
     cipher: u8,
     kdf: u8,
     salt: &[u8],

@@ -57,8 +57,8 @@ scalar_in s f i = (key_in s f i).private.scalar
 abbrev pub EachMay : List ℕ → List Key → Type 0
 EachMay [] [] = Unit {0}
 EachMay [] (k ∷ keys) = ⊥
-EachMay (zeros ∷ more) [] = ⊥
-EachMay (zeros ∷ more) (k ∷ keys) = MayStand k.algorithm zeros k.private × EachMay more keys
+EachMay (z ∷ more) [] = ⊥
+EachMay (z ∷ more) (k ∷ keys) = MayStand k.algorithm z k.private × EachMay more keys
 
 -- the image is what the format writes of its keys, with so many zeros before the scalar of each, and as many may stand there
 abbrev pub Stands : List ℕ → Fields → List ℕ → Type 0
@@ -77,23 +77,29 @@ pub data Slip (s : List ℕ) (f : Fields) : Type 0 where
 
 -- that a key's string, zeros and scalar, is RFC 4251's mpint, positive and minimal; only ECDSA's has to be
 abbrev pub is_minimal : Algorithm → ℕ → PrivateBytes → Bool
-is_minimal (OnCurve Ed25519) zeros x = true
-is_minimal (OnCurve (Ecdsa k)) zeros x = is_mpint (standing zeros x.scalar)
-is_minimal Rsa zeros x = true
+is_minimal (OnCurve Ed25519) z x = true
+is_minimal (OnCurve (Ecdsa k)) z x = is_mpint (standing z x.scalar)
+is_minimal Rsa z x = true
 
 abbrev pub all_minimal : List ℕ → List Key → Bool
 all_minimal [] keys = true
-all_minimal (zeros ∷ more) [] = true
-all_minimal (zeros ∷ more) (k ∷ keys) = is_minimal k.algorithm zeros k.private && all_minimal more keys
+all_minimal (z ∷ more) [] = true
+all_minimal (z ∷ more) (k ∷ keys) = is_minimal k.algorithm z k.private && all_minimal more keys
 
 -- ---- keys that fit
 
 fit_each : (zs : List ℕ) (keys : List Key) → AllFit zs keys → EachMay zs keys
+fit_each [] (k ∷ keys) fits = elim fits [ ]
+fit_each (z ∷ zs) [] fits = elim fits [ ]
 fit_each [] [] fits = tt
 fit_each (z ∷ zs) (k ∷ keys) fits = (fits.0.may, fit_each zs keys fits.1)
 
 -- also with other zeros, as many as may stand
 fit_other : (zs ws : List ℕ) (keys : List Key) → AllFit zs keys → EachMay ws keys → AllFit ws keys
+fit_other [] [] (k ∷ keys) fits may = elim fits [ ]
+fit_other [] (w ∷ ws) (k ∷ keys) fits may = elim fits [ ]
+fit_other (z ∷ zs) [] [] fits may = elim fits [ ]
+fit_other (z ∷ zs) (w ∷ ws) [] fits may = elim fits [ ]
 fit_other [] [] [] fits may = tt
 fit_other [] (w ∷ ws) [] fits may = absurd may
 fit_other (z ∷ zs) [] (k ∷ keys) fits may = absurd may
@@ -104,6 +110,8 @@ fit_other (z ∷ zs) (w ∷ ws) (k ∷ keys) fits may =
 pub fit_at :
     (zs : List ℕ) (keys : List Key) → AllFit zs keys → (i : ℕ) → i < length keys
     → KeyFits (get_or keys i no_key).algorithm (get_or zs i 0) (get_or keys i no_key).public (get_or keys i no_key).private (get_or keys i no_key).comment
+fit_at [] (k ∷ keys) fits i h = elim fits [ ]
+fit_at (z ∷ zs) [] fits i h = elim fits [ ]
 fit_at [] [] fits i h = absurd (omega arith)
 fit_at (z ∷ zs) (k ∷ keys) fits zero h = fits.0
 fit_at (z ∷ zs) (k ∷ keys) fits (suc i) h = fit_at zs keys fits.1 i (omega arith)
@@ -135,15 +143,17 @@ key_minimal (OnCurve (Ecdsa k)) zeros key x fits may = sym (mpint_standing zeros
 key_minimal Rsa zeros key x fits may = eq-eqb 0 zeros (sym may)
 
 pub keys_minimal : (zs : List ℕ) (keys : List Key) → AllFit zs keys → same_bytes (map key_zeros keys) zs ≡ all_minimal zs keys
+keys_minimal [] (k ∷ keys) fits = elim fits [ ]
+keys_minimal (z ∷ zs) [] fits = elim fits [ ]
 keys_minimal [] [] fits = refl
 keys_minimal (z ∷ zs) (k ∷ keys) fits =
     ap₂ ◌&&◌ (key_minimal k.algorithm z k.public k.private fits.0.private fits.0.may) (keys_minimal zs keys fits.1)
 
 -- a key that isn't ECDSA's has nothing to be minimal
 no_scalar : (a : Algorithm) (zeros : ℕ) (x : PrivateBytes) → ((k : Curve) → a ≡ OnCurve (Ecdsa k) → ⊥) → is_minimal a zeros x ≡ true
-no_scalar (OnCurve Ed25519) zeros x other = refl
-no_scalar (OnCurve (Ecdsa k)) zeros x other = absurd (other k refl)
-no_scalar Rsa zeros x other = refl
+no_scalar (OnCurve Ed25519) z x other = refl
+no_scalar (OnCurve (Ecdsa k)) z x other = absurd (other k refl)
+no_scalar Rsa z x other = refl
 
 no_scalars :
     (zs : List ℕ) (keys : List Key) → ((i : ℕ) (k : Curve) → (get_or keys i no_key).algorithm ≡ OnCurve (Ecdsa k) → ⊥) → all_minimal zs keys ≡ true
@@ -156,6 +166,8 @@ no_scalars (z ∷ zs) (k ∷ keys) other =
 differ_at :
     (zs : List ℕ) (keys : List Key) → AllFit zs keys → same_bytes (map key_zeros keys) zs ≡ false
     → (i : ℕ) × (i < length keys) × (eqb (key_zeros (get_or keys i no_key)) (get_or zs i 0) ≡ false)
+differ_at [] (k ∷ keys) fits e = elim fits [ ]
+differ_at (z ∷ zs) [] fits e = elim fits [ ]
 differ_at [] [] fits e = clash cc
 differ_at (z ∷ zs) (k ∷ keys) fits e =
     by_bool (eqb (key_zeros k) z)

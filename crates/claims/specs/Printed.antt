@@ -58,29 +58,29 @@ use Rattle.claims.specs.Rsa.{first_found, bits-told}
 
 -- the keypair's length, by the kind, a scalar's length and how many zeros stand before it, and RSA's numbers' lengths
 abbrev pub pair_length : Algorithm → ℕ → PublicBytes → PrivateBytes → ℕ
-pair_length (OnCurve Ed25519) zeros key x = 119
-pair_length (OnCurve (Ecdsa k)) zeros key x = 40 + 2 * size_of k + (4 + zeros + length x.scalar)
-pair_length Rsa zeros key x = keypair_length Rsa key x
+pair_length (OnCurve Ed25519) z key x = 119
+pair_length (OnCurve (Ecdsa k)) z key x = 40 + 2 * size_of k + (4 + z + length x.scalar)
+pair_length Rsa z key x = keypair_length Rsa key x
 
 pair_length_lem :
     (a : Algorithm) (zeros : ℕ) (key : PublicBytes) (x : PrivateBytes) (comment : List ℕ) → KeyFits a zeros key x comment
     → length (keypair a zeros key x) ≡ pair_length a zeros key x
 unfolding keypair
-pair_length_lem (OnCurve Ed25519) zeros key x comment fits =
+pair_length_lem (OnCurve Ed25519) z key x comment fits =
     simp (length-append, length-string, length-replicate) (omega (arith, fits.public.0, fits.private.0, fits.may))
-pair_length_lem (OnCurve (Ecdsa Nistp256)) zeros key x comment fits =
+pair_length_lem (OnCurve (Ecdsa Nistp256)) z key x comment fits =
     simp (length-append, length-string, length-replicate) (omega (arith, fits.public.0))
-pair_length_lem (OnCurve (Ecdsa Nistp384)) zeros key x comment fits =
+pair_length_lem (OnCurve (Ecdsa Nistp384)) z key x comment fits =
     simp (length-append, length-string, length-replicate) (omega (arith, fits.public.0))
-pair_length_lem (OnCurve (Ecdsa Nistp521)) zeros key x comment fits =
+pair_length_lem (OnCurve (Ecdsa Nistp521)) z key x comment fits =
     simp (length-append, length-string, length-replicate) (omega (arith, fits.public.0))
-pair_length_lem Rsa zeros key x comment fits = simp (length-append, length-string) (omega arith)
+pair_length_lem Rsa z key x comment fits = simp (length-append, length-string) (omega arith)
 
 -- of several keys their entries, with each comment, and their blobs
 abbrev pub entries_size : List ℕ → List Key → ℕ
 entries_size [] keys = 0
-entries_size (zeros ∷ more) [] = 0
-entries_size (zeros ∷ more) (k ∷ keys) = pair_length k.algorithm zeros k.public k.private + (4 + length k.comment) + entries_size more keys
+entries_size (z ∷ more) [] = 0
+entries_size (z ∷ more) (k ∷ keys) = pair_length k.algorithm z k.public k.private + (4 + length k.comment) + entries_size more keys
 
 abbrev pub blobs_size : List Key → ℕ
 blobs_size [] = 0
@@ -99,15 +99,19 @@ shown zs keys =
     (same_bytes (map key_zeros keys) zs)
 
 lengths_fit : (a : Algorithm) (zeros : ℕ) (key : PublicBytes) (x : PrivateBytes) (comment : List ℕ) → KeyFits a zeros key x comment → LengthsFit a key x
-lengths_fit (OnCurve e) zeros key x comment fits = (fits.public.0, fits_allowed e x.scalar fits.private.0)
-lengths_fit Rsa zeros key x comment fits = tt
+lengths_fit (OnCurve e) z key x comment fits = (fits.public.0, fits_allowed e x.scalar fits.private.0)
+lengths_fit Rsa z key x comment fits = tt
 
 entries_size_lem : (zs : List ℕ) (keys : List Key) → AllFit zs keys → entries_length (standing_entries zs keys) ≡ entries_size zs keys
+entries_size_lem [] (k ∷ keys) fits = elim fits [ ]
+entries_size_lem (z ∷ zs) [] fits = elim fits [ ]
 entries_size_lem [] [] fits = refl
 entries_size_lem (z ∷ zs) (k ∷ keys) fits =
     rw (pair_length_lem k.algorithm z k.public k.private k.comment fits.0, entries_size_lem zs keys fits.1)
 
 blobs_size_lem : (zs : List ℕ) (keys : List Key) → AllFit zs keys → blobs_length (map key_blob keys) ≡ blobs_size keys
+blobs_size_lem [] (k ∷ keys) fits = elim fits [ ]
+blobs_size_lem (z ∷ zs) [] fits = elim fits [ ]
 blobs_size_lem [] [] fits = refl
 blobs_size_lem (z ∷ zs) (k ∷ keys) fits =
     rw (
@@ -179,10 +183,12 @@ AllAlike (k ∷ keys) (l ∷ others) = ((e : Elliptic) × Alike e k l) × AllAli
 alike_pair :
     (e : Elliptic) (zeros : ℕ) (key : PublicBytes) (x : PrivateBytes) (key' : PublicBytes) (x' : PrivateBytes) → length x.scalar ≡ length x'.scalar
     → pair_length (OnCurve e) zeros key x ≡ pair_length (OnCurve e) zeros key' x'
-alike_pair Ed25519 zeros key x key' x' long = refl
-alike_pair (Ecdsa k) zeros key x key' x' long = rw long
+alike_pair Ed25519 z key x key' x' long = refl
+alike_pair (Ecdsa k) z key x key' x' long = rw long
 
 alike_entries : (zs : List ℕ) (keys others : List Key) → AllAlike keys others → entries_size zs keys ≡ entries_size zs others
+alike_entries (z ∷ zs) [] (l ∷ others) same = elim same [ ]
+alike_entries (z ∷ zs) (k ∷ keys) [] same = elim same [ ]
 alike_entries [] keys others same = refl
 alike_entries (z ∷ zs) [] [] same = refl
 alike_entries (z ∷ zs) (k ∷ keys) (l ∷ others) same =
@@ -196,10 +202,14 @@ alike_entries (z ∷ zs) (k ∷ keys) (l ∷ others) same =
     )
 
 alike_blobs : (keys others : List Key) → AllAlike keys others → blobs_size keys ≡ blobs_size others
+alike_blobs [] (l ∷ others) same = elim same [ ]
+alike_blobs (k ∷ keys) [] same = elim same [ ]
 alike_blobs [] [] same = refl
 alike_blobs (k ∷ keys) (l ∷ others) same = let a = same.0.1 in rw (a.kind, a.also_kind, alike_blobs keys others same.1)
 
 alike_zeros : (keys others : List Key) → AllAlike keys others → map key_zeros keys ≡ map key_zeros others
+alike_zeros [] (l ∷ others) same = elim same [ ]
+alike_zeros (k ∷ keys) [] same = elim same [ ]
 alike_zeros [] [] same = refl
 alike_zeros (k ∷ keys) (l ∷ others) same = let a = same.0.1 in rw (a.kind, a.also_kind, a.rule, alike_zeros keys others same.1)
 
@@ -208,6 +218,8 @@ alike_first :
     → ((get_or keys 0 no_key).algorithm ≡ (get_or others 0 no_key).algorithm)
     × (bits (get_or keys 0 no_key).public.modulus ≡ bits (get_or others 0 no_key).public.modulus)
     × (length (get_or keys 0 no_key).comment ≡ length (get_or others 0 no_key).comment)
+alike_first [] (l ∷ others) same = elim same [ ]
+alike_first (k ∷ keys) [] same = elim same [ ]
 alike_first [] [] same = (refl, refl, refl)
 alike_first (k ∷ keys) (l ∷ others) same =
     let a = same.0.1 in
@@ -342,6 +354,8 @@ next_entry :
     (zs : List ℕ) (keys : List Key) (i : ℕ) → AllFit zs keys → i < length keys
     → entries_length (take (suc i) (standing_entries zs keys))
     ≡ entries_length (take i (standing_entries zs keys)) + (length (get_or (standing_entries zs keys) i (entry [] [])).pair + (4 + length (get_or keys i no_key).comment))
+next_entry [] (k ∷ keys) i fits h = elim fits [ ]
+next_entry (z ∷ zs) [] i fits h = elim fits [ ]
 next_entry [] [] i fits h = absurd (omega arith)
 next_entry (z ∷ zs) (k ∷ keys) zero fits h = omega arith
 next_entry (z ∷ zs) (k ∷ keys) (suc i) fits h = omega (arith, next_entry zs keys i fits.1 (omega arith))
@@ -409,6 +423,8 @@ SameShown (k ∷ keys) (l ∷ others) =
     (k.algorithm ≡ l.algorithm) × (bits k.public.modulus ≡ bits l.public.modulus) × (length k.comment ≡ length l.comment) × SameShown keys others
 
 same_shown : (k : ℕ) (keys others : List Key) → SameShown keys others → keys_shown k keys ≡ keys_shown k others
+same_shown k [] (y ∷ others) same = elim same [ ]
+same_shown k (x ∷ keys) [] same = elim same [ ]
 same_shown k [] [] same = refl
 same_shown k (x ∷ keys) (y ∷ others) same = rw (same.0, same.1, same.2, same_shown (k + 1) keys others same.3)
 

@@ -183,6 +183,8 @@ no_seal s f e plain =
 
 -- keys that fit, with the zeros that the rule asks for
 rule_fit : (zs : List ℕ) (keys : List Key) → AllFit zs keys → AllFit (map key_zeros keys) keys
+rule_fit [] (k ∷ keys) fits = elim fits [ ]
+rule_fit (z ∷ zs) [] fits = elim fits [ ]
 rule_fit [] [] fits = tt
 rule_fit (z ∷ zs) (k ∷ keys) fits =
     let own = fits.0 in

@@ -1,5 +1,7 @@
 // A key's comment changed in place. All before the comment's field stays, but the four bytes of the section's
 // length; what follows the comment moves, and what the old image had more than the new one becomes zero.
+#![tactic(auto)]
+
 ghost use Rattle.std.specs.Prelude.{◌≡◌, ◌+◌, ◌≤◌};
 ghost use Rattle.edit_file.specs.declared.Editable.TheVariants as editable;
 ghost use Rattle.edit_file.specs.Edits.{editable_at, IsChange};

@@ -1,10 +1,12 @@
 // Reads a text armour from standard input and writes the bytes that it carries to standard output. A refusal,
 // and why a read or a write failed, stands on standard error. A text of a mebibyte or more, which
 // is more than ten times the longest that is taken, is above the limit whatever it holds.
+#![tactic(auto)]
+
 ghost use Rattle.std.specs.Prelude.{◌≡◌, length};
 
 use fields::{Fault, Refusal};
-use libc::STDIN_FILENO;
+use std::io;
 
 // The `ensures` gives only the length, which is all that lending it needs.
 fn mebibyte() -> [u8; 1048576]
@@ -13,23 +15,33 @@ fn mebibyte() -> [u8; 1048576]
     [0; 1048576]
 }
 
-fn main() {
+fn main(rt: HostRuntime) -> io::Result<()> {
     let mut text = mebibyte();
-    let n = io::read_full(STDIN_FILENO, &mut text);
+    let taken = standard_streams::take_input(
+        &mut rt.stdin(),
+        &mut rt.stderr(),
+        &mut text,
+        b"dearmour: standard input",
+    )?;
+    let Some(n) = taken else {
+        return Ok(());
+    };
     if n == 1048576 {
-        standard_streams::tell_refused(Fault {
-            why: Refusal::Size,
-            at: 0,
-        });
-        return;
-    }
-    let mut one = [0u8; 1];
-    let got = libc::read(STDIN_FILENO, &mut one);
-    if got != 0 {
-        standard_streams::tell_unread(got, b"dearmour: standard input");
-        return;
+        return standard_streams::tell_refused(
+            &mut rt.stderr(),
+            Fault {
+                why: Refusal::Size,
+                at: 0,
+            },
+        );
     }
     let mut bytes = [0u8; 65535];
     let written = armour_import::import(&text[..n], &mut bytes);
-    standard_streams::hand_out(written, &bytes, b"dearmour: standard output");
+    standard_streams::hand_out(
+        &mut rt.stdout(),
+        &mut rt.stderr(),
+        written,
+        &bytes,
+        b"dearmour: standard output",
+    )
 }

@@ -1,5 +1,7 @@
 // Room for one key more made in place, at places that the caller has found: a gap for its blob's string
 // after the last blob, and one for its entry after the last entry. The caller then puts the key.
+#![tactic(auto)]
+
 ghost use Rattle.edit_shells.specs.Shells.{opened_at, opened_size};
 ghost use Rattle.edit_shells.specs.Edits.{added_by_places, IsOpened, IsRoomMade};
 ghost use Rattle.edit_add.specs.Open.{Ordered};

@@ -1,5 +1,7 @@
 // The comment of one key changed in place, at places that the caller has found. What follows it moves, and
 // what the old image had more than the new one becomes zero.
+#![tactic(auto)]
+
 ghost use Rattle.edit_shells.specs.Shells.{changed_at};
 ghost use Rattle.edit_shells.specs.Edits.{changed_by_places, IsEdit, IsRenewed};
 ghost use Rattle.edit_change.specs.Change.{Ordered};

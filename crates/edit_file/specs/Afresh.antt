@@ -31,6 +31,8 @@ use Rattle.edit_file.specs.Stand.{Edited, edited}
 -- ---- lists that fit
 
 pub all_fit : (zs : List ℕ) (keys : List Key) → Stand zs keys → AllFit keys
+all_fit [] (k ∷ keys) fits = elim fits [ ]
+all_fit (z ∷ zs) [] fits = elim fits [ ]
 all_fit [] [] fits = tt
 all_fit (z ∷ zs) (k ∷ keys) fits = (fits.0.public, fits.0.private, fits.0.text, all_fit zs keys fits.1)
 

@@ -1,5 +1,7 @@
 // The image that an edit is given: the first n bytes of a lent buffer, which have to be an accepted plain image in the
 // writer's form.
+#![tactic(auto)]
+
 ghost use Rattle.std.specs.Prelude.{◌≡◌};
 ghost use Rattle.reader_image.specs.Container.{read_at};
 ghost use Rattle.reader_image.specs.Form.{form_of};
@@ -10,7 +12,7 @@ use fields::{Fault, Refusal};
 use reader_image::{Fields, ImageRead};
 use reader_section::Kind;
 
-#[derive(Drop)]
+#[derive(Clone, Copy)]
 pub enum Editable {
     Image(Fields),
     Refused(Fault),

@@ -1,5 +1,7 @@
 // One key removed in place, at places that the caller has found. The rest moves up, and what the old image
 // had more than the new one becomes zero.
+#![tactic(auto)]
+
 ghost use Rattle.edit_shells.specs.Shells.{removed_at};
 ghost use Rattle.edit_shells.specs.Edits.{removed_by_places, IsEdit, IsRenewed};
 ghost use Rattle.edit_remove.specs.Remove.{Ordered};

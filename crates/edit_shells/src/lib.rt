@@ -1,5 +1,7 @@
 // What the edits of an image of several keys have in common: the test of the places that they are given,
 // and how the new image ends.
+#![tactic(auto)]
+
 ghost use Rattle.std.specs.Prelude.{◌≡◌};
 ghost use Rattle.edit_shells.specs.Parts.{rises};
 ghost use Rattle.edit_shells.specs.Edits.{IsEnding};

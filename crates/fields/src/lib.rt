@@ -2,13 +2,15 @@
 //
 // The place is a value: each step takes it and answers the place moved on, or the refusal with the
 // byte of the image at which the failing field began.
+#![tactic(auto)]
+
 ghost use Rattle.std.specs.Prelude.{◌≡◌, ◌-◌, get_or};
 ghost use Rattle.fields.specs.Bytes.{same_bytes};
 ghost use Rattle.fields.specs.Fields.{has_room, number4, uint32_at, bytes_at, string_at, fixed_at, end_at, IsView};
 ghost use Rattle.fields.specs.Refusals.{number_of, count_of};
 
 // Why an image, a comment or a buffer is refused.
-#[derive(Drop)]
+#[derive(Clone, Copy)]
 pub enum Refusal {
     Length,
     FormatEncoding,
@@ -64,39 +66,39 @@ impl Refusal {
 }
 
 // A refusal, and the byte of the image at which the field that it belongs to began.
-#[derive(Drop)]
+#[derive(Clone, Copy)]
 pub struct Fault {
     pub why: Refusal,
     pub at: usize,
 }
 
 // A part of the image, without its length bytes. A field that is absent has start and length 0.
-#[derive(Drop)]
+#[derive(Clone, Copy)]
 pub struct Part {
     pub start: usize,
     pub length: usize,
 }
 
 // A place in the image, and the end of the part that encloses it.
-#[derive(Drop)]
+#[derive(Clone, Copy)]
 pub struct Cursor {
     pub at: usize,
     pub end: usize,
 }
 
-#[derive(Drop)]
+#[derive(Clone, Copy)]
 pub enum Uint32 {
     Value(u32, Cursor),
     Refused(Fault),
 }
 
-#[derive(Drop)]
+#[derive(Clone, Copy)]
 pub enum Field {
     Part(Part, Cursor),
     Refused(Fault),
 }
 
-#[derive(Drop)]
+#[derive(Clone, Copy)]
 pub enum Ending {
     Clean,
     Refused(Fault),

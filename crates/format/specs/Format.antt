@@ -92,8 +92,8 @@ blob a key = join (string (algorithm_name a) ∷ public_fields a key)
 
 -- a keypair: the same with the private bytes after it, or RSA's mpints n, e, d, iqmp, p, q
 abbrev pub pair_fields : Algorithm → ℕ → PublicBytes → PrivateBytes → List (List ℕ)
-pair_fields (OnCurve e) zeros key x = curve_field e ∷ string key.point ∷ private_field e key.point (standing zeros x.scalar) ∷ []
-pair_fields Rsa zeros key x =
+pair_fields (OnCurve e) z key x = curve_field e ∷ string key.point ∷ private_field e key.point (standing z x.scalar) ∷ []
+pair_fields Rsa z key x =
     string key.modulus ∷ string key.exponent ∷ string x.d ∷ string x.iqmp ∷ string x.p ∷ string x.q ∷ []
 
 unfoldable pub keypair : Algorithm → ℕ → PublicBytes → PrivateBytes → List ℕ
@@ -276,8 +276,8 @@ written_entry k = entry (written_pair k.algorithm k.public k.private) k.comment
 -- keys' entries, so many zeros before the scalar of each
 abbrev pub standing_entries : List ℕ → List Key → List Entry
 standing_entries [] keys = []
-standing_entries (zeros ∷ more) [] = []
-standing_entries (zeros ∷ more) (k ∷ keys) = standing_entry zeros k ∷ standing_entries more keys
+standing_entries (z ∷ more) [] = []
+standing_entries (z ∷ more) (k ∷ keys) = standing_entry z k ∷ standing_entries more keys
 
 -- the image that the writer makes: each scalar stands as the minimal mpint
 unfoldable pub written_image : ℕ → List Key → List ℕ

@@ -120,14 +120,18 @@ image_body n keys es fs e =
 abbrev pub AllMay : List ℕ → List Key → Type 0
 AllMay [] [] = Unit {0}
 AllMay [] (k ∷ keys) = ⊥
-AllMay (zeros ∷ more) [] = ⊥
-AllMay (zeros ∷ more) (k ∷ keys) = (length k.private.scalar < 67) × MayStand k.algorithm zeros k.private × AllMay more keys
+AllMay (z ∷ zs) [] = ⊥
+AllMay (z ∷ zs) (k ∷ keys) = (length k.private.scalar < 67) × MayStand k.algorithm z k.private × AllMay zs keys
 
 -- entries of the same keys that begin the same bytes have their scalars in the same form
 entries_same :
     (keys : List Key) (zs ws t u : List ℕ) → AllMay zs keys → AllMay ws keys
     → join (entry_fields (standing_entries zs keys)) ++ t ≡ join (entry_fields (standing_entries ws keys)) ++ u → zs ≡ ws
 entries_same [] [] [] t u mz mw e = refl
+entries_same [] [] (w ∷ ws) t u mz mw e = elim mw [ ]
+entries_same [] (z ∷ zs) ws t u mz mw e = elim mz [ ]
+entries_same (k ∷ keys) [] ws t u mz mw e = elim mz [ ]
+entries_same (k ∷ keys) (z ∷ zs) [] t u mz mw e = elim mw [ ]
 entries_same (k ∷ keys) (z ∷ zs) (w ∷ ws) t u mz mw e =
     let pair : ℕ → List ℕ = λ v. keypair k.algorithm v k.public k.private in
     let tail : List ℕ → List ℕ → List ℕ = λ vs l. join (entry_fields (standing_entries vs keys)) ++ l in

@@ -1,4 +1,6 @@
 // Halves that are handed in: is every field what an accepted header read of the image gives?
+#![tactic(auto)]
+
 ghost use Rattle.std.specs.Prelude.{◌≡◌};
 ghost use Rattle.handed_header.specs.Halves.{same_part, same_public, same_header, is_header};
 

@@ -1,4 +1,6 @@
 // Records that are handed in: is every field what an accepted read of the image gives?
+#![tactic(auto)]
+
 ghost use Rattle.std.specs.Prelude.{◌≡◌};
 ghost use Rattle.handed_record.specs.Judge.{kind_code, same_private, same_section, is_read};
 

@@ -1,5 +1,7 @@
 // The inspection's lines: what an image is, by its kind, names, lengths and form, or how it is refused, and
 // at which byte. What writes them is handed those, and no byte of the image.
+#![tactic(auto)]
+
 ghost use Rattle.fields.specs.Bytes.{ascii, join};
 ghost use Rattle.fields.specs.Fields.{view_of};
 ghost use Rattle.buffer.specs.Decimal.{decimal};

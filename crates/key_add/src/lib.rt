@@ -1,5 +1,7 @@
 // A key added in place, last, to the image that the first n bytes of a lent buffer are. All is checked, in the
 // rules' order, before a byte changes; then room is made, and the key is put into it.
+#![tactic(auto)]
+
 ghost use Rattle.std.specs.Prelude.{◌≡◌};
 ghost use Rattle.names.specs.declared.Algorithm.TheVariants.{Elliptic as OnCurve, Rsa};
 ghost use Rattle.format.specs.Format.{key_of, of_point, of_scalar, of_modulus, of_numbers};

@@ -1,4 +1,6 @@
 // The material for a new key, and its checkint.
+#![tactic(auto)]
+
 ghost use Rattle.std.specs.Prelude.{◌≡◌, ◌+◌, ◌<◌, ◌^◌, length};
 ghost use Rattle.format.specs.Format.{standing, scalar_filled};
 ghost use Rattle.key_material.specs.Material.{private_of, derived_checkint, checkint_of, zeros_missing, material_of};
@@ -8,7 +10,7 @@ use names::Elliptic;
 
 // Key material for a new image: one value with room for 133 public and 66 private bytes and their lengths,
 // the kind as an enum beside them. A length above its room holds no bytes.
-#[derive(Drop)]
+#[derive(Clone, Copy)]
 pub struct Material {
     pub algorithm: Elliptic,
     pub public: [u8; 133],
@@ -18,7 +20,7 @@ pub struct Material {
 }
 
 // The checkint of a new image.
-#[derive(Drop)]
+#[derive(Clone, Copy)]
 pub enum Checkint {
     Given(u32),
     Derived,

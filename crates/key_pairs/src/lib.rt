@@ -1,4 +1,6 @@
 // Scalars and keypairs, as a plain section has them.
+#![tactic(auto)]
+
 ghost use Rattle.std.specs.Prelude.{◌≡◌, ◌-◌, cond, ltb};
 ghost use Rattle.fields.specs.Fields.{fault, absent, view_of};
 ghost use Rattle.fields.specs.declared.Field.TheVariants as field;
@@ -82,7 +84,7 @@ pub fn read_scalar(c: Cursor, image: &[u8], size: usize) -> Field
 
 // Where a keypair's private parts are: the scalar without leading zeros, or Ed25519's seed; or RSA's d, iqmp, p
 // and q. What its kind lacks is absent.
-#[derive(Drop)]
+#[derive(Clone, Copy)]
 pub struct Private {
     pub scalar: Part,
     pub d: Part,
@@ -92,7 +94,7 @@ pub struct Private {
 }
 
 // A keypair's algorithm, and where its parts are.
-#[derive(Drop)]
+#[derive(Clone, Copy)]
 pub enum Keypair {
     Pair(Algorithm, Public, Private, Cursor),
     Refused(Fault),

@@ -1,4 +1,6 @@
 // Public keys, Ed25519, ECDSA over three curves and RSA, and the lengths of their parts.
+#![tactic(auto)]
+
 ghost use Rattle.std.specs.Prelude.{◌≡◌};
 ghost use Rattle.fields.specs.Fields.{absent};
 ghost use Rattle.format.specs.Format.{public_length, private_length, leading_zero};
@@ -28,7 +30,7 @@ pub fn read_point(c: Cursor, image: &[u8], curve: Curve) -> Field
     }
 }
 
-#[derive(Drop)]
+#[derive(Clone, Copy)]
 pub enum EcdsaPublic {
     Point(Curve, Part, Cursor),
     Refused(Fault),
@@ -56,7 +58,7 @@ pub fn read_ecdsa_public(c: Cursor, image: &[u8]) -> EcdsaPublic
 
 // Where a public key's parts are: the point, or Ed25519's public string; or RSA's modulus and exponent, and how
 // many bits the modulus has. What its kind lacks is absent, and the bits are 0.
-#[derive(Drop)]
+#[derive(Clone, Copy)]
 pub struct Public {
     pub point: Part,
     pub modulus: Part,
@@ -64,7 +66,7 @@ pub struct Public {
     pub bits: usize,
 }
 
-#[derive(Drop)]
+#[derive(Clone, Copy)]
 pub enum PublicKey {
     Key(Algorithm, Public, Cursor),
     Refused(Fault),
@@ -170,7 +172,7 @@ pub fn read_public_key(c: Cursor, image: &[u8]) -> PublicKey
     }
 }
 
-#[derive(Drop)]
+#[derive(Clone, Copy)]
 pub enum Blob {
     Key(Algorithm, Public),
     Refused(Fault),

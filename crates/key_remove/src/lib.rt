@@ -1,5 +1,7 @@
 // One key of an image removed in place. The rest moves up, the counts and lengths follow, and what the old image
 // had more than the new one becomes zero.
+#![tactic(auto)]
+
 ghost use Rattle.std.specs.Prelude.{◌≡◌};
 ghost use Rattle.edit_file.specs.declared.Editable.TheVariants as editable;
 ghost use Rattle.edit_file.specs.Edits.{editable_at, IsRemove};

@@ -1,4 +1,6 @@
 // RSA's numbers, as a public blob and a keypair have them: first all are read, then their sizes are looked at.
+#![tactic(auto)]
+
 ghost use Rattle.std.specs.Prelude.{◌≡◌};
 ghost use Rattle.fields.specs.Fields.{view_of};
 ghost use Rattle.mpint.specs.Mpint.{at_most, modulus_size};
@@ -8,7 +10,7 @@ ghost use Rattle.key_rsa.specs.Rsa.{two_at, six_at, outside, others_at, others_o
 use fields::{Cursor, Ending, Fault, Field, Part, Refusal};
 use mpint::Size;
 
-#[derive(Drop)]
+#[derive(Clone, Copy)]
 pub enum Two {
     Numbers(Part, Part, Cursor),
     Refused(Fault),
@@ -57,7 +59,7 @@ fn fits(image: &[u8], n: Part, bits: usize, number: Part) -> bool
 }
 
 // The places of modulus and exponent, and the modulus's bits.
-#[derive(Drop)]
+#[derive(Clone, Copy)]
 pub enum RsaPublic {
     Numbers(Part, Part, usize, Cursor),
     Refused(Fault),
@@ -90,7 +92,7 @@ pub fn read_rsa_public(c: Cursor, image: &[u8]) -> RsaPublic
 }
 
 // The six numbers of a keypair, in the order in which they stand.
-#[derive(Drop)]
+#[derive(Clone, Copy)]
 pub struct Six {
     pub n: Part,
     pub e: Part,
@@ -100,7 +102,7 @@ pub struct Six {
     pub q: Part,
 }
 
-#[derive(Drop)]
+#[derive(Clone, Copy)]
 pub enum SixRead {
     Six(Six, Cursor),
     Refused(Fault),
@@ -155,7 +157,7 @@ fn others_fit(image: &[u8], x: Six, bits: usize) -> Ending
 }
 
 // The six numbers, and the modulus's bits.
-#[derive(Drop)]
+#[derive(Clone, Copy)]
 pub enum RsaPair {
     Numbers(Six, usize, Cursor),
     Refused(Fault),

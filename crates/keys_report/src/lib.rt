@@ -1,5 +1,7 @@
 // The keys of an image, a line each, or how it is refused, and at which byte. What writes a line is handed a key's
 // kind, numbers and lengths, and no byte of the image.
+#![tactic(auto)]
+
 ghost use Rattle.std.specs.Prelude.{◌+◌, ◌*◌, ◌≤◌};
 ghost use Rattle.fields.specs.Bytes.{join};
 ghost use Rattle.buffer.specs.Runs.{IsRun};

@@ -326,11 +326,11 @@ pair_fields_back :
     → PrivateFits a key x → MayStand a zeros x → rest s c ≡ join (pair_fields a zeros key x) ++ t
     → PairBack s (on_algorithm a (elliptic_pair_at s c) (rsa_keypair_at s c)) a key x t
 unfolding elliptic_pair_at
-pair_fields_back s c good small (OnCurve Ed25519) zeros key x t fits fit may e =
+pair_fields_back s c good small (OnCurve Ed25519) z key x t fits fit may e =
     ed25519_pair_back s c good key x t fits fit (e ∙ rw may (simp append_assoc))
-pair_fields_back s c good small (OnCurve (Ecdsa k)) zeros key x t fits fit may e =
-    ecdsa_pair_back s c good k zeros key x t fits fit may (e ∙ simp append_assoc)
-pair_fields_back s c good small Rsa zeros key x t fits fit may e =
+pair_fields_back s c good small (OnCurve (Ecdsa k)) z key x t fits fit may e =
+    ecdsa_pair_back s c good k z key x t fits fit may (e ∙ simp append_assoc)
+pair_fields_back s c good small Rsa z key x t fits fit may e =
     rsa_keypair_back s c good small key x t fits fit (e ∙ simp append_assoc)
 
 -- a keypair as the format writes it, a scalar in any of its forms

@@ -1,4 +1,6 @@
 // RFC 4251's mpint, positive and minimal, of any length, and how many bits it has.
+#![tactic(auto)]
+
 ghost use Rattle.std.specs.Prelude.{◌≡◌};
 ghost use Rattle.mpint.specs.Mpint.{is_mpint, mpint_at, zeros_before, at_most, modulus_size};
 
@@ -65,7 +67,7 @@ pub fn at_most(x: &[u8], y: &[u8]) -> bool
 }
 
 // How many bits a modulus has, if as many as a modulus may have.
-#[derive(Drop)]
+#[derive(Clone, Copy)]
 pub enum Size {
     Bits(usize),
     Outside,

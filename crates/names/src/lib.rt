@@ -1,12 +1,14 @@
 // The names that a container may hold: ciphers with block size and tag length, KDFs, algorithms and
 // curves with SIZE.
+#![tactic(auto)]
+
 ghost use Rattle.std.specs.Prelude.{◌≡◌, ◌+◌, ◌*◌};
 ghost use Rattle.names.specs.Ciphers.{cipher_named, cbc_named, ctr_named, gcm_named, is_none, block_size, tag_length, kdf_named};
 ghost use Rattle.names.specs.Algorithms.{curve_named, size_of, algorithm_named, algorithm_code};
 
 use words::spells;
 
-#[derive(Drop)]
+#[derive(Clone, Copy)]
 pub enum Cipher {
     None,
     TripleDesCbc,
@@ -20,7 +22,7 @@ pub enum Cipher {
     Aes256Gcm,
 }
 
-#[derive(Drop)]
+#[derive(Clone, Copy)]
 pub enum CipherName {
     Known(Cipher),
     Unknown,
@@ -137,13 +139,13 @@ impl Cipher {
     }
 }
 
-#[derive(Drop)]
+#[derive(Clone, Copy)]
 pub enum Kdf {
     None,
     Bcrypt,
 }
 
-#[derive(Drop)]
+#[derive(Clone, Copy)]
 pub enum KdfName {
     Known(Kdf),
     Unknown,
@@ -161,7 +163,7 @@ pub fn kdf_named(name: &[u8]) -> KdfName
     KdfName::Unknown
 }
 
-#[derive(Drop)]
+#[derive(Clone, Copy)]
 pub enum Curve {
     Nistp256,
     Nistp384,
@@ -192,7 +194,7 @@ impl Curve {
     }
 }
 
-#[derive(Drop)]
+#[derive(Clone, Copy)]
 pub enum CurveName {
     Known(Curve),
     Unknown,
@@ -214,19 +216,19 @@ pub fn curve_named(name: &[u8]) -> CurveName
 }
 
 // The four whose keys are a point and a scalar, or a public string and a seed, of a length that the name tells.
-#[derive(Drop)]
+#[derive(Clone, Copy)]
 pub enum Elliptic {
     Ed25519,
     Ecdsa(Curve),
 }
 
-#[derive(Drop)]
+#[derive(Clone, Copy)]
 pub enum Algorithm {
     Elliptic(Elliptic),
     Rsa,
 }
 
-#[derive(Drop)]
+#[derive(Clone, Copy)]
 pub enum AlgorithmName {
     Known(Algorithm),
     Unknown,

@@ -1,5 +1,7 @@
 // The numbers that stand for an algorithm, a cipher and a KDF where there is nothing but numbers. The
 // algorithm's own is `Algorithm::code`.
+#![tactic(auto)]
+
 ghost use Rattle.std.specs.Prelude.{◌≡◌};
 ghost use Rattle.names_codes.specs.Codes.{cipher_code, kdf_code, algorithm_coded, cipher_coded, kdf_coded};
 

@@ -1,4 +1,6 @@
 // The names of algorithms, ciphers and KDFs spelled out: all stand in one table, from which they are put.
+#![tactic(auto)]
+
 ghost use Rattle.std.specs.Prelude.{◌≡◌};
 ghost use Rattle.fields.specs.Bytes.{string};
 ghost use Rattle.fields.specs.Fields.{part, view_of};

@@ -1,9 +1,11 @@
 // Places of up to sixteen keys in an image of at most 65,535 bytes, a number each, 0 where there is none. An enum
 // may hold this, and no array.
+#![tactic(auto)]
+
 ghost use Rattle.std.specs.Prelude.{◌≡◌, [], get_or};
 ghost use Rattle.places.specs.Places.{kept_place, list_of, places_of, pushed, same_places};
 
-#[derive(Drop)]
+#[derive(Clone, Copy)]
 pub struct Places {
     pub p1: u16,
     pub p2: u16,

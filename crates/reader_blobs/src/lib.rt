@@ -1,4 +1,6 @@
 // The public blobs of a container, one after the other.
+#![tactic(auto)]
+
 ghost use Rattle.std.specs.Prelude.{◌≡◌};
 ghost use Rattle.reader_blobs.specs.Blobs.{blob_field_at, blobs_at};
 
@@ -6,7 +8,7 @@ use fields::{Cursor, Fault, Field, Part};
 use key_public::{Blob, Public};
 use names::Algorithm;
 
-#[derive(Drop)]
+#[derive(Clone, Copy)]
 pub enum BlobField {
     Key(Algorithm, Part, Public, Cursor),
     Refused(Fault),
@@ -34,7 +36,7 @@ pub fn read_blob_field(c: Cursor, image: &[u8]) -> BlobField
 }
 
 // The place after the last blob.
-#[derive(Drop)]
+#[derive(Clone, Copy)]
 pub enum Blobs {
     After(Cursor),
     Refused(Fault),

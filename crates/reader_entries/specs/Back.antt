@@ -102,8 +102,8 @@ entry_back s c good small q zeros k t public fits e =
 abbrev pub AllFit : List ℕ → List Key → Type 0
 AllFit [] [] = Unit {0}
 AllFit [] (k ∷ keys) = ⊥
-AllFit (zeros ∷ more) [] = ⊥
-AllFit (zeros ∷ more) (k ∷ keys) = KeyFits k.algorithm zeros k.public k.private k.comment × AllFit more keys
+AllFit (z ∷ more) [] = ⊥
+AllFit (z ∷ more) (k ∷ keys) = KeyFits k.algorithm z k.public k.private k.comment × AllFit more keys
 
 -- a key and its blob that were read
 next_is :
@@ -129,14 +129,16 @@ pub more_back :
     → AllFit zeros keys → rest s c ≡ join (entry_fields (standing_entries zeros keys)) ++ t → rest s b ≡ join (blob_fields (map key_blob keys)) ++ u
     → MoreBack s (more_at s c b (length keys)) keys t
 unfolding more_at
+more_back s c b good end goodb endb small [] (z ∷ zs) t u fits e eb = elim fits [ ]
+more_back s c b good end goodb endb small (k ∷ keys) [] t u fits e eb = elim fits [ ]
 more_back s c b good end goodb endb small [] [] t u fits e eb =
     record { places = []; next = c; read = refl; there = refl; inside = tt; counted = refl; good = good; more = e; end = end }
-more_back s c b good end goodb endb small (k ∷ keys) (zeros ∷ zs) t u fits e eb =
+more_back s c b good end goodb endb small (k ∷ keys) (z ∷ zs) t u fits e eb =
     let after = join (entry_fields (standing_entries zs keys)) ++ t in
     let blobs = join (blob_fields (map key_blob keys)) ++ u in
     let f = blob_field_back s b goodb endb small k.algorithm k.public blobs fits.0.public (eb ∙ blob_field_then (key_blob k) (map key_blob keys) u) in
     let m =
-    entry_back s c good (omega arith) f.public zeros k after f.seen fits.0 (e ∙ entry_then (standing_entry zeros k) (standing_entries zs keys) t) in
+    entry_back s c good (omega arith) f.public z k after f.seen fits.0 (e ∙ entry_then (standing_entry z k) (standing_entries zs keys) t) in
     let r = more_back s m.next f.next m.good (m.end ∙ end) f.good f.end small keys zs t u fits.1 m.more f.more in
     record {
       places = c.at ∷ r.places;

@@ -191,7 +191,7 @@ module _ (s : List ℕ) (all : AllBytes s) where
   pub stands_found :
       (c b : Cursor) (zeros at : ℕ) (k : KeyStands c b zeros) → at ≡ c.at → c.end ≡ length s → key_placed s b at ≡ key_read.Key (found_key k) k.blob-after
   unfolding key_placed
-  stands_found c b zeros at k same end =
+  stands_found c b z at k same end =
       let place : record { at = at; end = length s } ≡ c = ap (λ (i : ℕ). place_at i (length s)) same ∙ whole_place_lem s c end in
       rw (k.blob_read, place, k.entry_read, same)
 

@@ -1,5 +1,7 @@
 // A key of a plain section: its keypair, held to the blob of its number, and its comment. The definitions are of one
 // key after the other.
+#![tactic(auto)]
+
 ghost use Rattle.std.specs.Prelude.{◌≡◌};
 ghost use Rattle.fields.specs.Bytes.{same_bytes};
 ghost use Rattle.fields.specs.Fields.{fault, view_of};
@@ -82,7 +84,7 @@ pub fn read_comment(c: Cursor, image: &[u8]) -> Field
 }
 
 // A private key, and the place after its keypair.
-#[derive(Drop)]
+#[derive(Clone, Copy)]
 pub enum Paired {
     Key(Private, Cursor),
     Refused(Fault),
@@ -122,7 +124,7 @@ pub fn read_pair(c: Cursor, image: &[u8], algorithm: Algorithm, public: Public) 
     }
 }
 
-#[derive(Drop)]
+#[derive(Clone, Copy)]
 pub enum Entry {
     Key(Private, Part, Cursor),
     Refused(Fault),
@@ -143,7 +145,7 @@ pub fn read_entry(c: Cursor, image: &[u8], algorithm: Algorithm, public: Public)
 
 // One key of an image: its kind, its blob and the public key there, where its keypair begins, its private key and its
 // comment.
-#[derive(Drop)]
+#[derive(Clone, Copy)]
 pub struct KeyFields {
     pub algorithm: Algorithm,
     pub blob: Part,
@@ -154,7 +156,7 @@ pub struct KeyFields {
 }
 
 // A key, and the place after its blob.
-#[derive(Drop)]
+#[derive(Clone, Copy)]
 pub enum KeyRead {
     Key(KeyFields, Cursor),
     Nothing,

@@ -1,4 +1,6 @@
 // The container's header: magic, cipher, KDF with its options, key count, public blobs.
+#![tactic(auto)]
+
 ghost use Rattle.std.specs.Prelude.{◌≡◌};
 ghost use Rattle.reader_blobs.specs.Blobs.{blobs_at};
 ghost use Rattle.reader_header.specs.Header.{magic_at, cipher_at, none_at, bcrypt_at, kdf_at, keys_allowed, count_at, keys_at, AnswersHeader};
@@ -10,7 +12,7 @@ use reader_blobs::{BlobField, Blobs};
 
 // The first half of a record. A salt that the KDF doesn't have is absent, and its rounds are 0. algorithm, blob
 // and public are the first key's. section is the place of the section's length field.
-#[derive(Drop)]
+#[derive(Clone, Copy)]
 pub struct Header {
     pub cipher: Cipher,
     pub kdf: Kdf,
@@ -23,7 +25,7 @@ pub struct Header {
     pub section: usize,
 }
 
-#[derive(Drop)]
+#[derive(Clone, Copy)]
 pub enum HeaderRead {
     Header(Header),
     Refused(Fault),
@@ -49,7 +51,7 @@ fn read_magic(image: &[u8]) -> Field
     }
 }
 
-#[derive(Drop)]
+#[derive(Clone, Copy)]
 pub enum CipherField {
     Cipher(Cipher, Cursor),
     Refused(Fault),
@@ -83,7 +85,7 @@ fn read_cipher(image: &[u8]) -> CipherField
     }
 }
 
-#[derive(Drop)]
+#[derive(Clone, Copy)]
 pub enum KdfField {
     Options(Kdf, Part, u32, Cursor),
     Refused(Fault),

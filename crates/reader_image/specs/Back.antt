@@ -89,6 +89,8 @@ keys_after s n k others zeros zs small fit fits allowed h =
     }
 
 all_public : (zs : List ℕ) (keys : List Key) → AllFit zs keys → AllPublic keys
+all_public [] (k ∷ keys) fits = elim fits [ ]
+all_public (z ∷ zs) [] fits = elim fits [ ]
 all_public [] [] fits = tt
 all_public (z ∷ zs) (k ∷ keys) fits = (fits.0.public, all_public zs keys fits.1)
 

@@ -40,10 +40,14 @@ scalar_short Rsa key x fits =
 
 -- keys that fit have private bytes that fit, scalars that are short, and may have the zeros that the rule asks for
 pub fit_private : (zs : List ℕ) (keys : List Key) → AllFit zs keys → AllPrivate keys
+fit_private [] (k ∷ keys) fits = elim fits [ ]
+fit_private (z ∷ zs) [] fits = elim fits [ ]
 fit_private [] [] fits = tt
 fit_private (z ∷ zs) (k ∷ keys) fits = (fits.0.private, fit_private zs keys fits.1)
 
 fit_may : (zs : List ℕ) (keys : List Key) → AllFit zs keys → AllMay zs keys
+fit_may [] (k ∷ keys) fits = elim fits [ ]
+fit_may (z ∷ zs) [] fits = elim fits [ ]
 fit_may [] [] fits = tt
 fit_may (z ∷ zs) (k ∷ keys) fits = (scalar_short k.algorithm k.public k.private fits.0.private, fits.0.may, fit_may zs keys fits.1)
 
@@ -104,16 +108,17 @@ scalar_agrees :
     (s : List ℕ) (a : Algorithm) (x : Private) (zeros : ℕ) → MayStand a zeros (private_bytes s x) → IfScalar a (Begins s x.scalar zeros)
     → scalar_in_form s Plain a x.scalar ≡ eqb (zeros_asked a (private_bytes s x)) zeros
 unfolding scalar_in_form scalar_stands private_bytes
-scalar_agrees s (OnCurve Ed25519) x zeros may begins = sym (eq-eqb 0 zeros (sym may))
-scalar_agrees s (OnCurve (Ecdsa k)) x zeros may begins =
+scalar_agrees s (OnCurve Ed25519) x z may begins = sym (eq-eqb 0 z (sym may))
+scalar_agrees s (OnCurve (Ecdsa k)) x z may begins =
     begins (zero_length (leading_zero (view_of s x.scalar))) (zero_small (leading_zero (view_of s x.scalar)))
-scalar_agrees s Rsa x zeros may begins = sym (eq-eqb 0 zeros (sym may))
+scalar_agrees s Rsa x z may begins = sym (eq-eqb 0 z (sym may))
 
 -- the scalars of keys that stand one after the other
 others_agree :
     (s : List ℕ) (all : AllBytes s) (c b : Cursor) (l zs : List ℕ) → c.end ≡ length s → AllStand s all c b l zs → length zs ≡ length l
     → others_in_form s b l ≡ same_bytes (map key_zeros (map (key_read_of s) l)) zs
 unfolding others_in_form
+others_agree s all c b (x ∷ l) [] end stand long = elim stand [ ]
 others_agree s all c b [] [] end stand long = refl
 others_agree s all c b [] (z ∷ zs) end stand long = absurd (omega arith)
 others_agree s all c b (x ∷ l) (z ∷ zs) end stand long =
@@ -148,6 +153,8 @@ scalars_agree s f p plain =
     rw (plain, first, more)
   where
     as_many : (s l zs : List ℕ) → AllFit zs (map (key_read_of s) l) → length zs ≡ length l
+    as_many s [] (z ∷ zs) fits = elim fits [ ]
+    as_many s (x ∷ l) [] fits = elim fits [ ]
     as_many s [] [] fits = refl
     as_many s (x ∷ l) (z ∷ zs) fits = ap suc (as_many s l zs fits.1)
 

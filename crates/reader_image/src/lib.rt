@@ -1,5 +1,7 @@
 // An image read whole, and its section read from a header half that is handed in. Both go through one
 // section step. The record's fields are plain data, places in the image among them.
+#![tactic(auto)]
+
 ghost use Rattle.std.specs.Prelude.{◌≡◌, ◌+◌, ◌≤◌, ◌<◌, length, take, drop};
 ghost use Rattle.reader_image.specs.Container.{section_at, AnswersRead, AnswersSection};
 ghost use Rattle.reader_image.specs.Form.{scalar_stands, scalar_in_form, others_in_form, scalars_in_form, record_in_form, AnswersForm, AnswersSectionForm};
@@ -14,13 +16,13 @@ use reader_header::{Header, HeaderRead};
 use reader_section::{Kind, Section, SectionRead};
 
 // What an accepted image holds.
-#[derive(Drop)]
+#[derive(Clone, Copy)]
 pub struct Fields {
     pub header: Header,
     pub section: Section,
 }
 
-#[derive(Drop)]
+#[derive(Clone, Copy)]
 pub enum ImageRead {
     Record(Fields),
     Refused(Fault),
@@ -221,7 +223,7 @@ fn record_in_form(image: &[u8], f: Fields) -> bool
     )
 }
 
-#[derive(Drop)]
+#[derive(Clone, Copy)]
 pub enum FormRead {
     Record(Fields, bool),
     Refused(Fault),

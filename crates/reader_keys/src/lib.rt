@@ -1,5 +1,7 @@
 // A record's keys, one by its number: the first by the record's own fields, another by the blob of its number and by the
 // place at which its keypair begins.
+#![tactic(auto)]
+
 ghost use Rattle.std.specs.Prelude.{◌≡◌};
 ghost use Rattle.reader_keys.specs.Keys.{first_fields, other_key, key_numbered};
 
@@ -8,7 +10,7 @@ use reader_blobs::Blobs;
 use reader_entries::{KeyFields, KeyRead};
 use reader_image::Fields;
 
-#[derive(Drop)]
+#[derive(Clone, Copy)]
 pub enum Looked {
     Key(KeyFields),
     Nothing,

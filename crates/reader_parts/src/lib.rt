@@ -1,5 +1,7 @@
 // The parts of an image that its record names. Each is that part of the caller's own image, the empty part
 // where the record lacks the field or its place isn't within the image.
+#![tactic(auto)]
+
 ghost use Rattle.std.specs.Prelude.{◌≡◌};
 ghost use Rattle.fields.specs.Fields.{IsView};
 ghost use Rattle.reader_parts.specs.Parts.{place_of};
@@ -7,7 +9,7 @@ ghost use Rattle.reader_parts.specs.Parts.{place_of};
 use reader_image::Fields;
 
 // Which part of a record: the blob's fields, the section's, and an RSA key's six numbers.
-#[derive(Drop)]
+#[derive(Clone, Copy)]
 pub enum Which {
     Blob,
     Point,

@@ -1,4 +1,6 @@
 // The container's section: plain, with its keys and padding, or encrypted, with its tag.
+#![tactic(auto)]
+
 ghost use Rattle.std.specs.Prelude.{◌≡◌, ◌<◌, take};
 ghost use Rattle.fields.specs.Bytes.{same_bytes};
 ghost use Rattle.format.specs.Format.{padding_bytes};
@@ -13,7 +15,7 @@ use places::Places;
 use reader_blobs::BlobField;
 use reader_entries::{Entry, Paired};
 
-#[derive(Drop)]
+#[derive(Clone, Copy)]
 pub enum Kind {
     Plain,
     Encrypted,
@@ -23,7 +25,7 @@ pub enum Kind {
 // comment are the first key's, and places says where each key begins. A scalar's place is that of its bytes
 // without leading zeros; for Ed25519 the seed's. The order is for speed: a number stands between
 // private and comment, and each is then copied by itself.
-#[derive(Drop)]
+#[derive(Clone, Copy)]
 pub struct Section {
     pub padding: usize,
     pub private: Private,
@@ -35,7 +37,7 @@ pub struct Section {
     pub tag: Part,
 }
 
-#[derive(Drop)]
+#[derive(Clone, Copy)]
 pub enum SectionRead {
     Section(Section),
     Refused(Fault),
@@ -130,7 +132,7 @@ fn plain(checkint: u32, padding: usize, private: Private, comment: Part, places:
 }
 
 // Where keys begin, and the place after the last.
-#[derive(Drop)]
+#[derive(Clone, Copy)]
 enum More {
     Keys(Places, Cursor),
     Refused(Fault),

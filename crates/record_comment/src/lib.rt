@@ -1,4 +1,6 @@
 // The comment of an image, by way of a record that holds it.
+#![tactic(auto)]
+
 ghost use Rattle.fields.specs.Fields.{IsView};
 ghost use Rattle.record_found.specs.Found.{found_at};
 

@@ -1,5 +1,7 @@
 // What reading an image, its header or its section finds, in the rules' numbers, with no reference in it,
 // and the bytes that a record or a half of it holds.
+#![tactic(auto)]
+
 ghost use Rattle.std.specs.Prelude.{◌≡◌};
 ghost use Rattle.fields.specs.Fields.{absent, IsView};
 ghost use Rattle.reader_header.specs.Header.{no_header};
@@ -14,7 +16,7 @@ use reader_image::{Fields, ImageRead};
 use reader_section::{Kind, Section};
 
 // The refusal's number, count and place, 0 where the image is accepted, and the fields.
-#[derive(Drop)]
+#[derive(Clone, Copy)]
 pub struct Found {
     pub number: u8,
     pub count: usize,
@@ -23,7 +25,7 @@ pub struct Found {
 }
 
 // The same of a header read, and the half.
-#[derive(Drop)]
+#[derive(Clone, Copy)]
 pub struct FoundHeader {
     pub number: u8,
     pub count: usize,

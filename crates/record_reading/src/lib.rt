@@ -1,4 +1,6 @@
 // Reading an image, or its header, into a record or a half that holds it, and its section from such a half.
+#![tactic(auto)]
+
 ghost use Rattle.record_reading.specs.Reply.{IsFound, IsFoundHeader, IsReply, IsSectionReply, IsHeaderReply};
 
 use record_found::{Found, FoundHeader};
@@ -6,7 +8,7 @@ use record_views::Record;
 
 // What a read answers: the refusal's number, count and place, 0 where the image is accepted, and the record,
 // over no bytes and with no field where it is refused.
-#[derive(Drop)]
+#[derive(Clone, Copy)]
 pub struct Reply<'a> {
     pub number: u8,
     pub count: usize,
@@ -38,7 +40,7 @@ pub fn read<'a>(image: &'a [u8]) -> Reply<'a>
 }
 
 // The first half of a record: the lent image itself, and what its header says.
-#[derive(Drop)]
+#[derive(Clone, Copy)]
 pub struct Header<'a> {
     pub image: &'a [u8],
     pub half: reader_header::Header,
@@ -46,7 +48,7 @@ pub struct Header<'a> {
 
 // What a header read answers: the refusal's number, count and place, 0 where the header is accepted, and the
 // header, over no bytes and with no field where it is refused.
-#[derive(Drop)]
+#[derive(Clone, Copy)]
 pub struct HeaderReply<'a> {
     pub number: u8,
     pub count: usize,

@@ -1,12 +1,14 @@
 // A record that holds the lent image itself, and thin accessors over it. Each is that part of the caller's
 // own image, the empty part where the record lacks the field or its place isn't within the image.
+#![tactic(auto)]
+
 ghost use Rattle.fields.specs.Fields.{IsView};
 ghost use Rattle.reader_parts.specs.Parts.{place_of};
 
 use reader_image::Fields;
 use reader_parts::Which;
 
-#[derive(Drop)]
+#[derive(Clone, Copy)]
 pub struct Record<'a> {
     pub image: &'a [u8],
     pub fields: Fields,

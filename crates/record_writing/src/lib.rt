@@ -1,4 +1,6 @@
 // A record that holds its image, written again.
+#![tactic(auto)]
+
 ghost use Rattle.writer_again.specs.Rewrite.{IsHanded};
 
 use record_views::Record;

@@ -5,89 +5,94 @@
 // the lent ones; at first they are zeros. A call is its code, 1 for export and 2 for import, and then for
 // each of the two buffers: how many of its bytes the call gets, a place, how many bytes are new there, and
 // these.
+#![tactic(auto)]
+
 use fields::Part;
-use replay_telling::{number_at, word};
+use replay_telling::{number_at, read_full, word};
+use std::io;
+use std::io::{Read, Write};
 use writer_reply::Written;
 
 // ---- reading the file
 
 // Puts the new bytes into a buffer; answers how many of its bytes the call gets.
-fn renew(fd: i32, buf: &mut [u8]) -> usize {
+fn renew(file: &mut impl Read, buf: &mut [u8]) -> io::Result<usize> {
     let mut head = [0u8; 12];
-    io::read_full(fd, &mut head);
+    read_full(file, &mut head)?;
     let length = number_at(&head, 0) as usize;
     let at = number_at(&head, 4) as usize;
     let new = number_at(&head, 8) as usize;
     if at + new > buf.len() {
-        return length;
+        return Ok(length);
     }
-    io::read_full(fd, &mut buf[at..at + new]);
-    length
+    read_full(file, &mut buf[at..at + new])?;
+    Ok(length)
 }
 
 // ---- the calls
 
-fn call(code: u32, given: &[u8], lent: &mut [u8]) -> Written {
+fn call(out: &mut impl Write, code: u32, given: &[u8], lent: &mut [u8]) -> io::Result<Written> {
     if code == 1 {
-        word(b"export   ");
-        return armour_export::export(given, lent);
+        word(out, b"export   ")?;
+        return Ok(armour_export::export(given, lent));
     }
-    word(b"import   ");
-    armour_import::import(given, lent)
+    word(out, b"import   ")?;
+    Ok(armour_import::import(given, lent))
 }
 
-fn called(code: u32, given: &[u8], lent: &mut [u8]) {
-    replay_telling::say_written(call(code, given, lent));
-    replay_telling::say_buffer(lent);
+fn called(out: &mut impl Write, code: u32, given: &[u8], lent: &mut [u8]) -> io::Result<()> {
+    let written = call(out, code, given, lent)?;
+    replay_telling::say_written(out, written)?;
+    replay_telling::say_buffer(out, lent)
 }
 
 // ---- the vectors
 
 // One call; whether there was one.
-fn one(fd: i32, given: &mut [u8], lent: &mut [u8]) -> bool {
+fn one(
+    out: &mut impl Write,
+    file: &mut impl Read,
+    given: &mut [u8],
+    lent: &mut [u8],
+) -> io::Result<bool> {
     let mut head = [0u8; 4];
-    let got = io::read_full(fd, &mut head);
+    let got = read_full(file, &mut head)?;
     if got < 4 {
-        return false;
+        return Ok(false);
     }
-    let length = renew(fd, given);
-    let room = renew(fd, lent);
+    let length = renew(file, given)?;
+    let room = renew(file, lent)?;
     if room > lent.len() {
-        return false;
+        return Ok(false);
     }
     let part = Part {
         start: 0,
         length: length,
     };
     called(
+        out,
         number_at(&head, 0),
         fields::view(given, part),
-        &mut lent[0..room],
-    );
-    true
+        &mut lent[..room],
+    )?;
+    Ok(true)
 }
 
-// A proved loop has to end, so it counts its turns down.
-fn all(fd: i32, given: &mut [u8], lent: &mut [u8]) {
-    let mut turns = u64::MAX;
-    while turns > 0 && one(fd, given, lent) {
-        turns -= 1;
-    }
-}
-
-fn replay(fd: i32) {
+// A proved loop has to end, so it counts its turns.
+fn all(out: &mut impl Write, file: &mut impl Read) -> io::Result<()> {
     let mut given = [0u8; 90000];
     let mut lent = [0u8; 90000];
-    all(fd, &mut given, &mut lent);
+    for _ in 0..u64::MAX {
+        if !one(out, file, &mut given, &mut lent)? {
+            break;
+        }
+    }
+    Ok(())
 }
 
-fn main() {
-    let path = b"calls";
-    let fd = os::open_read(path);
-    if fd < 0 {
-        os::fail(path);
-        return;
+fn main(rt: HostRuntime) -> io::Result<()> {
+    match replay_telling::open(&rt, "calls")? {
+        Some(mut file) => all(&mut rt.stdout(), &mut file),
+        None => Ok(()),
     }
-    replay(fd);
-    libc::close(fd);
 }

@@ -1,7 +1,29 @@
--- Any two replies that meet a public function's own contract are equal. What is put to standard output is in no contract.
-use Rattle.fields.specs.Determined.{Determined}
-use Rattle.replay_calls.proofs.replay_calls.Reads as replay-calls
+-- Any two replies that meet the public function's own contract and report no failed read or write are equal. What is put to standard
+-- output is in no contract.
+use Rattle.std.specs.Prelude.{IsOk, Ok, Err}
+use Rattle.std.specs.declared.fs.files.Files.{Ghosts as FilesGhosts}
+use Rattle.std.specs.declared.fs.files.OpenFile.{Ghosts as OpenFileGhosts}
+use Rattle.std.specs.declared.io.Eprint.{Ghosts as EprintGhosts}
+use Rattle.std.specs.declared.io.Print.{Ghosts as PrintGhosts}
+use Rattle.std.specs.declared.io.traits.Read.{Ghosts as ReadGhosts}
+use Rattle.std.specs.declared.io.traits.Seek.{Ghosts as SeekGhosts}
+use Rattle.std.specs.declared.io.traits.Write.{Ghosts as WriteGhosts}
+use denote.Param.Laws.{Laws}
+use denote.RattleType.{RattleType}
+use mathlib.Core.Path.{refl}
+use mir.Syntax.{Dict}
+use Rattle.replay_telling.specs.Determined.{DeterminedIf}
+use Rattle.replay_calls.proofs.replay_calls.Reads as replay_calls
 use Rattle.replay_calls.proofs.replay_calls.Kinds as replay_calls_kinds
 
-pub replay_calls_determined : Determined 0 replay_calls_kinds.ps replay_calls_kinds.r replay-calls.Post
-replay_calls_determined κs a r₁ r₂ s₁ s₂ p q = cc
+-- whatever the runtime is, with its files and folders, by its traits
+module _ (R F D : RattleType) (A : Laws R) (B : Laws F) (C : Laws D) (G : FilesGhosts R.Denot F.Denot D.Denot) (g : Dict)
+    (H : ReadGhosts F.Denot) (h : Dict) (I : WriteGhosts F.Denot) (i : Dict) (J : SeekGhosts F.Denot) (j : Dict)
+    (K : OpenFileGhosts F.Denot) (k : Dict) (M : ReadGhosts D.Denot) (m : Dict) (N : PrintGhosts R.Denot) (n : Dict)
+    (O : EprintGhosts R.Denot) (o : Dict) (q : Dict) (r : Dict) where
+  pub replay_calls_determined :
+      DeterminedIf 4 (replay_calls_kinds.ps R F D A B C) (replay_calls_kinds.r R F D A B C) (λ κs x. IsOk x)
+      (replay_calls.Post R F D A B C G g H h I i J j K k M m N n O o q r)
+  replay_calls_determined κs a (Ok x) (Ok y) s₁ s₂ e f u v = refl
+  replay_calls_determined κs a (Ok x) (Err z) s₁ s₂ e f u v = cc
+  replay_calls_determined κs a (Err x) y s₁ s₂ e f u v = cc

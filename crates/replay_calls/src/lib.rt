@@ -14,19 +14,24 @@
 //   4 rsa        0, 1 to derive the checkint or 0, checkint; n, e, d, iqmp, p, q, comment
 // A text is how many pieces it has, and then each piece: the length of a unit, the length of the piece, and
 // the unit, which is to be repeated over the piece.
-ghost use Rattle.std.specs.Prelude.{◌≡◌};
+#![tactic(auto)]
+
+ghost use Rattle.std.specs.Prelude.{◌≡◌, IfOk};
 
 use key_material::Material;
-use replay_telling::{checkint_of, number_at, text_of};
+use replay_telling::{checkint_of, number_at, read_full, text_of};
+use std::io;
+use std::io::{Read, Write};
+use std::rt::Files;
 use writer_reply::Written;
 
 // ---- reading the file
 
 // A number; 0 at the end of the file.
-fn number(fd: i32) -> u32 {
+fn number(file: &mut impl Read) -> io::Result<u32> {
     let mut head = [0u8; 4];
-    io::read_full(fd, &mut head);
-    number_at(&head, 0)
+    read_full(file, &mut head)?;
+    Ok(number_at(&head, 0))
 }
 
 // Each byte from `from` up to `end` becomes the one that stands `unit` before it.
@@ -37,45 +42,48 @@ fn repeat(buf: &mut [u8], from: usize, end: usize, unit: usize) {
     if from < unit {
         return;
     }
-    let mut i = from;
-    while i < end {
+    for i in from..end {
         buf[i] = buf[i - unit];
-        i += 1;
     }
 }
 
 // A unit repeated over so many bytes at a place; answers the place after them.
-fn repeated(fd: i32, buf: &mut [u8], at: usize, unit: usize, length: usize) -> usize {
+fn repeated(
+    file: &mut impl Read,
+    buf: &mut [u8],
+    at: usize,
+    unit: usize,
+    length: usize,
+) -> io::Result<usize> {
     if buf.len() < at {
-        return at;
+        return Ok(at);
     }
     if buf.len() - at < length {
-        return at;
+        return Ok(at);
     }
     if length < unit {
-        return at;
+        return Ok(at);
     }
-    io::read_full(fd, &mut buf[at..at + unit]);
+    read_full(file, &mut buf[at..at + unit])?;
     repeat(buf, at + unit, at + length, unit);
-    at + length
+    Ok(at + length)
 }
 
 // One piece of a text, put at a place; answers the place after it.
-fn piece(fd: i32, buf: &mut [u8], at: usize) -> usize {
-    let unit = number(fd) as usize;
-    let length = number(fd) as usize;
-    repeated(fd, buf, at, unit, length)
+fn piece(file: &mut impl Read, buf: &mut [u8], at: usize) -> io::Result<usize> {
+    let unit = number(file)? as usize;
+    let length = number(file)? as usize;
+    repeated(file, buf, at, unit, length)
 }
 
 // A text; answers its length.
-fn text(fd: i32, buf: &mut [u8]) -> usize {
-    let mut left = number(fd);
+fn text(file: &mut impl Read, buf: &mut [u8]) -> io::Result<usize> {
+    let pieces = number(file)?;
     let mut at: usize = 0;
-    while left > 0 {
-        at = piece(fd, buf, at);
-        left -= 1;
+    for _ in 0..pieces {
+        at = piece(file, buf, at)?;
     }
-    at
+    Ok(at)
 }
 
 // ---- what a call's head says
@@ -152,17 +160,22 @@ fn call(head: &[u8], n: usize, texts: &[u8], lent: &mut [u8]) -> Written {
 }
 
 // Reads the texts that the head's entry is to be given, and calls it.
-fn stored_call(fd: i32, head: &[u8], n: usize, lent: &mut [u8]) -> Written {
+fn stored_call(
+    file: &mut impl Read,
+    head: &[u8],
+    n: usize,
+    lent: &mut [u8],
+) -> io::Result<Written> {
     let mut texts = [0u8; 70000];
-    text(fd, &mut texts);
-    call(head, n, &texts, lent)
+    text(file, &mut texts)?;
+    Ok(call(head, n, &texts, lent))
 }
 
 // ---- the rows
 
-fn say_call(written: Written, lent: &[u8]) {
-    replay_telling::say_written(written);
-    replay_telling::say_buffer(lent);
+fn say_call(out: &mut impl Write, written: Written, lent: &[u8]) -> io::Result<()> {
+    replay_telling::say_written(out, written)?;
+    replay_telling::say_buffer(out, lent)
 }
 
 // The length of the image in the buffer from now on.
@@ -174,61 +187,69 @@ fn length_after(written: Written, n: usize) -> usize {
 }
 
 // One call on the lent buffer; answers the length of the image in it from now on.
-fn called(fd: i32, n: usize, lent: &mut [u8]) -> usize {
+fn called(
+    out: &mut impl Write,
+    file: &mut impl Read,
+    n: usize,
+    lent: &mut [u8],
+) -> io::Result<usize> {
     let mut head = [0u8; 72];
-    io::read_full(fd, &mut head);
-    replay_telling::say_entry(given(&head, 0));
-    let written = stored_call(fd, &head, n, lent);
-    say_call(written, lent);
-    length_after(written, n)
+    read_full(file, &mut head)?;
+    replay_telling::say_entry(out, given(&head, 0))?;
+    let written = stored_call(file, &head, n, lent)?;
+    say_call(out, written, lent)?;
+    Ok(length_after(written, n))
 }
 
-fn all_calls(fd: i32, calls: u32, length: usize, lent: &mut [u8]) {
+fn all_calls(
+    out: &mut impl Write,
+    file: &mut impl Read,
+    calls: u32,
+    length: usize,
+    lent: &mut [u8],
+) -> io::Result<()> {
     let mut n = length;
-    let mut left = calls;
-    while left > 0 {
-        n = called(fd, n, lent);
-        left -= 1;
+    for _ in 0..calls {
+        n = called(out, file, n, lent)?;
     }
+    Ok(())
 }
 
-fn replay_row(fd: i32, calls: u32) {
+fn replay_row(out: &mut impl Write, file: &mut impl Read, calls: u32) -> io::Result<()> {
     let mut buffer = [0u8; 66000];
-    let room = text(fd, &mut buffer);
-    let n = number(fd) as usize;
+    let room = text(file, &mut buffer)?;
+    let n = number(file)? as usize;
     if room > 66000 {
-        return;
+        return Ok(());
     }
-    all_calls(fd, calls, n, &mut buffer[0..room]);
+    all_calls(out, file, calls, n, &mut buffer[..room])
 }
 
 // One row; whether there was one.
-fn row(fd: i32) -> bool {
-    let calls = number(fd);
+fn row(out: &mut impl Write, file: &mut impl Read) -> io::Result<bool> {
+    let calls = number(file)?;
     if calls == 0 {
-        return false;
+        return Ok(false);
     }
-    replay_row(fd, calls);
-    true
+    replay_row(out, file, calls)?;
+    Ok(true)
 }
 
-// A proved loop has to end, so it counts its turns down.
-fn all(fd: i32) {
-    let mut turns = u64::MAX;
-    while turns > 0 && row(fd) {
-        turns -= 1;
+// A proved loop has to end, so it counts its turns.
+fn all(out: &mut impl Write, file: &mut impl Read) -> io::Result<()> {
+    for _ in 0..u64::MAX {
+        if !row(out, file)? {
+            break;
+        }
     }
+    Ok(())
 }
 
-pub fn replay_calls()
-    ensures { result ≡ tt }
+pub fn replay_calls<R: Files + Print + Eprint>(rt: &R) -> io::Result<()>
+    ensures { IfOk result (λ done. done ≡ tt) }
 {
-    let path = b"calls";
-    let fd = os::open_read(path);
-    if fd < 0 {
-        os::fail(path);
-        return;
+    match replay_telling::open(rt, "calls")? {
+        Some(mut file) => all(&mut io::writer(rt), &mut file),
+        None => Ok(()),
     }
-    all(fd);
-    libc::close(fd);
 }

@@ -7,7 +7,9 @@
 // encrypted), algorithm, cipher, KDF, rounds, checkint, padding and section, then start and length of
 // blob, point, scalar, comment, salt, ciphertext and tag, then RSA's: bits, and start and length of
 // modulus, exponent, d, iqmp, p and q; and then the key count and the sixteen places.
-ghost use Rattle.std.specs.Prelude.{◌≡◌};
+#![tactic(auto)]
+
+ghost use Rattle.std.specs.Prelude.{◌≡◌, IfOk};
 
 use fields::Part;
 use key_pairs::Private;
@@ -16,7 +18,10 @@ use places::Places;
 use reader_header::Header;
 use reader_image::Fields;
 use reader_section::{Kind, Section};
-use replay_telling::{number_at, word};
+use replay_telling::{number_at, read_full, word};
+use std::io;
+use std::io::{Read, Write};
+use std::rt::Files;
 
 // ---- the record's numbers, which follow the two lengths
 
@@ -134,79 +139,75 @@ fn stale(i: usize) -> u8 {
 }
 
 fn fill(lent: &mut [u8]) {
-    let mut i: usize = 0;
-    while i < lent.len() {
-        lent[i] = stale(i);
-        i += 1;
+    for (i, byte) in lent.iter_mut().enumerate() {
+        *byte = stale(i);
     }
 }
 
-fn handed_in(image: &[u8], f: Fields, lent: &mut [u8]) {
+fn handed_in(out: &mut impl Write, image: &[u8], f: Fields, lent: &mut [u8]) -> io::Result<()> {
     fill(lent);
-    word(b"record   ");
-    replay_telling::say_written(writer_again::rewrite_record(image, f, lent));
-    replay_telling::say_buffer(lent);
-    replay_saying::say_record(image, f);
+    word(out, b"record   ")?;
+    replay_telling::say_written(out, writer_again::rewrite_record(image, f, lent))?;
+    replay_telling::say_buffer(out, lent)?;
+    replay_saying::say_record(out, image, f)
 }
 
 // ---- the vectors
 
 // The image; as many bytes as there are, if that is no more than the room for it.
-fn image_into(fd: i32, room: &mut [u8], length: usize) -> usize {
+fn image_into(file: &mut impl Read, room: &mut [u8], length: usize) -> io::Result<usize> {
     if room.len() < length {
-        return 0;
+        return Ok(0);
     }
-    io::read_full(fd, &mut room[0..length])
+    read_full(file, &mut room[..length])
 }
 
-fn replay(image: &[u8], head: &[u8]) {
+fn replay(out: &mut impl Write, image: &[u8], head: &[u8]) -> io::Result<()> {
     let mut buffer = [0u8; 66000];
     let length = number_at(head, 4) as usize;
     if length > 66000 {
-        return;
+        return Ok(());
     }
-    handed_in(image, record_of(head), &mut buffer[0..length]);
+    handed_in(out, image, record_of(head), &mut buffer[..length])
 }
 
 // A vector, of which all but the image has been read.
-fn vector(fd: i32, head: &[u8]) {
+fn vector(out: &mut impl Write, file: &mut impl Read, head: &[u8]) -> io::Result<()> {
     let mut room = [0u8; 66000];
-    let n = image_into(fd, &mut room, number_at(head, 0) as usize);
+    let n = image_into(file, &mut room, number_at(head, 0) as usize)?;
     let whole = Part {
         start: 0,
         length: n,
     };
-    replay(fields::view(&room, whole), head);
+    replay(out, fields::view(&room, whole), head)
 }
 
 // One vector; whether there was one.
-fn one(fd: i32) -> bool {
+fn one(out: &mut impl Write, file: &mut impl Read) -> io::Result<bool> {
     let mut head = [0u8; 424];
-    let got = io::read_full(fd, &mut head);
+    let got = read_full(file, &mut head)?;
     if got < 424 {
-        return false;
+        return Ok(false);
     }
-    vector(fd, &head);
-    true
+    vector(out, file, &head)?;
+    Ok(true)
 }
 
-// A proved loop has to end, so it counts its turns down.
-fn all(fd: i32) {
-    let mut turns = u64::MAX;
-    while turns > 0 && one(fd) {
-        turns -= 1;
+// A proved loop has to end, so it counts its turns.
+fn all(out: &mut impl Write, file: &mut impl Read) -> io::Result<()> {
+    for _ in 0..u64::MAX {
+        if !one(out, file)? {
+            break;
+        }
     }
+    Ok(())
 }
 
-pub fn replay_records()
-    ensures { result ≡ tt }
+pub fn replay_records<R: Files + Print + Eprint>(rt: &R) -> io::Result<()>
+    ensures { IfOk result (λ done. done ≡ tt) }
 {
-    let path = b"records";
-    let fd = os::open_read(path);
-    if fd < 0 {
-        os::fail(path);
-        return;
+    match replay_telling::open(rt, "records")? {
+        Some(mut file) => all(&mut io::writer(rt), &mut file),
+        None => Ok(()),
     }
-    all(fd);
-    libc::close(fd);
 }

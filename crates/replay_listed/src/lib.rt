@@ -14,10 +14,15 @@
 //   8 add_rsa    as 3; n, e, d, iqmp, p, q, comment
 //   9 remove     as 3; k
 // k and each number of a table are eight bytes.
-ghost use Rattle.std.specs.Prelude.{◌≡◌};
+#![tactic(auto)]
+
+ghost use Rattle.std.specs.Prelude.{◌≡◌, IfOk};
 
 use fields::Part;
-use replay_telling::{checkint_of, number_at, text_of};
+use replay_telling::{checkint_of, number_at, read_full, text_of};
+use std::io;
+use std::io::{Read, Write};
+use std::rt::Files;
 use writer_reply::Written;
 
 // ---- what a call's head says
@@ -38,12 +43,10 @@ fn wide_at(bytes: &[u8], at: usize) -> usize {
 
 // The numbers of eight bytes each, and then zeros.
 fn numbers_into(table: &mut [usize], bytes: &[u8]) {
-    let mut i: usize = 0;
     let mut at: usize = 0;
-    while i < table.len() {
-        table[i] = wide_at(bytes, at);
-        at = std::num::wrapping_add_usize(at, 8);
-        i += 1;
+    for number in table.iter_mut() {
+        *number = wide_at(bytes, at);
+        at = at.wrapping_add(8);
     }
 }
 
@@ -112,10 +115,10 @@ fn call(head: &[u8], texts: &[u8], lent: &mut [u8]) -> Written {
     }
 }
 
-fn called(head: &[u8], texts: &[u8], lent: &mut [u8]) {
-    replay_telling::say_entry(given(head, 0));
-    replay_telling::say_written(call(head, texts, lent));
-    replay_telling::say_buffer(lent);
+fn called(out: &mut impl Write, head: &[u8], texts: &[u8], lent: &mut [u8]) -> io::Result<()> {
+    replay_telling::say_entry(out, given(head, 0))?;
+    replay_telling::say_written(out, call(head, texts, lent))?;
+    replay_telling::say_buffer(out, lent)
 }
 
 // ---- the vectors
@@ -129,68 +132,78 @@ fn renew(vector: &[u8], place: u8, new: u8, buf: &mut [u8]) {
     );
 }
 
-fn replay(vector: &[u8], texts: &mut [u8], lent: &mut [u8]) {
+fn replay(
+    out: &mut impl Write,
+    vector: &[u8],
+    texts: &mut [u8],
+    lent: &mut [u8],
+) -> io::Result<()> {
     renew(vector, 22, 7, texts);
     renew(vector, 23, 8, lent);
     let room = given(vector, 24) as usize;
     if room > lent.len() {
-        return;
+        return Ok(());
     }
-    called(vector, texts, &mut lent[0..room]);
+    called(out, vector, texts, &mut lent[..room])
 }
 
 // The bytes of a vector; as many as there are, if that is no more than the room for them.
-fn vector_into(fd: i32, room: &mut [u8], length: usize) -> usize {
+fn vector_into(file: &mut impl Read, room: &mut [u8], length: usize) -> io::Result<usize> {
     if room.len() < length {
-        return 0;
+        return Ok(0);
     }
-    io::read_full(fd, &mut room[0..length])
+    read_full(file, &mut room[..length])
 }
 
-fn stored(fd: i32, length: usize, texts: &mut [u8], lent: &mut [u8]) {
+fn stored(
+    out: &mut impl Write,
+    file: &mut impl Read,
+    length: usize,
+    texts: &mut [u8],
+    lent: &mut [u8],
+) -> io::Result<()> {
     let mut room = [0u8; 140000];
-    let n = vector_into(fd, &mut room, length);
+    let n = vector_into(file, &mut room, length)?;
     let whole = Part {
         start: 0,
         length: n,
     };
-    replay(fields::view(&room, whole), texts, lent);
+    replay(out, fields::view(&room, whole), texts, lent)
 }
 
 // One vector; whether there was one.
-fn one(fd: i32, texts: &mut [u8], lent: &mut [u8]) -> bool {
+fn one(
+    out: &mut impl Write,
+    file: &mut impl Read,
+    texts: &mut [u8],
+    lent: &mut [u8],
+) -> io::Result<bool> {
     let mut head = [0u8; 4];
-    let got = io::read_full(fd, &mut head);
+    let got = read_full(file, &mut head)?;
     if got < 4 {
-        return false;
+        return Ok(false);
     }
-    stored(fd, number_at(&head, 0) as usize, texts, lent);
-    true
+    stored(out, file, number_at(&head, 0) as usize, texts, lent)?;
+    Ok(true)
 }
 
-// A proved loop has to end, so it counts its turns down.
-fn all(fd: i32, texts: &mut [u8], lent: &mut [u8]) {
-    let mut turns = u64::MAX;
-    while turns > 0 && one(fd, texts, lent) {
-        turns -= 1;
-    }
-}
-
-fn replay_file(fd: i32) {
+// A proved loop has to end, so it counts its turns.
+fn all(out: &mut impl Write, file: &mut impl Read) -> io::Result<()> {
     let mut texts = [0u8; 70000];
     let mut lent = [0u8; 66000];
-    all(fd, &mut texts, &mut lent);
+    for _ in 0..u64::MAX {
+        if !one(out, file, &mut texts, &mut lent)? {
+            break;
+        }
+    }
+    Ok(())
 }
 
-pub fn replay_lists()
-    ensures { result ≡ tt }
+pub fn replay_lists<R: Files + Print + Eprint>(rt: &R) -> io::Result<()>
+    ensures { IfOk result (λ done. done ≡ tt) }
 {
-    let path = b"calls";
-    let fd = os::open_read(path);
-    if fd < 0 {
-        os::fail(path);
-        return;
+    match replay_telling::open(rt, "calls")? {
+        Some(mut file) => all(&mut io::writer(rt), &mut file),
+        None => Ok(()),
     }
-    replay_file(fd);
-    libc::close(fd);
 }

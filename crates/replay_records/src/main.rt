@@ -1,4 +1,8 @@
 // Replays the stored records of keys over a curve.
-fn main() {
-    replay_handed::replay_records();
+#![tactic(auto)]
+
+use std::io;
+
+fn main(rt: HostRuntime) -> io::Result<()> {
+    replay_handed::replay_records(&rt)
 }

@@ -5,8 +5,12 @@
 // The head has the code, the version, the kind, the upper and the lower half of the milliseconds and of the
 // device, and how many bytes are lent; what an entry doesn't take is 0:
 //   1 read   2 write   3 get   4 put   5 move
-use replay_telling::{number_at, word};
+#![tactic(auto)]
+
+use replay_telling::{number_at, read_full, word};
 use setting_record::Answer;
+use std::io;
+use std::io::{Read, Write};
 use writer_reply::Written;
 
 // ---- what a call's head says
@@ -30,85 +34,89 @@ fn device(head: &[u8]) -> u64 {
 
 // ---- the calls
 
-fn find(head: &[u8], lent: &[u8]) -> Answer {
+fn find(out: &mut impl Write, head: &[u8], lent: &[u8]) -> io::Result<Answer> {
     if given(head, 0) == 1 {
-        word(b"read     ");
-        return setting_record::read(lent);
+        word(out, b"read     ")?;
+        return Ok(setting_record::read(lent));
     }
-    word(b"get      ");
-    setting_store::get(lent, device(head))
+    word(out, b"get      ")?;
+    Ok(setting_store::get(lent, device(head)))
 }
 
-fn change(head: &[u8], lent: &mut [u8]) -> Written {
+fn change(out: &mut impl Write, head: &[u8], lent: &mut [u8]) -> io::Result<Written> {
     let version = byte(head, 1);
     let kind = byte(head, 2);
     if given(head, 0) == 2 {
-        word(b"write    ");
-        return setting_record::write(version, kind, milliseconds(head), lent);
+        word(out, b"write    ")?;
+        return Ok(setting_record::write(version, kind, milliseconds(head), lent));
     }
     if given(head, 0) == 4 {
-        word(b"put      ");
-        return setting_store::put(lent, device(head), version, kind, milliseconds(head));
+        word(out, b"put      ")?;
+        return Ok(setting_store::put(lent, device(head), version, kind, milliseconds(head)));
     }
-    word(b"move     ");
-    setting_store::move_to_v2(lent)
+    word(out, b"move     ")?;
+    Ok(setting_store::move_to_v2(lent))
 }
 
 // The refusal's number; whether there is a setting, its kind and its milliseconds.
-fn say_found(answer: Answer) {
+fn say_found(out: &mut impl Write, answer: Answer) -> io::Result<()> {
     match answer {
         Answer::Setting(s) => {
-            replay_telling::say_reply(0, 1, s.kind as usize, s.milliseconds as usize)
+            replay_telling::say_reply(out, 0, 1, s.kind as usize, s.milliseconds as usize)
         }
-        Answer::Empty => replay_telling::say_reply(0, 0, 0, 0),
-        Answer::Refused(why) => replay_telling::say_reply(why.number(), 0, 0, 0),
+        Answer::Empty => replay_telling::say_reply(out, 0, 0, 0, 0),
+        Answer::Refused(why) => replay_telling::say_reply(out, why.number(), 0, 0, 0),
     }
 }
 
-fn reply(head: &[u8], lent: &mut [u8]) {
+fn reply(out: &mut impl Write, head: &[u8], lent: &mut [u8]) -> io::Result<()> {
     if given(head, 0) == 1 || given(head, 0) == 3 {
-        say_found(find(head, lent));
-        return;
+        let answer = find(out, head, lent)?;
+        return say_found(out, answer);
     }
-    replay_telling::say_written(change(head, lent));
+    let written = change(out, head, lent)?;
+    replay_telling::say_written(out, written)
 }
 
 // ---- the vectors
 
-fn stored(fd: i32, head: &[u8], lent: &mut [u8]) {
-    io::read_full(fd, lent);
-    reply(head, lent);
-    replay_telling::say_buffer(lent);
+fn stored(
+    out: &mut impl Write,
+    file: &mut impl Read,
+    head: &[u8],
+    lent: &mut [u8],
+) -> io::Result<()> {
+    read_full(file, lent)?;
+    reply(out, head, lent)?;
+    replay_telling::say_buffer(out, lent)
 }
 
 // One call; whether there was one.
-fn one(fd: i32) -> bool {
+fn one(out: &mut impl Write, file: &mut impl Read) -> io::Result<bool> {
     let mut head = [0u8; 32];
     let mut lent = [0u8; 256];
-    let got = io::read_full(fd, &mut head);
+    let got = read_full(file, &mut head)?;
     let length = given(&head, 7) as usize;
     if got < 32 || length > 256 {
-        return false;
+        return Ok(false);
     }
-    stored(fd, &head, &mut lent[0..length]);
-    true
+    stored(out, file, &head, &mut lent[..length])?;
+    Ok(true)
 }
 
-// A proved loop has to end, so it counts its turns down.
-fn all(fd: i32) {
-    let mut turns = u64::MAX;
-    while turns > 0 && one(fd) {
-        turns -= 1;
+// A proved loop has to end, so it counts its turns.
+fn all(out: &mut impl Write, file: &mut impl Read) -> io::Result<()> {
+    for _ in 0..u64::MAX {
+        if !one(out, file)? {
+            break;
+        }
     }
+    Ok(())
 }
 
-fn main() {
-    let path = b"calls";
-    let fd = os::open_read(path);
-    if fd < 0 {
-        os::fail(path);
-        return;
+fn main(rt: HostRuntime) -> io::Result<()> {
+    match replay_telling::open(&rt, "calls")? {
+        Some(mut file) => all(&mut rt.stdout(), &mut file),
+        None => Ok(()),
     }
-    all(fd);
-    libc::close(fd);
 }

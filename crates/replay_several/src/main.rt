@@ -1,4 +1,8 @@
 // Replays the stored images of several keys.
-fn main() {
-    replay_vectors::replay_images();
+#![tactic(auto)]
+
+use std::io;
+
+fn main(rt: HostRuntime) -> io::Result<()> {
+    replay_vectors::replay_images(&rt)
 }

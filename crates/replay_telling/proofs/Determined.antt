@@ -1,10 +1,17 @@
--- Any two replies that meet a public function's own contract are equal. What a function that answers nothing puts to standard
--- output is in no contract. Of a view, that it is the same part of the caller's memory. Rests on the contracts being equations.
-use mathlib.Core.Path.{◌≡◌}
+-- Any two replies that meet a public function's own contract are equal. Of a view, that it is the same part of the caller's memory.
+-- Rests on the contracts being equations. Of a function that says something, any two that report no failed write: it answers nothing
+-- else, and what it puts to the output is in no contract.
+use Rattle.std.specs.Prelude.{◌≡◌, IsOk, Ok, Err}
+use Rattle.std.specs.declared.io.traits.Write.{Ghosts}
+use denote.Param.Laws.{Laws}
+use denote.RattleType.{RattleType}
+use mathlib.Core.Path.{refl}
+use mir.Syntax.{Dict}
 use contract.Lifetimes.{Lfts}
 use borrow.Fn.Kinds.{Dens, res_t, ended_of}
 use denote.Triple.Clauses.{AtExit}
 use Rattle.fields.specs.Determined.{Determined}
+use Rattle.replay_telling.specs.Determined.{DeterminedIf}
 use Rattle.replay_telling.proofs.number_at.Reads as number_at
 use Rattle.replay_telling.proofs.number_at.Kinds as number_at_kinds
 use Rattle.replay_telling.proofs.text_of.Reads as text_of
@@ -25,21 +32,21 @@ use Rattle.replay_telling.proofs.rest_of.Reads as rest_of
 use Rattle.replay_telling.proofs.rest_of.Kinds as rest_of_kinds
 use Rattle.replay_telling.proofs.word.Reads as word
 use Rattle.replay_telling.proofs.word.Kinds as word_kinds
-use Rattle.replay_telling.proofs.say_number.Reads as say-number
+use Rattle.replay_telling.proofs.say_number.Reads as say_number
 use Rattle.replay_telling.proofs.say_number.Kinds as say_number_kinds
-use Rattle.replay_telling.proofs.say_entry.Reads as say-entry
+use Rattle.replay_telling.proofs.say_entry.Reads as say_entry
 use Rattle.replay_telling.proofs.say_entry.Kinds as say_entry_kinds
-use Rattle.replay_telling.proofs.say_place.Reads as say-place
+use Rattle.replay_telling.proofs.say_place.Reads as say_place
 use Rattle.replay_telling.proofs.say_place.Kinds as say_place_kinds
-use Rattle.replay_telling.proofs.say_reply.Reads as say-reply
+use Rattle.replay_telling.proofs.say_reply.Reads as say_reply
 use Rattle.replay_telling.proofs.say_reply.Kinds as say_reply_kinds
-use Rattle.replay_telling.proofs.say_refused.Reads as say-refused
+use Rattle.replay_telling.proofs.say_refused.Reads as say_refused
 use Rattle.replay_telling.proofs.say_refused.Kinds as say_refused_kinds
-use Rattle.replay_telling.proofs.say_written.Reads as say-written
+use Rattle.replay_telling.proofs.say_written.Reads as say_written
 use Rattle.replay_telling.proofs.say_written.Kinds as say_written_kinds
-use Rattle.replay_telling.proofs.say_places.Reads as say-places
+use Rattle.replay_telling.proofs.say_places.Reads as say_places
 use Rattle.replay_telling.proofs.say_places.Kinds as say_places_kinds
-use Rattle.replay_telling.proofs.say_buffer.Reads as say-buffer
+use Rattle.replay_telling.proofs.say_buffer.Reads as say_buffer
 use Rattle.replay_telling.proofs.say_buffer.Kinds as say_buffer_kinds
 
 pub number_at_determined : Determined 1 number_at_kinds.ps number_at_kinds.r number_at.Post
@@ -71,29 +78,65 @@ kdf_of_determined κs a r₁ r₂ s₁ s₂ p q = cc
 pub rest_of_determined : Determined 1 rest_of_kinds.ps rest_of_kinds.r rest_of.Post
 rest_of_determined κs a r₁ r₂ s₁ s₂ p q = cc
 
-pub word_determined : Determined 1 word_kinds.ps word_kinds.r word.Post
-word_determined κs a r₁ r₂ s₁ s₂ p q = cc
+pub word_determined :
+    (W : RattleType) (L : Laws W) (G : Ghosts W.Denot) (d : Dict) →
+    DeterminedIf 3 (word_kinds.ps W L) (word_kinds.r W L) (λ κs x. IsOk x) (word.Post W L G d)
+word_determined W L G d κs a (Ok x) (Ok y) s₁ s₂ p q u v = refl
+word_determined W L G d κs a (Ok x) (Err f) s₁ s₂ p q u v = cc
+word_determined W L G d κs a (Err e) y s₁ s₂ p q u v = cc
 
-pub say_number_determined : Determined 0 say_number_kinds.ps say_number_kinds.r say-number.Post
-say_number_determined κs a r₁ r₂ s₁ s₂ p q = cc
+pub say_number_determined :
+    (W : RattleType) (L : Laws W) (G : Ghosts W.Denot) (d : Dict) →
+    DeterminedIf 2 (say_number_kinds.ps W L) (say_number_kinds.r W L) (λ κs x. IsOk x) (say_number.Post W L G d)
+say_number_determined W L G d κs a (Ok x) (Ok y) s₁ s₂ p q u v = refl
+say_number_determined W L G d κs a (Ok x) (Err f) s₁ s₂ p q u v = cc
+say_number_determined W L G d κs a (Err e) y s₁ s₂ p q u v = cc
 
-pub say_entry_determined : Determined 0 say_entry_kinds.ps say_entry_kinds.r say-entry.Post
-say_entry_determined κs a r₁ r₂ s₁ s₂ p q = cc
+pub say_entry_determined :
+    (W : RattleType) (L : Laws W) (G : Ghosts W.Denot) (d : Dict) →
+    DeterminedIf 2 (say_entry_kinds.ps W L) (say_entry_kinds.r W L) (λ κs x. IsOk x) (say_entry.Post W L G d)
+say_entry_determined W L G d κs a (Ok x) (Ok y) s₁ s₂ p q u v = refl
+say_entry_determined W L G d κs a (Ok x) (Err f) s₁ s₂ p q u v = cc
+say_entry_determined W L G d κs a (Err e) y s₁ s₂ p q u v = cc
 
-pub say_place_determined : Determined 0 say_place_kinds.ps say_place_kinds.r say-place.Post
-say_place_determined κs a r₁ r₂ s₁ s₂ p q = cc
+pub say_place_determined :
+    (W : RattleType) (L : Laws W) (G : Ghosts W.Denot) (d : Dict) →
+    DeterminedIf 2 (say_place_kinds.ps W L) (say_place_kinds.r W L) (λ κs x. IsOk x) (say_place.Post W L G d)
+say_place_determined W L G d κs a (Ok x) (Ok y) s₁ s₂ p q u v = refl
+say_place_determined W L G d κs a (Ok x) (Err f) s₁ s₂ p q u v = cc
+say_place_determined W L G d κs a (Err e) y s₁ s₂ p q u v = cc
 
-pub say_reply_determined : Determined 0 say_reply_kinds.ps say_reply_kinds.r say-reply.Post
-say_reply_determined κs a r₁ r₂ s₁ s₂ p q = cc
+pub say_reply_determined :
+    (W : RattleType) (L : Laws W) (G : Ghosts W.Denot) (d : Dict) →
+    DeterminedIf 2 (say_reply_kinds.ps W L) (say_reply_kinds.r W L) (λ κs x. IsOk x) (say_reply.Post W L G d)
+say_reply_determined W L G d κs a (Ok x) (Ok y) s₁ s₂ p q u v = refl
+say_reply_determined W L G d κs a (Ok x) (Err f) s₁ s₂ p q u v = cc
+say_reply_determined W L G d κs a (Err e) y s₁ s₂ p q u v = cc
 
-pub say_refused_determined : Determined 0 say_refused_kinds.ps say_refused_kinds.r say-refused.Post
-say_refused_determined κs a r₁ r₂ s₁ s₂ p q = cc
+pub say_refused_determined :
+    (W : RattleType) (L : Laws W) (G : Ghosts W.Denot) (d : Dict) →
+    DeterminedIf 2 (say_refused_kinds.ps W L) (say_refused_kinds.r W L) (λ κs x. IsOk x) (say_refused.Post W L G d)
+say_refused_determined W L G d κs a (Ok x) (Ok y) s₁ s₂ p q u v = refl
+say_refused_determined W L G d κs a (Ok x) (Err f) s₁ s₂ p q u v = cc
+say_refused_determined W L G d κs a (Err e) y s₁ s₂ p q u v = cc
 
-pub say_written_determined : Determined 0 say_written_kinds.ps say_written_kinds.r say-written.Post
-say_written_determined κs a r₁ r₂ s₁ s₂ p q = cc
+pub say_written_determined :
+    (W : RattleType) (L : Laws W) (G : Ghosts W.Denot) (d : Dict) →
+    DeterminedIf 2 (say_written_kinds.ps W L) (say_written_kinds.r W L) (λ κs x. IsOk x) (say_written.Post W L G d)
+say_written_determined W L G d κs a (Ok x) (Ok y) s₁ s₂ p q u v = refl
+say_written_determined W L G d κs a (Ok x) (Err f) s₁ s₂ p q u v = cc
+say_written_determined W L G d κs a (Err e) y s₁ s₂ p q u v = cc
 
-pub say_places_determined : Determined 0 say_places_kinds.ps say_places_kinds.r say-places.Post
-say_places_determined κs a r₁ r₂ s₁ s₂ p q = cc
+pub say_places_determined :
+    (W : RattleType) (L : Laws W) (G : Ghosts W.Denot) (d : Dict) →
+    DeterminedIf 2 (say_places_kinds.ps W L) (say_places_kinds.r W L) (λ κs x. IsOk x) (say_places.Post W L G d)
+say_places_determined W L G d κs a (Ok x) (Ok y) s₁ s₂ p q u v = refl
+say_places_determined W L G d κs a (Ok x) (Err f) s₁ s₂ p q u v = cc
+say_places_determined W L G d κs a (Err e) y s₁ s₂ p q u v = cc
 
-pub say_buffer_determined : Determined 1 say_buffer_kinds.ps say_buffer_kinds.r say-buffer.Post
-say_buffer_determined κs a r₁ r₂ s₁ s₂ p q = cc
+pub say_buffer_determined :
+    (W : RattleType) (L : Laws W) (G : Ghosts W.Denot) (d : Dict) →
+    DeterminedIf 3 (say_buffer_kinds.ps W L) (say_buffer_kinds.r W L) (λ κs x. IsOk x) (say_buffer.Post W L G d)
+say_buffer_determined W L G d κs a (Ok x) (Ok y) s₁ s₂ p q u v = refl
+say_buffer_determined W L G d κs a (Ok x) (Err f) s₁ s₂ p q u v = cc
+say_buffer_determined W L G d κs a (Err e) y s₁ s₂ p q u v = cc

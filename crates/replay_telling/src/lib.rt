@@ -1,15 +1,47 @@
-// What the programs that replay stored vectors have in common: what they say of a number, a reply and a
-// buffer, and the numbers and codes in what they have read.
-ghost use Rattle.std.specs.Prelude.{◌≡◌, ◌+◌, ◌*◌, ◌%◌};
+// What the programs that replay stored vectors have in common: their file, the numbers and codes in what they have
+// read, and what they say of a number, a reply and a buffer.
+#![tactic(auto)]
+
+ghost use Rattle.std.specs.Prelude.{◌≡◌, ◌≤◌, ◌+◌, ◌*◌, ◌%◌, length, IfOk};
 ghost use Rattle.fields.specs.Fields.{IsView};
 ghost use Rattle.replay_telling.specs.Telling.{number_in, text_in, algorithm_of, elliptic_of, checkint_of, cipher_of, kdf_of, next_rest, rest_of};
 
 use fields::{Cursor, Fault, Part, Uint32};
 use key_material::Checkint;
-use libc::STDOUT_FILENO;
 use names::{Algorithm, AlgorithmName, Cipher, CipherName, Elliptic, Kdf, KdfName};
 use places::Places;
+use std::io::{Read, Write};
+use std::rt::Files;
+use std::{fs, io};
 use writer_reply::Written;
+
+// ---- the file
+
+// The file at a path. None where it can't be opened, which is told on standard error.
+pub fn open<R: Files + Eprint>(rt: &R, path: &str) -> io::Result<Option<R::File>> {
+    match fs::open(rt, path) {
+        Ok(file) => Ok(Some(file)),
+        Err(why) => {
+            eprintln!(rt; "{path}: {why}")?;
+            Ok(None)
+        }
+    }
+}
+
+// Reads until `buf` is full or the file ends, and answers how many bytes it put at the start of `buf`.
+pub fn read_full(file: &mut impl Read, buf: &mut [u8]) -> io::Result<usize>
+    ensures { IfOk result (λ n. n ≤ length buf.new) }
+{
+    let mut done = 0;
+    while done < buf.len() {
+        let n = file.read(&mut buf[done..])?;
+        if n == 0 {
+            break;
+        }
+        done += n;
+    }
+    Ok(done)
+}
 
 // ---- numbers that were read
 
@@ -105,23 +137,22 @@ pub fn kdf_of(n: u32) -> Kdf
 
 // ---- what is said
 
-pub fn word(w: &[u8])
-    ensures { result ≡ tt }
+pub fn word(out: &mut impl Write, w: &[u8]) -> io::Result<()>
+    ensures { IfOk result (λ done. done ≡ tt) }
 {
-    io::write_all(STDOUT_FILENO, w);
+    out.write_all(w)
 }
 
 // A number after a space.
-pub fn say_number(n: usize)
-    ensures { result ≡ tt }
+pub fn say_number(out: &mut impl Write, n: usize) -> io::Result<()>
+    ensures { IfOk result (λ done. done ≡ tt) }
 {
-    word(b" ");
-    io::print_decimal(STDOUT_FILENO, n as u64);
+    write!(out, " {n}")
 }
 
 // The entry that a stored call is of.
-pub fn say_entry(code: u32)
-    ensures { result ≡ tt }
+pub fn say_entry(out: &mut impl Write, code: u32) -> io::Result<()>
+    ensures { IfOk result (λ done. done ≡ tt) }
 {
     let names =
         b"plain    encryptedrewrite  change   rsa      keys     change_ofadd      add_rsa  remove   ";
@@ -129,72 +160,69 @@ pub fn say_entry(code: u32)
         start: (code as usize) * 9,
         length: 9,
     };
-    word(fields::view(names, name));
+    word(out, fields::view(names, name))
 }
 
 // Where a part begins, and its length.
-pub fn say_place(part: Part)
-    ensures { result ≡ tt }
+pub fn say_place(out: &mut impl Write, part: Part) -> io::Result<()>
+    ensures { IfOk result (λ done. done ≡ tt) }
 {
-    say_number(part.start);
-    say_number(part.length);
+    say_number(out, part.start)?;
+    say_number(out, part.length)
 }
 
 // A reply: the refusal's number, count and place, or the length that was written.
-pub fn say_reply(number: u8, count: usize, at: usize, length: usize)
-    ensures { result ≡ tt }
+pub fn say_reply(
+    out: &mut impl Write,
+    number: u8,
+    count: usize,
+    at: usize,
+    length: usize,
+) -> io::Result<()>
+    ensures { IfOk result (λ done. done ≡ tt) }
 {
-    say_number(number as usize);
-    say_number(count);
-    say_number(at);
-    say_number(length);
+    write!(out, " {number} {count} {at} {length}")
 }
 
-pub fn say_refused(f: Fault)
-    ensures { result ≡ tt }
+pub fn say_refused(out: &mut impl Write, f: Fault) -> io::Result<()>
+    ensures { IfOk result (λ done. done ≡ tt) }
 {
-    let why = f.why;
-    say_reply(why.number(), why.count(), f.at, 0);
+    say_reply(out, f.why.number(), f.why.count(), f.at, 0)
 }
 
-pub fn say_written(written: Written)
-    ensures { result ≡ tt }
+pub fn say_written(out: &mut impl Write, written: Written) -> io::Result<()>
+    ensures { IfOk result (λ done. done ≡ tt) }
 {
     match written {
-        Written::Refused(f) => say_refused(f),
-        Written::Length(length) => say_reply(0, 0, 0, length),
+        Written::Refused(f) => say_refused(out, f),
+        Written::Length(length) => say_reply(out, 0, 0, 0, length),
     }
 }
 
-fn say_others(places: Places) {
-    let mut i: usize = 1;
-    while i < 16 {
-        say_number(places.get(i) as usize);
-        i += 1;
+fn say_others(out: &mut impl Write, places: Places) -> io::Result<()> {
+    for i in 1..16 {
+        say_number(out, places.get(i) as usize)?;
     }
+    Ok(())
 }
 
 // Where the keypairs begin: the first key's, and the others' only where one of these isn't 0.
-pub fn say_places(places: Places)
-    ensures { result ≡ tt }
+pub fn say_places(out: &mut impl Write, places: Places) -> io::Result<()>
+    ensures { IfOk result (λ done. done ≡ tt) }
 {
     let first = places.p1 as usize;
-    say_number(first);
+    say_number(out, first)?;
     if !places.same(Places::none().push(first)) {
-        say_others(places);
+        say_others(out, places)?;
     }
+    Ok(())
 }
 
-fn wide(x: u8) -> u64 {
-    x as u64
-}
-
-fn say_hex(bytes: &[u8]) {
-    let mut i: usize = 0;
-    while i < bytes.len() {
-        io::print_hex(STDOUT_FILENO, wide(bytes[i]), 2);
-        i += 1;
+fn say_hex(out: &mut impl Write, bytes: &[u8]) -> io::Result<()> {
+    for byte in bytes {
+        write!(out, "{byte:02x}")?;
     }
+    Ok(())
 }
 
 // One byte more of a long buffer, which is taken as a single big-endian number modulo a prime.
@@ -218,16 +246,16 @@ pub fn rest_of(bytes: &[u8]) -> u64
 }
 
 // A short buffer byte by byte, a long one by what remains of it modulo the prime.
-pub fn say_buffer(bytes: &[u8])
-    ensures { result ≡ tt }
+pub fn say_buffer(out: &mut impl Write, bytes: &[u8]) -> io::Result<()>
+    ensures { IfOk result (λ done. done ≡ tt) }
 {
-    say_number(bytes.len());
+    say_number(out, bytes.len())?;
     if bytes.len() <= 256 {
-        word(b" hex:");
-        say_hex(bytes);
+        word(out, b" hex:")?;
+        say_hex(out, bytes)?;
     } else {
-        word(b" mod:");
-        io::print_decimal(STDOUT_FILENO, rest_of(bytes));
+        let rest = rest_of(bytes);
+        write!(out, " mod:{rest}")?;
     }
-    word(b"\n");
+    word(out, b"\n")
 }

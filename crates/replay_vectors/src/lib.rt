@@ -1,91 +1,89 @@
 // Replays stored images, for the programs that do so: reads them from the file `vectors`, each a length of
 // four bytes, big-endian, and that many bytes, and writes for each what the reads and the report say of it,
 // and of an image of several keys what each of them is.
-ghost use Rattle.std.specs.Prelude.{◌≡◌};
+#![tactic(auto)]
+
+ghost use Rattle.std.specs.Prelude.{◌≡◌, IfOk};
 
 use fields::Part;
 use key_pairs::Private;
 use key_public::Public;
 use reader_entries::KeyFields;
-use reader_header::Header;
 use reader_image::{Fields, ImageRead};
 use reader_keys::Looked;
 use replay_telling::{say_number, say_place, word};
+use std::io;
+use std::io::{Read, Write};
+use std::rt::Files;
 use writer_reply::Written;
 
 // ---- the keys
 
-fn say_public(public: Public) {
-    say_number(public.bits);
-    say_place(public.point);
-    say_place(public.modulus);
-    say_place(public.exponent);
+fn say_public(out: &mut impl Write, public: Public) -> io::Result<()> {
+    say_number(out, public.bits)?;
+    say_place(out, public.point)?;
+    say_place(out, public.modulus)?;
+    say_place(out, public.exponent)
 }
 
-fn say_private(private: Private) {
-    say_place(private.scalar);
-    say_place(private.d);
-    say_place(private.iqmp);
-    say_place(private.p);
-    say_place(private.q);
+fn say_private(out: &mut impl Write, private: Private) -> io::Result<()> {
+    say_place(out, private.scalar)?;
+    say_place(out, private.d)?;
+    say_place(out, private.iqmp)?;
+    say_place(out, private.p)?;
+    say_place(out, private.q)
 }
 
-fn say_key(key: KeyFields) {
-    let algorithm = key.algorithm;
-    say_number(algorithm.code() as usize);
-    say_place(key.blob);
-    say_public(key.public);
-    say_number(key.begins);
-    say_private(key.private);
-    say_place(key.comment);
+fn say_key(out: &mut impl Write, key: KeyFields) -> io::Result<()> {
+    say_number(out, key.algorithm.code() as usize)?;
+    say_place(out, key.blob)?;
+    say_public(out, key.public)?;
+    say_number(out, key.begins)?;
+    say_private(out, key.private)?;
+    say_place(out, key.comment)
 }
 
 // Key k; of a number that no key has the number alone.
-fn say_numbered(image: &[u8], f: Fields, k: usize) {
-    word(b"key");
-    say_number(k);
+fn say_numbered(out: &mut impl Write, image: &[u8], f: Fields, k: usize) -> io::Result<()> {
+    word(out, b"key")?;
+    say_number(out, k)?;
     match reader_keys::key_of(image, f, k) {
         Looked::Nothing => {}
-        Looked::Key(key) => say_key(key),
+        Looked::Key(key) => say_key(out, key)?,
     }
-    word(b"\n");
-}
-
-fn several(header: Header) -> bool {
-    header.count > 1
+    word(out, b"\n")
 }
 
 // Where there are several keys, each number from 0 to one more than there can be.
-fn say_keys(image: &[u8], f: Fields) {
-    if !several(f.header) {
-        return;
+fn say_keys(out: &mut impl Write, image: &[u8], f: Fields) -> io::Result<()> {
+    if f.header.count <= 1 {
+        return Ok(());
     }
-    let mut k: usize = 0;
-    while k < 18 {
-        say_numbered(image, f, k);
-        k += 1;
+    for k in 0..18 {
+        say_numbered(out, image, f, k)?;
     }
+    Ok(())
 }
 
-fn say_keys_read(image: &[u8]) {
+fn say_keys_read(out: &mut impl Write, image: &[u8]) -> io::Result<()> {
     match reader_image::read(image) {
-        ImageRead::Refused(_) => {}
-        ImageRead::Record(f) => say_keys(image, f),
+        ImageRead::Refused(_) => Ok(()),
+        ImageRead::Record(f) => say_keys(out, image, f),
     }
 }
 
 // ---- the report
 
-fn say_report(image: &[u8]) {
+fn say_report(out: &mut impl Write, image: &[u8]) -> io::Result<()> {
     let mut text = [0u8; 256];
     match inspect_report::write_report(image, &mut text) {
-        Written::Refused(_) => {}
+        Written::Refused(_) => Ok(()),
         Written::Length(n) => {
             let lines = Part {
                 start: 0,
                 length: n,
             };
-            word(fields::view(&text, lines));
+            word(out, fields::view(&text, lines))
         }
     }
 }
@@ -93,52 +91,50 @@ fn say_report(image: &[u8]) {
 // ---- the images
 
 // Reads len bytes, or as many as there are, into the start of buf.
-fn fill(fd: i32, buf: &mut [u8], len: usize) -> usize {
+fn fill(file: &mut impl Read, buf: &mut [u8], len: usize) -> io::Result<usize> {
     if len <= buf.len() {
-        io::read_full(fd, &mut buf[0..len])
+        replay_telling::read_full(file, &mut buf[..len])
     } else {
-        0
+        Ok(0)
     }
 }
 
 // One image; whether there was one.
-fn one(fd: i32) -> bool {
+fn one(out: &mut impl Write, file: &mut impl Read) -> io::Result<bool> {
     let mut head = [0u8; 4];
-    let got = io::read_full(fd, &mut head);
+    let got = replay_telling::read_full(file, &mut head)?;
     if got < 4 {
-        return false;
+        return Ok(false);
     }
     let mut buf = [0u8; 66000];
-    let n = fill(fd, &mut buf, replay_telling::number_at(&head, 0) as usize);
+    let n = fill(file, &mut buf, replay_telling::number_at(&head, 0) as usize)?;
     let whole = Part {
         start: 0,
         length: n,
     };
     let image = fields::view(&buf, whole);
-    replay_reads::say_read(image);
-    replay_reads::say_header_read(image);
-    say_report(image);
-    say_keys_read(image);
-    true
+    replay_reads::say_read(out, image)?;
+    replay_reads::say_header_read(out, image)?;
+    say_report(out, image)?;
+    say_keys_read(out, image)?;
+    Ok(true)
 }
 
-// A proved loop has to end, so it counts its turns down.
-fn all(fd: i32) {
-    let mut turns = u64::MAX;
-    while turns > 0 && one(fd) {
-        turns -= 1;
+// A proved loop has to end, so it counts its turns.
+fn all(out: &mut impl Write, file: &mut impl Read) -> io::Result<()> {
+    for _ in 0..u64::MAX {
+        if !one(out, file)? {
+            break;
+        }
     }
+    Ok(())
 }
 
-pub fn replay_images()
-    ensures { result ≡ tt }
+pub fn replay_images<R: Files + Print + Eprint>(rt: &R) -> io::Result<()>
+    ensures { IfOk result (λ done. done ≡ tt) }
 {
-    let path = b"vectors";
-    let fd = os::open_read(path);
-    if fd < 0 {
-        os::fail(path);
-        return;
+    match replay_telling::open(rt, "vectors")? {
+        Some(mut file) => all(&mut io::writer(rt), &mut file),
+        None => Ok(()),
     }
-    all(fd);
-    libc::close(fd);
 }

@@ -1,4 +1,8 @@
 // Replays the stored calls of the writers of one key and of the comment change.
-fn main() {
-    replay_calls::replay_calls();
+#![tactic(auto)]
+
+use std::io;
+
+fn main(rt: HostRuntime) -> io::Result<()> {
+    replay_calls::replay_calls(&rt)
 }

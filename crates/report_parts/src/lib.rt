@@ -1,4 +1,6 @@
 // What the reports have in common: the line of a refused image, and a finished text handed to a lent buffer.
+#![tactic(auto)]
+
 ghost use Rattle.std.specs.Prelude.{◌≤◌, length};
 ghost use Rattle.fields.specs.Refusals.{number_of, count_of};
 ghost use Rattle.buffer.specs.Puts.{IsPut};

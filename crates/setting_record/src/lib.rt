@@ -1,6 +1,8 @@
 // A reconnect setting's record of four bytes: read by itself, and written.
 //
 // The record is a number of 32 bits. What its bits say, and which settings it can hold, is decided here for the store too.
+#![tactic(auto)]
+
 ghost use Rattle.std.specs.Prelude.{◌≡◌};
 ghost use Rattle.writer_reply.specs.Reply.{Answers};
 ghost use Rattle.setting_record.specs.Bits.{is_version, unit, is_known, kind_in, milliseconds_in, answer_of};
@@ -11,14 +13,14 @@ use fields::{Cursor, Refusal, Uint32};
 use writer_reply::Written;
 
 // A kind of key, by its code, and a delay.
-#[derive(Drop)]
+#[derive(Clone, Copy)]
 pub struct Setting {
     pub kind: u8,
     pub milliseconds: u64,
 }
 
 // What a read answers; only a store's place can be empty.
-#[derive(Drop)]
+#[derive(Clone, Copy)]
 pub enum Answer {
     Setting(Setting),
     Empty,
@@ -26,7 +28,7 @@ pub enum Answer {
 }
 
 // A setting as a record's number.
-#[derive(Drop)]
+#[derive(Clone, Copy)]
 pub enum Packed {
     Record(u32),
     Refused(Refusal),

@@ -1,6 +1,8 @@
 // The store of reconnect settings: 128 lent bytes with a place for each device number from 0 to 31.
 //
 // A move judges all places before it changes one.
+#![tactic(auto)]
+
 ghost use Rattle.std.specs.Prelude.{◌≡◌, ◌*◌, length};
 ghost use Rattle.writer_reply.specs.Reply.{Answers};
 ghost use Rattle.setting_store.specs.Store.{get_reply, put_reply, put_left};

@@ -1,58 +1,211 @@
-// What the programs that go from standard input to standard output have in common: bytes handed out, and
+// What the programs that go from standard input to standard output have in common: bytes taken in and handed out, and
 // what is told on standard error: a refusal, a read that failed, a write that failed. `input` and `output`
 // name the program and the stream.
-ghost use Rattle.std.specs.Prelude.{◌≡◌};
+#![tactic(auto)]
+
+ghost use Rattle.std.specs.Prelude.{◌≡◌, ◌≤◌, length, IfOk, IfSome};
 
 use fields::{Fault, Part};
-use libc::{STDERR_FILENO, STDOUT_FILENO};
+use std::io;
+use std::io::{Read, Write};
 use writer_reply::Written;
 
-// Why an input that gave fewer bytes than it was asked for had not ended, by what one more read answered.
-// `io::read_full` answers a short count both where the input ends and where a read fails. Asked once more, an
-// input that has ended answers 0, and one whose read failed either fails again or goes on.
-pub fn tell_unread(got: isize, input: &[u8])
-    ensures { result ≡ tt }
+// Reads until `buf` is full, the input ends or a read fails, and answers how many bytes it put at the start of `buf`.
+pub fn read_full<R: Read>(from: &mut R, buf: &mut [u8]) -> usize
+    ensures { result ≤ length buf.new }
 {
-    if got < 0 {
-        os::fail(input);
-        return;
+    let mut done = 0;
+    while done < buf.len() {
+        match from.read(&mut buf[done..]) {
+            Ok(n) if n > 0 => done += n,
+            _ => break,
+        }
     }
-    io::write_all(STDERR_FILENO, input);
-    io::write_all(STDERR_FILENO, b": a read failed before its end\n");
+    done
 }
 
-fn tell_number(n: usize) {
-    io::write_all(STDERR_FILENO, b" ");
-    io::print_decimal(STDERR_FILENO, n as u64);
+// How many bytes of an input were put at the start of `buf`: all of it, or as much as there is room for. None where
+// a read failed, which is told.
+pub fn take_input<R: Read, E: Write>(
+    from: &mut R,
+    err: &mut E,
+    buf: &mut [u8],
+    input: &[u8],
+) -> io::Result<Option<usize>>
+    ensures { IfOk result (λ taken. IfSome taken (λ n. n ≤ length buf.new)) }
+{
+    let n = read_full(from, buf);
+    if n < buf.len() {
+        let mut one = [0u8; 1];
+        let got = from.read(&mut one);
+        if !matches!(got, Ok(0)) {
+            tell_unread(err, got, input)?;
+            return Ok(None);
+        }
+    }
+    Ok(Some(n))
+}
+
+// Why an input that gave fewer bytes than it was asked for had not ended, by what one more read answered.
+// `read_full` answers a short count both where the input ends and where a read fails. Asked once more, an
+// input that has ended answers 0, and one whose read failed either fails again or goes on.
+pub fn tell_unread<E: Write>(err: &mut E, got: io::Result<usize>, input: &[u8]) -> io::Result<()>
+    ensures { IfOk result (λ done. done ≡ tt) }
+{
+    match got {
+        Err(why) => tell_failed(err, input, why),
+        Ok(_) => {
+            err.write_all(input)?;
+            err.write_all(b": a read failed before its end\n")
+        }
+    }
+}
+
+// What failed, as the caller names it, and why.
+fn tell_failed<E: Write>(err: &mut E, what: &[u8], why: io::Error) -> io::Result<()> {
+    err.write_all(what)?;
+    writeln!(err, ": {why}")
 }
 
 // A refusal by its number, its count and its place.
-pub fn tell_refused(f: Fault)
-    ensures { result ≡ tt }
+pub fn tell_refused<E: Write>(err: &mut E, f: Fault) -> io::Result<()>
+    ensures { IfOk result (λ done. done ≡ tt) }
 {
-    let why = f.why;
-    io::write_all(STDERR_FILENO, b"refused");
-    tell_number(why.number() as usize);
-    tell_number(why.count());
-    tell_number(f.at);
-    io::write_all(STDERR_FILENO, b"\n");
+    let number = f.why.number();
+    let count = f.why.count();
+    let at = f.at;
+    writeln!(err, "refused {number} {count} {at}")
 }
 
-// What was written at the start of a buffer goes to standard output; a refusal is told.
-pub fn hand_out(written: Written, buffer: &[u8], output: &[u8])
-    ensures { result ≡ tt }
+// What was written at the start of a buffer goes to standard output; a refusal is told, and so is a write that failed.
+pub fn hand_out<O: Write, E: Write>(
+    out: &mut O,
+    err: &mut E,
+    written: Written,
+    buffer: &[u8],
+    output: &[u8],
+) -> io::Result<()>
+    ensures { IfOk result (λ done. done ≡ tt) }
 {
     match written {
-        Written::Refused(f) => tell_refused(f),
+        Written::Refused(f) => tell_refused(err, f),
         Written::Length(n) => {
             let whole = Part {
                 start: 0,
                 length: n,
             };
-            let is_handed = io::write_all(STDOUT_FILENO, fields::view(buffer, whole));
-            if !is_handed {
-                os::fail(output);
+            match out.write_all(fields::view(buffer, whole)) {
+                Ok(()) => Ok(()),
+                Err(why) => tell_failed(err, output, why),
             }
         }
+    }
+}
+
+#[cfg(test)]
+mod tests {
+    use super::*;
+    use fields::Refusal;
+    use std::test::Fail;
+
+    // An input of so many bytes, given two at a time, after which its reads fail so many times before it ends.
+    #[derive(Drop)]
+    struct Input {
+        bytes: usize,
+        failures: usize,
+    }
+
+    impl Read for Input {
+        fn read(&mut self, buf: &mut [u8]) -> io::Result<usize> {
+            let n = self.bytes.min(buf.len()).min(2);
+            self.bytes -= n;
+            if n == 0 && self.failures > 0 {
+                self.failures -= 1;
+                return Err(io::Error::other("gone"));
+            }
+            Ok(n)
+        }
+    }
+
+    // An output that takes nothing.
+    #[derive(Drop)]
+    struct Full;
+
+    impl Write for Full {
+        fn write(&mut self, _buf: &[u8]) -> io::Result<usize> {
+            Err(io::Error::other("full"))
+        }
+
+        fn flush(&mut self) -> io::Result<()> {
+            Ok(())
+        }
+    }
+
+    #[test]
+    fn an_input_is_taken_up_to_the_room_for_it(rt: HostRuntime) -> Result<(), Fail> {
+        let mut told = Vec::new(rt.alloc());
+        for (bytes, want) in [(0, 0), (5, 5), (8, 8), (9, 8)] {
+            let mut from = Input { bytes, failures: 0 };
+            let taken = take_input(&mut from, &mut told, &mut [0u8; 8], b"me: in")?;
+            assert_eq!(rt; taken, Some(want));
+        }
+        assert_eq!(rt; told.as_slice(), b"".as_slice());
+        Ok(())
+    }
+
+    #[test]
+    fn a_failed_read_is_told(rt: HostRuntime) -> Result<(), Fail> {
+        let mut told = Vec::new(rt.alloc());
+        let mut from = Input {
+            bytes: 5,
+            failures: 2,
+        };
+        let taken = take_input(&mut from, &mut told, &mut [0u8; 8], b"me: in")?;
+        assert_eq!(rt; taken, None);
+        assert_eq!(rt; told.as_slice(), b"me: in: gone\n".as_slice());
+        Ok(())
+    }
+
+    #[test]
+    fn an_input_that_goes_on_is_told(rt: HostRuntime) -> Result<(), Fail> {
+        let mut told = Vec::new(rt.alloc());
+        tell_unread(&mut told, Ok(1), b"me: in")?;
+        assert_eq!(rt;
+            told.as_slice(),
+            b"me: in: a read failed before its end\n".as_slice()
+        );
+        Ok(())
+    }
+
+    #[test]
+    fn what_was_written_is_handed_out(rt: HostRuntime) -> Result<(), Fail> {
+        let mut out = Vec::new(rt.alloc());
+        let mut told = Vec::new(rt.alloc());
+        hand_out(&mut out, &mut told, Written::Length(2), b"abc", b"me: out")?;
+        assert_eq!(rt; out.as_slice(), b"ab".as_slice());
+        assert_eq!(rt; told.as_slice(), b"".as_slice());
+        Ok(())
+    }
+
+    #[test]
+    fn a_refusal_is_told(rt: HostRuntime) -> Result<(), Fail> {
+        let mut out = Vec::new(rt.alloc());
+        let mut told = Vec::new(rt.alloc());
+        let refused = Written::Refused(Fault {
+            why: Refusal::TrailingData(2),
+            at: 242,
+        });
+        hand_out(&mut out, &mut told, refused, b"abc", b"me: out")?;
+        assert_eq!(rt; out.as_slice(), b"".as_slice());
+        assert_eq!(rt; told.as_slice(), b"refused 6 2 242\n".as_slice());
+        Ok(())
+    }
+
+    #[test]
+    fn a_failed_write_is_told(rt: HostRuntime) -> Result<(), Fail> {
+        let mut told = Vec::new(rt.alloc());
+        hand_out(&mut Full, &mut told, Written::Length(2), b"abc", b"me: out")?;
+        assert_eq!(rt; told.as_slice(), b"me: out: full\n".as_slice());
+        Ok(())
     }
 }

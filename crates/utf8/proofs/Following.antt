@@ -33,7 +33,7 @@ two_bytes lead b t h k = ap (λ (row : Row). utf8_from row (b ∷ t)) (sym (firs
 
 begins_nothing : (b : ℕ) (t : List ℕ) → 1 to 0 ∷ [] ≡ rest b UTF8-char → utf8 (b ∷ t) ≡ false
 unfolding utf8 utf8_from
-begins_nothing b t e = rw (← e) (no_row t)
+begins_nothing b t e = ap (λ (row : Row). utf8_from row t) (sym e) ∙ no_row t
 
 highest_tail : (lead : ℕ) → highest_after lead ≤ 0xBF
 highest_tail lead = go (eqb lead 0xED) (eqb lead 0xF4)

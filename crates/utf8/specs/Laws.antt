@@ -145,7 +145,8 @@ utf8_complete (char {more = t} m r o) = pass_char t m r ∙ utf8_complete o
 
 pub ascii_next : (b : ℕ) (t : List ℕ) → b < 0x80 → utf8 (b ∷ t) ≡ utf8 t
 unfolding utf8 utf8_from UTF8-char
-ascii_next b t h = rw (lies_in 0x00 0x7F b (omega arith) (omega arith))
+ascii_next b t h =
+    ap (λ (row : Row). utf8_from row t) (sym (rest_between 0x00 0x7F {ranges = []} {b = b} refl (omega arith) (omega arith)))
 
 pub ascii_utf8 : (t : List ℕ) → ((k : ℕ) → k < length t → get_or t k 0 < 0x80) → utf8 t ≡ true
 unfolding utf8 utf8_from

@@ -1,4 +1,6 @@
 // Is a text UTF-8 (RFC 3629)?
+#![tactic(auto)]
+
 ghost use Rattle.std.specs.Prelude.{◌≡◌, ◌+◌, ◌/◌, ◌≤◌, ◌<◌, true, length, drop, get_or};
 ghost use Rattle.std.specs.Int.Count.{count_trailing_zeros};
 ghost use Rattle.utf8.specs.Utf8.{◌to◌, UTF8-char, rest, utf8};
@@ -7,11 +9,11 @@ ghost use Rattle.utf8.specs.Steps.{ascii_run, top_bits, lies_at, ranges, Ends, P
 ghost use Rattle.utf8.specs.Follow.{lowest_after, highest_after, may_follow, all_follow, begin_of};
 
 // What is left of a character after its first byte: a byte from .0 to .1, and then .2 bytes from 0x80 to 0xBF.
-#[derive(Drop)]
+#[derive(Clone, Copy)]
 struct Rest(u8, u8, u8);
 
 // Where characters end, if they stand there whole.
-#[derive(Drop)]
+#[derive(Clone, Copy)]
 enum Found {
     End(usize),
     Nothing,

@@ -1,6 +1,8 @@
 // Bytes compared by words: a name is held to a text a few bytes at a time.
 //
 // A word is some bytes as one number, the first the lowest; two words are equal exactly if their bytes are.
+#![tactic(auto)]
+
 ghost use Rattle.std.specs.Prelude.{◌≡◌, ◌+◌, ◌%◌, ◌≤◌, ◌<◌, [], ◌∷◌, length, drop};
 ghost use Rattle.fields.specs.Bytes.{same_bytes};
 ghost use Rattle.words.specs.Words.{low, IsWord, same_piece};

@@ -46,6 +46,8 @@ options_told kdf.Bcrypt salt rounds h = refl
 
 -- keys that fit, whatever zeros stand before their scalars
 all_pass : (zs : List ℕ) (keys : List Key) → AllFit zs keys → AllPass keys
+all_pass [] (k ∷ keys) fits = elim fits [ ]
+all_pass (z ∷ zs) [] fits = elim fits [ ]
 all_pass [] [] fits = tt
 all_pass (z ∷ zs) (k ∷ keys) fits = (fits.0.public, fits.0.private, fits.0.text, all_pass zs keys fits.1)
 

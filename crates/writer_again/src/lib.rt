@@ -1,4 +1,6 @@
 // An image's record written again.
+#![tactic(auto)]
+
 ghost use Rattle.std.specs.Prelude.{◌≡◌, ◌≤◌, length};
 ghost use Rattle.reader_image.specs.declared.ImageRead.TheVariants as read;
 ghost use Rattle.reader_image.specs.Container.{read_at};

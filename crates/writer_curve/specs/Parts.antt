@@ -22,7 +22,7 @@ keypair_fields e zeros key x = blob (OnCurve e) key ∷ private_field e key.poin
 pub keypair_joined :
     (e : Elliptic) (zeros : ℕ) (key : PublicBytes) (x : PrivateBytes) → join (keypair_fields e zeros key x) ≡ keypair (OnCurve e) zeros key x
 unfolding blob keypair
-keypair_joined e zeros key x = simp (append_assoc, append-nil)
+keypair_joined e z key x = simp (append_assoc, append-nil)
 
 -- ---- their lengths
 

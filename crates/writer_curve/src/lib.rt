@@ -1,4 +1,6 @@
 // A key over a curve, as the writers check, measure and put it.
+#![tactic(auto)]
+
 ghost use Rattle.std.specs.Prelude.{◌≡◌, ◌++◌, ◌+◌, ◌<◌, length};
 ghost use Rattle.fields.specs.Bytes.{string, join};
 ghost use Rattle.names.specs.declared.Algorithm.TheVariants.{Elliptic as OnCurve};

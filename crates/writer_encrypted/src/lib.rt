@@ -1,5 +1,7 @@
 // The writer of encrypted images, from the public blob, the ciphertext and the tag as they are given. It
 // checks all, in the rules' order, before it changes a byte.
+#![tactic(auto)]
+
 ghost use Rattle.std.specs.Prelude.{◌≡◌, true, ℕ, ◌+◌, ◌<◌, length};
 ghost use Rattle.fields.specs.Bytes.{string};
 ghost use Rattle.names.specs.Ciphers.{cipher_name, kdf_name};

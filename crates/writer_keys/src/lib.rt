@@ -1,5 +1,7 @@
 // The plain writer of 1 to 16 keys, which are handed in as one lent text and a table of numbers. It checks all, in
 // the rules' order, before it changes a byte; then it puts the blobs and, in a second pass, the entries.
+#![tactic(auto)]
+
 ghost use Rattle.std.specs.Prelude.{◌≡◌, true, false, map, ◌+◌, ◌*◌, ◌≤◌, ◌<◌, length};
 ghost use Rattle.fields.specs.Bytes.{join};
 ghost use Rattle.format.specs.Format.{key_blob, written_entry, written_image};

@@ -31,6 +31,8 @@ private_own (OnCurve e) key x fits = sym fits.1
 private_own Rsa key x fits = sym fits.1
 
 keys_own : (zs : List ℕ) (keys : List Key) → AllFit zs keys → map own_key keys ≡ keys
+keys_own [] (k ∷ keys) fits = elim fits [ ]
+keys_own (z ∷ zs) [] fits = elim fits [ ]
 keys_own [] [] fits = refl
 keys_own (z ∷ zs) (k ∷ keys) fits =
     let one : own_key k ≡ k =

@@ -1,5 +1,7 @@
 // A record's keys as the table that the writer of several takes: their parts are places in the image itself. The
 // first key's are the record's own; the others are read anew, each where it begins, with the blob of its number.
+#![tactic(auto)]
+
 ghost use Rattle.std.specs.Prelude.{◌≡◌, map};
 ghost use Rattle.fields.specs.Bytes.{join};
 ghost use Rattle.buffer.specs.Puts.{IsPut};

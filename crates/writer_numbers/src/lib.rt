@@ -1,4 +1,6 @@
 // An RSA key, as the writers check, measure and put it.
+#![tactic(auto)]
+
 ghost use Rattle.std.specs.Prelude.{◌≡◌, length};
 ghost use Rattle.fields.specs.Bytes.{string};
 ghost use Rattle.names.specs.declared.Algorithm.TheVariants.{Rsa};

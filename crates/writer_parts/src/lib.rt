@@ -1,4 +1,6 @@
 // What the plain writers have in common: lengths that are added up, and whether there is room for them.
+#![tactic(auto)]
+
 ghost use Rattle.std.specs.Prelude.{◌≡◌, ◌+◌, leb};
 ghost use Rattle.writer_parts.specs.Sizes.{capped};
 ghost use Rattle.writer_parts.specs.Fields.{image_length};

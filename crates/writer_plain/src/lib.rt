@@ -1,5 +1,7 @@
 // The plain writer of the four kinds over a curve: key material and a comment to an image. It checks all, in the
 // rules' order, before it changes a byte.
+#![tactic(auto)]
+
 ghost use Rattle.std.specs.Prelude.{◌≡◌, ◌<◌};
 ghost use Rattle.names.specs.declared.Algorithm.TheVariants.{Elliptic as OnCurve};
 ghost use Rattle.format.specs.Format.{of_point, of_scalar, entry, key_of, alone, written_pair, written_image};

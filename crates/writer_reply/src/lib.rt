@@ -1,11 +1,13 @@
 // What a writer, a comment change or the report answers: a length, or the refusal. `refused` makes a
 // writer's own, which is at 0.
+#![tactic(auto)]
+
 ghost use Rattle.std.specs.Prelude.{◌≡◌};
 ghost use Rattle.writer_reply.specs.Reply.{refused};
 
 use fields::{Fault, Refusal};
 
-#[derive(Drop)]
+#[derive(Clone, Copy)]
 pub enum Written {
     Length(usize),
     Refused(Fault),

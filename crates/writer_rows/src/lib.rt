@@ -1,4 +1,6 @@
 // One key of a table, as the writer of several keys checks, measures and puts it.
+#![tactic(auto)]
+
 ghost use Rattle.std.specs.Prelude.{◌≡◌, length};
 ghost use Rattle.fields.specs.Bytes.{string};
 ghost use Rattle.format.specs.Format.{alone, key_blob, written_entry};

@@ -1,5 +1,7 @@
 // The plain writer of RSA keys: six lent mpints and a comment to an image. It checks all, in the rules' order,
 // before it changes a byte.
+#![tactic(auto)]
+
 ghost use Rattle.std.specs.Prelude.{◌≡◌, ◌<◌};
 ghost use Rattle.names.specs.declared.Algorithm.TheVariants.{Rsa};
 ghost use Rattle.format.specs.Format.{of_modulus, of_numbers, entry, key_of, alone, written_pair, written_image};

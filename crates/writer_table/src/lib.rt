@@ -1,4 +1,6 @@
 // The table of keys that a caller hands in beside one text: its numbers, its parts, and whether it can be used.
+#![tactic(auto)]
+
 ghost use Rattle.std.specs.Prelude.{◌≡◌, ◌+◌, ◌*◌, ◌≤◌, length, get_or};
 ghost use Rattle.fields.specs.Fields.{IsView};
 ghost use Rattle.names_codes.specs.Codes.{algorithm_coded};

@@ -1,0 +1,28 @@
+-- `writer_rsa::write_parts` meets its contract: the key's check, the comment's, then size and room. Rests on the callees' contracts and on
+-- the laws of checks.
+use mathlib.Core.Path.{refl, sym, ◌∙◌}
+use Rattle.names.specs.declared.Algorithm.TheVariants.{Rsa}
+use Rattle.format.specs.Format.{of_modulus, of_numbers}
+use Rattle.writer_reply.specs.Reply.{answered}
+use Rattle.writer_parts.specs.Checks.{checking_key}
+use Rattle.writer_plain.specs.Plain.{plain_reply, plain_left}
+use Rattle.writer_rsa.proofs.write_parts.Goals as goal
+
+pub returns-then-not-is_utf8 : goal.returns-then-not-is_utf8
+unfolding plain_reply plain_left
+returns-then-not-is_utf8 c = let a = c.args in
+    let key = checking_key Rsa (of_modulus a.n.now a.e.now) (of_numbers a.d.now a.iqmp.now a.p.now a.q.now) in
+    rw (c.refused.ensures, key.passes _ _ (sym c.check.ensures ∙ c.in-Length.is), ← c.is_utf8.ensures, c.if-not-is_utf8.true) (refl, refl, refl)
+
+pub returns-in-Refused : goal.returns-in-Refused
+unfolding plain_reply plain_left
+returns-in-Refused c = let a = c.args in
+    let key = checking_key Rsa (of_modulus a.n.now a.e.now) (of_numbers a.d.now a.iqmp.now a.p.now a.q.now) in
+    rw (key.refuses _ _ (sym c.check.ensures ∙ c.in-Refused.is)) (refl, refl, refl)
+
+pub returns-else-not-is_utf8 : goal.returns-else-not-is_utf8
+unfolding plain_reply plain_left
+returns-else-not-is_utf8 c = let a = c.args in
+    let key = checking_key Rsa (of_modulus a.n.now a.e.now) (of_numbers a.d.now a.iqmp.now a.p.now a.q.now) in
+    rw (key.passes _ _ (sym c.check.ensures ∙ c.in-Length.is), ← c.is_utf8.ensures, c.if-not-is_utf8.false)
+    (answered _ _ _ _ c.write_sized.ensures)

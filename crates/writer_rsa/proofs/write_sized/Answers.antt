@@ -1,0 +1,45 @@
+-- `writer_rsa::write_sized` meets its contract: the lengths that it adds up are the image's. Rests on `alone_measured`.
+use native.Mathlib.Omega.{arith}
+use mathlib.Core.Path.{◌≡◌}
+use lib.ListN.{length}
+use Rattle.names.specs.declared.Algorithm.TheVariants.{Rsa}
+use Rattle.format.specs.Format.{of_modulus, of_numbers, entry, key_of, alone, blob, written_pair, written_image}
+use Rattle.writer_reply.specs.Sized.{too_large, no_room, done}
+use Rattle.writer_parts.specs.Sizes.{capped, capped_above, capped_exact}
+use Rattle.writer_parts.specs.Fields.{image_length_lem, entries_exact, entry_measured, alone_measured}
+use Rattle.writer_rsa.proofs.write_sized.Goals as goal
+
+pub returns-then-size-gt65535 : goal.returns-then-size-gt65535
+returns-then-size-gt65535 c = let a = c.args in
+    let image = written_image a.checkint (alone (key_of Rsa (of_modulus a.n.now a.e.now) (of_numbers a.d.now a.iqmp.now a.p.now a.q.now) a.comment.now)) in
+    let size : c.image_length-size.result ≡ capped (length image) =
+    alone_measured Rsa (of_modulus a.n.now a.e.now) (of_numbers a.d.now a.iqmp.now a.p.now a.q.now) a.comment.now a.checkint _ _ _ _ _ _ c.blob_length-key.ensures c.pair_length-pair.ensures c.added.ensures c.added-entries.ensures c.added-2.ensures c.image_length-size.ensures in
+    rw c.refused.ensures (too_large image a.out.now (capped_above _ _ 65535 size (omega (arith, c.if-size-gt65535.true))))
+
+pub returns-then-out-size : goal.returns-then-out-size
+returns-then-out-size c = let a = c.args in
+    let image = written_image a.checkint (alone (key_of Rsa (of_modulus a.n.now a.e.now) (of_numbers a.d.now a.iqmp.now a.p.now a.q.now) a.comment.now)) in
+    let size : c.image_length-size.result ≡ capped (length image) =
+    alone_measured Rsa (of_modulus a.n.now a.e.now) (of_numbers a.d.now a.iqmp.now a.p.now a.q.now) a.comment.now a.checkint _ _ _ _ _ _ c.blob_length-key.ensures c.pair_length-pair.ensures c.added.ensures c.added-entries.ensures c.added-2.ensures c.image_length-size.ensures in
+    let exact : c.image_length-size.result ≡ length image = capped_exact _ _ _ size c.if-size-gt65535.false (omega arith) in
+    rw c.refused-then-out-size.ensures (no_room image a.out.now (omega (arith, exact, c.if-size-gt65535.false)) (omega (arith, exact, c.if-out-size.true)))
+
+pub put_plain-requires : goal.put_plain-requires
+unfolding written_image
+put_plain-requires c = let a = c.args in
+    let image = written_image a.checkint (alone (key_of Rsa (of_modulus a.n.now a.e.now) (of_numbers a.d.now a.iqmp.now a.p.now a.q.now) a.comment.now)) in
+    let size : c.image_length-size.result ≡ capped (length image) =
+    alone_measured Rsa (of_modulus a.n.now a.e.now) (of_numbers a.d.now a.iqmp.now a.p.now a.q.now) a.comment.now a.checkint _ _ _ _ _ _ c.blob_length-key.ensures c.pair_length-pair.ensures c.added.ensures c.added-entries.ensures c.added-2.ensures c.image_length-size.ensures in
+    let exact : c.image_length-size.result ≡ length image = capped_exact _ _ _ size c.if-size-gt65535.false (omega arith) in
+    let es = alone (entry (written_pair Rsa (of_modulus a.n.now a.e.now) (of_numbers a.d.now a.iqmp.now a.p.now a.q.now)) a.comment.now) in
+    let entries = entry_measured Rsa (of_modulus a.n.now a.e.now) (of_numbers a.d.now a.iqmp.now a.p.now a.q.now) a.comment.now _ _ _ c.pair_length-pair.ensures c.added.ensures c.added-entries.ensures in
+    let same = entries_exact a.checkint (alone (blob Rsa (of_modulus a.n.now a.e.now))) es _ entries (omega (arith, exact, c.if-size-gt65535.false)) in
+    (same, omega (arith, same, exact, c.if-size-gt65535.false, image_length_lem a.checkint (alone (blob Rsa (of_modulus a.n.now a.e.now))) es))
+
+pub returns : goal.returns
+returns c = let a = c.args in
+    let image = written_image a.checkint (alone (key_of Rsa (of_modulus a.n.now a.e.now) (of_numbers a.d.now a.iqmp.now a.p.now a.q.now) a.comment.now)) in
+    let size : c.image_length-size.result ≡ capped (length image) =
+    alone_measured Rsa (of_modulus a.n.now a.e.now) (of_numbers a.d.now a.iqmp.now a.p.now a.q.now) a.comment.now a.checkint _ _ _ _ _ _ c.blob_length-key.ensures c.pair_length-pair.ensures c.added.ensures c.added-entries.ensures c.added-2.ensures c.image_length-size.ensures in
+    let exact : c.image_length-size.result ≡ length image = capped_exact _ _ _ size c.if-size-gt65535.false (omega arith) in
+    done image a.out.now _ _ (omega (arith, exact, c.if-size-gt65535.false)) (omega (arith, exact, c.if-out-size.false)) c.put_plain.ensures
