@@ -4,7 +4,7 @@ use Rattle.std.proofs.Common.{sym, ap, ◌∙◌}
 use Rattle.armour_text.specs.Base64.{encode}
 use Rattle.armour_text.specs.Text.{wrap, closing}
 use Rattle.armour_text.specs.Import.{carried, carries}
-use Rattle.armour_text.specs.Exactly.{carried_of, carries_of, carried_bytes, carries_only}
+use Rattle.armour_text.proofs.Exactly.{carried_of, carries_of, carried_bytes, carries_only}
 use Rattle.armour_judge.specs.declared.Judged.{Judged}
 use Rattle.armour_judge.specs.declared.Judged.TheVariants.{Count, Bad}
 use Rattle.armour_judge.specs.Rest.{rest}

@@ -6,7 +6,7 @@ use Rattle.armour_signs.specs.Alphabet.{value_of, is_sign, all_signs}
 use Rattle.armour_signs.specs.Rule.{value_sign, sign_value}
 use Rattle.armour_judge.specs.Rest.{rest, rest_byte}
 use Rattle.armour_judge.specs.Signs.{four, after}
-use Rattle.armour_groups.specs.Kinds.{kind_signs}
+use Rattle.armour_groups.proofs.Laws.{kind_signs}
 use Rattle.armour_judge.specs.Sized.{Through, through_more}
 
 -- each of the n bytes from p on is a sign

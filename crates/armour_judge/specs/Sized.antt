@@ -10,9 +10,10 @@ use Rattle.fields.specs.Bytes.{AllBytes}
 use Rattle.armour_text.specs.Base64.{bytes_of_signs, encode}
 use Rattle.armour_text.specs.Inverse.{append_bytes, signs_bytes}
 use Rattle.armour_text.specs.Text.{fewer, last, wrap, closing}
-use Rattle.armour_text.specs.Ends.{encode_within}
+use Rattle.armour_text.proofs.Ends.{encode_within}
 use Rattle.armour_judge.specs.Signs.{four, after, lead_same}
-use Rattle.armour_groups.specs.Kinds.{kind_of, kind_is, kind_of_lem}
+use Rattle.armour_groups.specs.Kinds.{kind_of}
+use Rattle.armour_groups.proofs.Laws.{kind_is, kind_of_lem}
 
 -- r is what is left of the text of n bytes, where the line has k columns left
 pub record Sized (r : List ℕ) (k n : ℕ) : Type 0 where

@@ -5,7 +5,7 @@ use Rattle.fields.specs.Bytes.{AllBytes, both_true}
 use Rattle.armour_signs.specs.Alphabet.{value_of, all_signs}
 use Rattle.armour_signs.specs.Rule.{Inner, value_sign, sign_value}
 use Rattle.armour_text.specs.Text.{closing}
-use Rattle.armour_groups.specs.Kinds.{kind_signs}
+use Rattle.armour_groups.proofs.Laws.{kind_signs}
 use Rattle.armour_judge.specs.declared.Past.{Past}
 use Rattle.armour_judge.specs.declared.Past.TheVariants.{At, Nowhere}
 use Rattle.armour_judge.specs.Rest.{rest, rest_byte, Ended}

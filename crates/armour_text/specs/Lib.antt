@@ -5,5 +5,3 @@ pub mod Groups
 pub mod Inverse
 pub mod Ends
 pub mod Places
-pub mod Exactly
-pub mod Examples

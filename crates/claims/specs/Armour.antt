@@ -14,8 +14,9 @@ use Rattle.writer_reply.specs.declared.Written.TheVariants as written
 use Rattle.writer_reply.specs.Reply.{told, refused, sized, left, Answers}
 use Rattle.armour_text.specs.Text.{text, export_reply, export_left}
 use Rattle.armour_text.specs.Import.{strip, carried, carries, import_reply, import_left}
-use Rattle.armour_text.specs.Ends.{CrLf, has_no_return, crlf_same, crlf_strip, text_no_return}
-use Rattle.armour_text.specs.Exactly.{takes, takes_only, import_export}
+use Rattle.armour_text.specs.Ends.{CrLf, has_no_return}
+use Rattle.armour_text.proofs.Ends.{crlf_same, crlf_strip, text_no_return}
+use Rattle.armour_text.proofs.Exactly.{takes, takes_only, import_export}
 use Rattle.claims.specs.Reading.{held, sized_held, sized-fits}
 use Rattle.c_reply.specs.Replies.{reply_of}
 use Rattle.c_reply.specs.declared.Reply.{Reply}

@@ -15,7 +15,8 @@ use Rattle.reader_image.specs.Form.{form_of}
 use Rattle.buffer.specs.Puts.{take-splice, zeros, zeros-length}
 use Rattle.writer_reply.specs.declared.Written.TheVariants as written
 use Rattle.writer_plain.specs.Plain.{keys_reply, keys_left}
-use Rattle.edit_shells.specs.Sequence.{Holds, further, holds_image}
+use Rattle.edit_shells.specs.Sequence.{Holds, further}
+use Rattle.edit_shells.proofs.Sequence.{holds_image}
 use Rattle.edit_file.specs.declared.Editable.{Editable}
 use Rattle.edit_file.specs.declared.Editable.TheVariants as editable
 use Rattle.edit_file.specs.Edits.{record_editable, editable_at, file_keys}

@@ -32,7 +32,8 @@ use Rattle.edit_shells.specs.Shells.{closed, padded, changed_at}
 use Rattle.edit_shells.specs.Keys.{change_at, with_comment, keys_changed, map_change, change_length}
 use Rattle.edit_shells.specs.Parts.{Rises}
 use Rattle.edit_shells.specs.Edits.{changed_by_places}
-use Rattle.edit_shells.specs.Within.{KeyPlaces, change_rises, change_there}
+use Rattle.edit_shells.specs.Within.{KeyPlaces}
+use Rattle.edit_shells.proofs.Within.{change_rises, change_there}
 use Rattle.edit_shells.specs.Sequence.{Holds, further}
 use Rattle.edit_file.specs.declared.Editable.TheVariants as editable
 use Rattle.edit_file.specs.Edits.{editable_at, file_keys, comment_field, change_reply, change_left, IsChange}

@@ -16,7 +16,7 @@ use Rattle.utf8.specs.Utf8.{utf8}
 use Rattle.mpint.specs.Mpint.{is_mpint, zeros_before}
 use Rattle.mpint.specs.Zeros.{mpint_bytes, zeros_here, zeros_next}
 use Rattle.format.specs.Format.{magic, of_point, of_scalar, blob, keypair, content, section, header, plain_image, Key, key_of, alone}
-use Rattle.format.specs.Lengths.{blob-length}
+use Rattle.format.proofs.Lengths.{blob-length}
 use Rattle.key_pairs.specs.Pairs.{is_scalar}
 use Rattle.key_material.specs.Material.{derived_checkint}
 use Rattle.key_material.specs.Laws.{derived_m16}

@@ -25,8 +25,9 @@ use Rattle.names.specs.declared.Elliptic.TheVariants.{Ecdsa}
 use Rattle.names.specs.declared.Kdf.TheVariants as kdf
 use Rattle.names.specs.Algorithms.{algorithm_name, size_of, algorithm_back}
 use Rattle.format.specs.Format.{PublicFits, of_point, of_scalar, keypair, pair_fields, Key, key_of, key_blob, Entry, standing_entry, blob_fields, entry_fields, content, section, header, plain_image, padding_length, padding_bytes}
-use Rattle.format.specs.Laws.{keypair_then, content_then, entry_then, blob_field_then, section-length, padding_length_lem}
-use Rattle.format.specs.Lengths.{point_blob_length, blobs_length, entries_length, blob-length, entries_length_lem, content-length, plain_length}
+use Rattle.format.proofs.Laws.{keypair_then, content_then, entry_then, blob_field_then, section-length, padding_length_lem}
+use Rattle.format.specs.Lengths.{point_blob_length, blobs_length, entries_length}
+use Rattle.format.proofs.Lengths.{blob-length, entries_length_lem, content-length, plain_length}
 use Rattle.writer_curve.specs.Parts.{keypair_joined}
 use Rattle.key_public.specs.declared.Public.{Public}
 use Rattle.key_public.specs.Keys.{public_bytes}
@@ -39,7 +40,7 @@ use Rattle.reader_header.specs.Place.{plain_allowed}
 use Rattle.reader_header.specs.Back.{header_back}
 use Rattle.reader_entries.specs.declared.Entry.TheVariants as entry
 use Rattle.reader_entries.specs.Entries.{Not, Keys-not, entry_at, next_at, more_at, keys_at}
-use Rattle.reader_entries.specs.Back.{entry_back}
+use Rattle.reader_entries.proofs.Back.{entry_back}
 use Rattle.reader_section.specs.declared.SectionRead.TheVariants as section_read
 use Rattle.reader_section.specs.Section.{closed_at, content_at, ended_at, plain_at}
 use Rattle.reader_section.specs.Back.{checkints_back}

@@ -19,8 +19,9 @@ use Rattle.names.specs.declared.AlgorithmName.TheVariants.{Known, Unknown}
 use Rattle.names_codes.specs.Codes.{algorithm_coded, cipher_coded, kdf_coded}
 use Rattle.utf8.specs.Utf8.{utf8}
 use Rattle.format.specs.Format.{PublicBytes, PrivateBytes, Key, filled_key, public_length, private_length, point_tag, not_zero, of_point, of_scalar, of_modulus, of_numbers, written_image, encrypted_image, alone, entry, key_of, Entry as FormatEntry, standing_entries, key_blob, section}
-use Rattle.format.specs.Laws.{section-length}
-use Rattle.format.specs.Lengths.{blobs_length, entries_length, content-length, plain_length, plain_header-length}
+use Rattle.format.proofs.Laws.{section-length}
+use Rattle.format.specs.Lengths.{blobs_length, entries_length}
+use Rattle.format.proofs.Lengths.{content-length, plain_length, plain_header-length}
 use Rattle.key_material.specs.Material.{public_of, private_of, checkint_of}
 use Rattle.key_public.specs.Keys.{on_algorithm_name, on_algorithm, blob_at}
 use Rattle.laws_keys.specs.Read.{by_algorithm}

@@ -29,8 +29,9 @@ use Rattle.names.specs.Algorithms.{size_of}
 use Rattle.utf8.specs.Utf8.{UTF8-char, utf8, utf8_from}
 use Rattle.mpint.specs.Mpint.{zeros_before, bits}
 use Rattle.format.specs.Format.{PublicBytes, PrivateBytes, Key, key_of, entry, key_blob, of_point, of_scalar, scalar_zero, blob, keypair, padding_length, content, standing_entries, written_image, encrypted_image, alone}
-use Rattle.format.specs.Laws.{section-length}
-use Rattle.format.specs.Lengths.{LengthsFit, blob_length, keypair_length, blob-length, blobs_length, entries_length, content-length, plain_length}
+use Rattle.format.proofs.Laws.{section-length}
+use Rattle.format.specs.Lengths.{LengthsFit, blob_length, keypair_length, blobs_length, entries_length}
+use Rattle.format.proofs.Lengths.{blob-length, content-length, plain_length}
 use Rattle.format.specs.Scalars.{key_zeros, fits_allowed}
 use Rattle.reader_header.specs.Place.{keys_some, keys_most}
 use Rattle.reader_entries.specs.Entries.{no_key}

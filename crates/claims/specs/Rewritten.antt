@@ -29,7 +29,7 @@ use Rattle.reader_header.specs.Place.{keys_sealed, one_allowed}
 use Rattle.reader_section.specs.declared.SectionRead.{SectionRead}
 use Rattle.reader_section.specs.declared.SectionRead.TheVariants as section_read
 use Rattle.reader_entries.specs.Entries.{keys_at, key_read_of}
-use Rattle.reader_entries.specs.Read.{by_keys}
+use Rattle.reader_entries.proofs.Read.{by_keys}
 use Rattle.reader_section.specs.Section.{checkints_at, padding_at, closed_at, content_at, ended_at, plain_at, encrypted_at}
 use Rattle.reader_entries.specs.Back.{KeyFits, AllFit}
 use Rattle.reader_section.specs.Read.{by_section}

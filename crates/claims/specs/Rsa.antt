@@ -24,7 +24,7 @@ use Rattle.reader_header.specs.Place.{keys_some}
 use Rattle.reader_header.specs.Read.{header-text}
 use Rattle.reader_entries.specs.declared.KeyFields.{KeyFields}
 use Rattle.reader_entries.specs.Entries.{entry_at, on_key_read, key_placed}
-use Rattle.reader_entries.specs.Read.{by_entry}
+use Rattle.reader_entries.proofs.Read.{by_entry}
 use Rattle.reader_image.specs.declared.Fields.{Fields}
 use Rattle.reader_image.specs.declared.ImageRead.TheVariants as read
 use Rattle.reader_image.specs.Container.{read_at}

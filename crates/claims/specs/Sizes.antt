@@ -12,7 +12,8 @@ use Rattle.names.specs.declared.Curve.TheVariants.{Nistp256}
 use Rattle.utf8.specs.Laws.{ascii_utf8}
 use Rattle.format.specs.Format.{of_point, of_scalar, public_length, private_length, point_tag, scalar_bytes, not_zero, zero_length, zeros_asked, padding_length, written_image, alone, key_of}
 use Rattle.format.specs.Scalars.{significant_own, rule_may, allowed_own, trimmed_fits}
-use Rattle.format.specs.Lengths.{point_blob_length, content_length, written_content-length, written_length}
+use Rattle.format.specs.Lengths.{point_blob_length, content_length}
+use Rattle.format.proofs.Lengths.{written_content-length, written_length}
 use Rattle.reader_entries.specs.Back.{KeyFits}
 use Rattle.reader_image.specs.Back.{PlainImageBack, plain_image_back}
 use Rattle.writer_reply.specs.declared.Written.TheVariants as written

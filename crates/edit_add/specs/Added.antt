@@ -5,16 +5,18 @@ use Rattle.std.proofs.Common.{arith, sym, ◌∙◌, ap}
 use Rattle.fields.specs.Bytes.{string}
 use Rattle.fields.specs.declared.Fault.{Fault}
 use Rattle.format.specs.Format.{Key, key_blob, written_entry, padding_length, written_image}
-use Rattle.format.specs.Laws.{section-length}
-use Rattle.format.specs.Lengths.{entries_length, content-length, plain_length}
+use Rattle.format.proofs.Laws.{section-length}
+use Rattle.format.specs.Lengths.{entries_length}
+use Rattle.format.proofs.Lengths.{content-length, plain_length}
 use Rattle.buffer.specs.Runs.{IsRun}
 use Rattle.writer_reply.specs.declared.Written.{Written}
 use Rattle.writer_reply.specs.declared.Written.TheVariants as written
 use Rattle.edit_shells.specs.Parts.{Rises, true-rises}
 use Rattle.edit_shells.specs.Shells.{added_at, opened_at, opened_size}
-use Rattle.edit_shells.specs.Edits.{added_by_places, IsOpened, IsRoomMade, IsRenewed, opened_room, sized-renewed}
+use Rattle.edit_shells.specs.Edits.{added_by_places, IsOpened, IsRoomMade, IsRenewed}
+use Rattle.edit_shells.proofs.Edits.{opened_room, sized-renewed}
 use Rattle.edit_shells.specs.Keys.{section_place, end_place, keys_with, add_written}
-use Rattle.edit_shells.specs.Within.{begins, as_long, add_order}
+use Rattle.edit_shells.proofs.Within.{begins, as_long, add_order}
 use Rattle.edit_add.specs.Open.{Ordered, rises_ordered}
 use Rattle.edit_add.specs.Fill.{blob_takes, entry_takes, added_size, add_refused, add_filled}
 

@@ -16,7 +16,8 @@ use Rattle.writer_reply.specs.declared.Written.TheVariants as written
 use Rattle.writer_reply.specs.Reply.{left, sized_by, sized, IsSized}
 use Rattle.edit_shells.specs.Parts.{lengths, join-length, join_more, part_length, slice_cut, run_part}
 use Rattle.edit_shells.specs.Shells.{closed_is, closed-length, added_at, opened_at, opened_size}
-use Rattle.edit_shells.specs.Edits.{IsRoomMade, sized_by_lem, fits_of, from_start}
+use Rattle.edit_shells.specs.Edits.{IsRoomMade}
+use Rattle.edit_shells.proofs.Edits.{sized_by_lem, fits_of, from_start}
 use Rattle.edit_add.specs.Open.{Ordered, size_is, from_blobs, opened_parts, opened_length}
 
 -- what a key's blob takes as a string, and its entry

@@ -9,13 +9,14 @@ use Rattle.std.proofs.Math.Seq.{slice, length-slice, length-take-le}
 use Rattle.fields.specs.Bytes.{uint32, join}
 use Rattle.fields.specs.Rest.{length-uint32}
 use Rattle.format.specs.Format.{padding_length, padding_bytes}
-use Rattle.format.specs.Laws.{padding_length_lem}
+use Rattle.format.proofs.Laws.{padding_length_lem}
 use Rattle.buffer.specs.Puts.{splice, IsPut}
 use Rattle.buffer_moves.specs.Moves.{moved, moved_fits}
 use Rattle.writer_reply.specs.declared.Written.TheVariants as written
 use Rattle.edit_shells.specs.Parts.{rises, rises-true, not_rises, join-length, join_more, cut, cut_whole, part_length, splice_part, put_part}
 use Rattle.edit_shells.specs.Shells.{closed_is, closed-length, opened_at, opened_size}
-use Rattle.edit_shells.specs.Edits.{added_by_places, IsRoomMade, from_start, room_made}
+use Rattle.edit_shells.specs.Edits.{added_by_places, IsRoomMade}
+use Rattle.edit_shells.proofs.Edits.{from_start, room_made}
 
 -- what an addition asks of its places
 pub record Ordered (old : List ℕ) (section end : ℕ) : Type 0 where

@@ -8,13 +8,14 @@ use Rattle.std.proofs.Math.Seq.{slice, length-slice, length-take-le}
 use Rattle.fields.specs.Bytes.{uint32, string, join}
 use Rattle.fields.specs.Rest.{length-uint32, length-string}
 use Rattle.format.specs.Format.{padding_length, padding_bytes}
-use Rattle.format.specs.Laws.{padding_length_lem}
+use Rattle.format.proofs.Laws.{padding_length_lem}
 use Rattle.buffer.specs.Puts.{splice, IsPut, zeros}
 use Rattle.buffer_moves.specs.Moves.{moved, moved_fits}
 use Rattle.writer_reply.specs.declared.Written.TheVariants as written
 use Rattle.edit_shells.specs.Parts.{rises, Rises, rises-true, not_rises, lengths, cut, cut_whole, part_length, splice_part, put_part, join-length}
 use Rattle.edit_shells.specs.Shells.{closed, closed_is, closed-length, changed_at}
-use Rattle.edit_shells.specs.Edits.{changed_by_places, IsEnding, IsRenewed, ends_within, ending_parts, renewed_parts}
+use Rattle.edit_shells.specs.Edits.{changed_by_places, IsEnding, IsRenewed}
+use Rattle.edit_shells.proofs.Edits.{ends_within, ending_parts, renewed_parts}
 
 -- what the change of an image asks of its places
 pub record Ordered (old : List ℕ) (n section field past end : ℕ) : Type 0 where

@@ -9,8 +9,9 @@ use Rattle.fields.specs.Bytes.{same_true}
 use Rattle.fields.specs.Place.{clash, by_bool}
 use Rattle.fields.specs.declared.Refusal.TheVariants.{Form, Encrypted}
 use Rattle.format.specs.Format.{Key, Entry, key_blob, written_entry, standing_entries, plain_image, written_image, padding_length, content}
-use Rattle.format.specs.Laws.{section-length}
-use Rattle.format.specs.Lengths.{blobs_length, entries_length, content-length, plain_length, plain_header-length}
+use Rattle.format.proofs.Laws.{section-length}
+use Rattle.format.specs.Lengths.{blobs_length, entries_length}
+use Rattle.format.proofs.Lengths.{content-length, plain_length, plain_header-length}
 use Rattle.format.specs.Scalars.{key_zeros, written_entries}
 use Rattle.reader_section.specs.declared.Kind.{Kind}
 use Rattle.reader_section.specs.declared.Kind.TheVariants.{Plain, Encrypted as Sealed}

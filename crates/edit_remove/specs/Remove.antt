@@ -8,13 +8,14 @@ use Rattle.std.proofs.Math.Seq.{slice, length-slice}
 use Rattle.fields.specs.Bytes.{uint32, join}
 use Rattle.fields.specs.Rest.{length-uint32}
 use Rattle.format.specs.Format.{padding_length, padding_bytes}
-use Rattle.format.specs.Laws.{padding_length_lem}
+use Rattle.format.proofs.Laws.{padding_length_lem}
 use Rattle.buffer.specs.Puts.{splice, IsPut, zeros, splice-length}
 use Rattle.buffer_moves.specs.Moves.{moved, moved_fits}
 use Rattle.writer_reply.specs.declared.Written.TheVariants as written
 use Rattle.edit_shells.specs.Parts.{rises, Rises, rises-true, not_rises, lengths, join-length, cut, cut_whole, part_length, slice_cut, splice_part, splice_over_parts, put_part, slice_past}
 use Rattle.edit_shells.specs.Shells.{closed_is, closed-length, removed_at}
-use Rattle.edit_shells.specs.Edits.{removed_by_places, IsEnding, IsRenewed, ends_within, ending_parts, renewed_parts}
+use Rattle.edit_shells.specs.Edits.{removed_by_places, IsEnding, IsRenewed}
+use Rattle.edit_shells.proofs.Edits.{ends_within, ending_parts, renewed_parts}
 
 -- what the removal from an image asks of its places
 pub record Ordered (old : List ℕ) (n blobStart blobEnd section entryStart entryEnd end : ℕ) : Type 0 where

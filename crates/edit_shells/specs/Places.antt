@@ -13,7 +13,8 @@ use Rattle.names.specs.declared.Cipher.TheVariants as cipher
 use Rattle.names.specs.declared.Kdf.TheVariants as kdf
 use Rattle.names.specs.Ciphers.{cipher_name, kdf_name}
 use Rattle.format.specs.Format.{Entry, entry, magic, options, blob_fields, entry_fields, padding_length, padding_bytes, content, section as section_of, header, plain_image}
-use Rattle.format.specs.Lengths.{blobs_length, entries_length, blobs_length_lem, entries_length_lem, content-length, plain_header-length}
+use Rattle.format.specs.Lengths.{blobs_length, entries_length}
+use Rattle.format.proofs.Lengths.{blobs_length_lem, entries_length_lem, content-length, plain_header-length}
 use Rattle.buffer.specs.Runs.{join-append}
 use Rattle.edit_shells.specs.Parts.{lengths, join_more, part_at}
 use Rattle.edit_shells.specs.Shells.{padded, closed, closed_is, changed_at, removed_at, added_at}

@@ -6,7 +6,7 @@ use Rattle.std.proofs.Math.Seq.{slice}
 use Rattle.fields.specs.Bytes.{uint32, string, join}
 use Rattle.fields.specs.Rest.{length-string}
 use Rattle.format.specs.Format.{padding_length, padding_bytes}
-use Rattle.format.specs.Laws.{padding_length_lem}
+use Rattle.format.proofs.Laws.{padding_length_lem}
 use Rattle.buffer.specs.Runs.{join-append}
 use Rattle.edit_shells.specs.Parts.{lengths, join-length, join_more}
 

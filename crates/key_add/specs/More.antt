@@ -15,7 +15,8 @@ use Rattle.writer_reply.specs.Reply.{refused, unless, left, sized_by}
 use Rattle.writer_parts.specs.Sizes.{capped, capped_small, capped_large}
 use Rattle.edit_shells.specs.Parts.{rises}
 use Rattle.edit_shells.specs.Shells.{opened_at, opened_size}
-use Rattle.edit_shells.specs.Edits.{added_by_places, edit_reply, IsOpened, fits_of}
+use Rattle.edit_shells.specs.Edits.{added_by_places, edit_reply, IsOpened}
+use Rattle.edit_shells.proofs.Edits.{fits_of}
 use Rattle.edit_add.specs.Open.{size_over}
 use Rattle.edit_file.specs.declared.Editable.{Editable}
 use Rattle.edit_file.specs.declared.Editable.TheVariants as editable

@@ -22,7 +22,8 @@ use Rattle.writer_plain.specs.Plain.{keys_checked, keys_reply}
 use Rattle.writer_plain.specs.Fits.{AllFit, keys_pass, checked_append}
 use Rattle.writer_plain.specs.Held.{Own, key_held, held}
 use Rattle.edit_shells.specs.Keys.{change_at, remove_at, with_comment, keys_changed, keys_without, keys_with, map_change, map_remove, map_split}
-use Rattle.edit_shells.specs.Sequence.{Holds, further, holds_first, holds_image, holds_next}
+use Rattle.edit_shells.specs.Sequence.{Holds, further}
+use Rattle.edit_shells.proofs.Sequence.{holds_first, holds_image, holds_next}
 use Rattle.edit_file.specs.declared.Editable.TheVariants as editable
 use Rattle.edit_file.specs.Edits.{editable_at, file_keys, has_key, afresh_reply, afresh_left, change_reply, change_left, remove_reply, remove_left, add_reply, add_left}
 use Rattle.edit_file.specs.Stand.{image_written}

@@ -21,7 +21,7 @@ use Rattle.names.specs.declared.Curve.{Curve}
 use Rattle.names.specs.Algorithms.{algorithm_name, curve_name, size_of, curve_back, algorithm_back, algorithm_self, size_small}
 use Rattle.mpint.specs.Mpint.{zeros_before, bits}
 use Rattle.format.specs.Format.{PublicBytes, PrivateBytes, of_point, of_scalar, of_modulus, of_numbers, curve_field, public_fields, blob, pair_fields, keypair as pair, standing, MayStand, PublicFits, PrivateFits}
-use Rattle.format.specs.Laws.{blob_then, keypair_then}
+use Rattle.format.proofs.Laws.{blob_then, keypair_then}
 use Rattle.format.specs.Scalars.{some_bytes, standing-length, standing_zeros}
 use Rattle.key_public.specs.declared.EcdsaPublic.{EcdsaPublic}
 use Rattle.key_public.specs.declared.EcdsaPublic.TheVariants as ecdsa

@@ -26,7 +26,7 @@ use Rattle.names.specs.declared.CurveName.TheVariants as curve-name
 use Rattle.names.specs.Algorithms.{algorithm_name, algorithm_named, curve_name, curve_named, size_of, same_algorithm, curve_read, algorithm_read, algorithm_same}
 use Rattle.mpint.specs.Mpint.{bits}
 use Rattle.format.specs.Format.{PublicBytes, curve_field, public_length, point_tag, public_fields, blob, PublicFits}
-use Rattle.format.specs.Laws.{blob_then}
+use Rattle.format.proofs.Laws.{blob_then}
 use Rattle.key_public.specs.declared.EcdsaPublic.{EcdsaPublic}
 use Rattle.key_public.specs.declared.EcdsaPublic.TheVariants as ecdsa
 use Rattle.key_public.specs.declared.PublicKey.{PublicKey}

@@ -25,7 +25,7 @@ use Rattle.names.specs.Algorithms.{algorithm_name, algorithm_named, curve_name, 
 use Rattle.format.specs.Format.{of_scalar, curve_field, public_length, point_tag, private_field, standing, pair_fields, keypair as pair, MayStand, ScalarFits, PublicFits, PrivateFits}
 use Rattle.mpint.specs.Mpint.{zeros_before, significant, remaining}
 use Rattle.mpint.specs.Zeros.{zeros_le, zeros_zero}
-use Rattle.format.specs.Laws.{keypair_then}
+use Rattle.format.proofs.Laws.{keypair_then}
 use Rattle.format.specs.Scalars.{standing_again, significant-length, significant_first}
 use Rattle.key_rsa.specs.declared.Six.{Six}
 use Rattle.key_rsa.specs.declared.RsaPair.{RsaPair}

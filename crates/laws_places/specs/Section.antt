@@ -22,7 +22,7 @@ use Rattle.reader_blobs.specs.Read.{by_blob_field}
 use Rattle.reader_entries.specs.declared.Entry.{Entry}
 use Rattle.reader_entries.specs.declared.Entry.TheVariants as entry
 use Rattle.reader_entries.specs.Entries.{Listed, Are, Not, Keys, Keys-are, Keys-not, same_key, entry_at, next_at, more_at, keys_at}
-use Rattle.reader_entries.specs.Read.{by_keypair, by_entry, by_listed, by_keys}
+use Rattle.reader_entries.proofs.Read.{by_keypair, by_entry, by_listed, by_keys}
 use Rattle.reader_section.specs.declared.SectionRead.{SectionRead}
 use Rattle.reader_section.specs.declared.SectionRead.TheVariants as section_read
 use Rattle.reader_section.specs.Section.{checkints_at, padding_at, closed_at, content_at, ended_at, plain_at, encrypted_at}

@@ -11,7 +11,7 @@ use Rattle.fields.specs.declared.Part.{Part}
 use Rattle.names.specs.declared.Algorithm.{Algorithm}
 use Rattle.mpint.specs.Mpint.{bits}
 use Rattle.format.specs.Format.{PublicBytes, Key, PublicFits, blob, blob_fields, key_blob}
-use Rattle.format.specs.Laws.{blob_field_then}
+use Rattle.format.proofs.Laws.{blob_field_then}
 use Rattle.key_public.specs.declared.Public.{Public}
 use Rattle.key_public.specs.Keys.{public_bytes}
 use Rattle.laws_keys.specs.Back.{blob_back}

@@ -15,7 +15,7 @@ use Rattle.fields.specs.declared.Part.{Part}
 use Rattle.fields.specs.declared.Field.TheVariants as field
 use Rattle.names.specs.declared.Algorithm.{Algorithm}
 use Rattle.format.specs.Format.{Key, key_of, key_blob, of_scalar, PublicFits, blob, blob_fields}
-use Rattle.format.specs.Laws.{blob_field_then}
+use Rattle.format.proofs.Laws.{blob_field_then}
 use Rattle.key_public.specs.declared.Public.{Public}
 use Rattle.key_public.specs.declared.Blob.{Blob}
 use Rattle.key_public.specs.declared.Blob.TheVariants as key

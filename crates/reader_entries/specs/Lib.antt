@@ -1,4 +1,3 @@
 pub mod Entries
 pub mod Back
 pub mod Read
-pub mod Paired

@@ -17,7 +17,7 @@ use Rattle.mpint.specs.Mpint.{bits}
 use Rattle.format.specs.Format.{Key, magic, options, OptionsFit, blob_fields, key_blob, header}
 use Rattle.key_public.specs.declared.Public.{Public}
 use Rattle.key_public.specs.Keys.{public_bytes}
-use Rattle.format.specs.Laws.{header_then, blob_field_then}
+use Rattle.format.proofs.Laws.{header_then, blob_field_then}
 use Rattle.reader_blobs.specs.declared.BlobField.{BlobField}
 use Rattle.reader_blobs.specs.declared.BlobField.TheVariants as blob-field
 use Rattle.reader_blobs.specs.Blobs.{blob_bytes}

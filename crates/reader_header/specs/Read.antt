@@ -19,7 +19,7 @@ use Rattle.names.specs.Ciphers.{cipher_name, kdf_name}
 use Rattle.format.specs.Format.{Key, key_blob, PublicFits, magic, options, OptionsFit, blob, blob_fields, header}
 use Rattle.key_public.specs.declared.Public.{Public}
 use Rattle.key_public.specs.Keys.{public_bytes}
-use Rattle.format.specs.Laws.{header_then, blob_field_then}
+use Rattle.format.proofs.Laws.{header_then, blob_field_then}
 use Rattle.laws_keys.specs.Read.{public_place}
 use Rattle.reader_blobs.specs.declared.BlobField.TheVariants as blob-field
 use Rattle.reader_blobs.specs.Blobs.{blob_bytes}

@@ -11,7 +11,8 @@ use Rattle.names.specs.declared.Elliptic.TheVariants.{Ed25519, Ecdsa}
 use Rattle.names.specs.declared.Algorithm.{Algorithm}
 use Rattle.names.specs.declared.Algorithm.TheVariants.{Elliptic as OnCurve, Rsa}
 use Rattle.format.specs.Format.{PublicBytes, PrivateBytes, Key, PrivateFits, MayStand, leading_zero, zero_length, zeros_asked, blob, key_of, key_blob, standing_entries, plain_image, written_image, encrypted_image, filled_key}
-use Rattle.format.specs.Laws.{AllMay, allowed_small, standing_same}
+use Rattle.format.specs.Laws.{AllMay}
+use Rattle.format.proofs.Laws.{allowed_small, standing_same}
 use Rattle.format.specs.Scalars.{AllPrivate, key_zeros, rule_may, fits_allowed, written_own}
 use Rattle.key_public.specs.Keys.{public_bytes}
 use Rattle.key_pairs.specs.declared.Private.{Private}
@@ -22,7 +23,8 @@ use Rattle.reader_section.specs.declared.Kind.TheVariants.{Plain, Encrypted}
 use Rattle.places.specs.Places.{places_next}
 use Rattle.reader_entries.specs.Entries.{key_read_of, on_key_read, key_placed}
 use Rattle.reader_entries.specs.Back.{AllFit}
-use Rattle.reader_entries.specs.Read.{AllStand, stands_found}
+use Rattle.reader_entries.specs.Read.{AllStand}
+use Rattle.reader_entries.proofs.Read.{stands_found}
 use Rattle.reader_header.specs.Header.{second_blob}
 use Rattle.reader_image.specs.declared.Fields.{Fields}
 use Rattle.reader_image.specs.declared.ImageRead.{ImageRead}

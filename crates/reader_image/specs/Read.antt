@@ -20,7 +20,7 @@ use Rattle.names.specs.declared.Kdf.{Kdf}
 use Rattle.names.specs.declared.Kdf.TheVariants as kdf
 use Rattle.names.specs.Ciphers.{is_none, none_only}
 use Rattle.format.specs.Format.{key_blob, alone, blob, keypair, blob_fields, standing_entries, padding_length, content as content_of, section, header, plain_image, encrypted_image}
-use Rattle.format.specs.Lengths.{blobs_length_lem, plain_header-length}
+use Rattle.format.proofs.Lengths.{blobs_length_lem, plain_header-length}
 use Rattle.laws_keys.specs.ReadPair.{IfScalar, Begins}
 use Rattle.reader_header.specs.declared.Header.{Header}
 use Rattle.reader_header.specs.declared.HeaderRead.TheVariants as header_read

@@ -23,7 +23,8 @@ use Rattle.places.specs.Places.{list_of, kept_place, after_first}
 use Rattle.reader_entries.specs.declared.KeyFields.{KeyFields}
 use Rattle.reader_entries.specs.declared.KeyRead.TheVariants as key_read
 use Rattle.reader_entries.specs.Entries.{no_key, key_read_of, key_placed}
-use Rattle.reader_entries.specs.Read.{KeyStands, AllStand, found_key, stands_found}
+use Rattle.reader_entries.specs.Read.{KeyStands, AllStand, found_key}
+use Rattle.reader_entries.proofs.Read.{stands_found}
 use Rattle.reader_header.specs.Header.{second_blob}
 use Rattle.reader_image.specs.declared.Fields.{Fields}
 use Rattle.reader_image.specs.Container.{first_in, other_places, keys_in}

@@ -22,10 +22,11 @@ use Rattle.format.specs.Format.{Key, Entry, key_blob, blob_fields, entry_fields,
 use Rattle.key_public.specs.declared.Public.{Public}
 use Rattle.key_public.specs.Keys.{public_bytes}
 use Rattle.key_pairs.specs.Pairs.{private_bytes}
-use Rattle.format.specs.Laws.{content_then, section-length, padding_length_lem}
+use Rattle.format.proofs.Laws.{content_then, section-length, padding_length_lem}
 use Rattle.places.specs.Places.{AllWithin, places_of}
 use Rattle.reader_entries.specs.Entries.{key_read_of}
-use Rattle.reader_entries.specs.Back.{AllFit, keys_back}
+use Rattle.reader_entries.specs.Back.{AllFit}
+use Rattle.reader_entries.proofs.Back.{keys_back}
 use Rattle.reader_section.specs.declared.Kind.TheVariants.{Plain, Encrypted}
 use Rattle.reader_section.specs.declared.Section.{Section}
 use Rattle.reader_section.specs.declared.SectionRead.{SectionRead}

@@ -19,14 +19,15 @@ use Rattle.names.specs.declared.Algorithm.{Algorithm}
 use Rattle.format.specs.Format.{Key, Entry, key_blob, keypair as pair, entry_fields, standing_entries, content, section, padding_length, padding_bytes}
 use Rattle.key_public.specs.declared.Public.{Public}
 use Rattle.key_public.specs.Keys.{public_bytes}
-use Rattle.format.specs.Laws.{content_then}
+use Rattle.format.proofs.Laws.{content_then}
 use Rattle.key_pairs.specs.Pairs.{private_bytes}
 use Rattle.laws_keys.specs.ReadPair.{IfScalar, Begins}
 use Rattle.places.specs.Places.{AllWithin, places_of}
 use Rattle.reader_blobs.specs.Blobs.{blob_bytes}
 use Rattle.reader_entries.specs.Entries.{keys_at, key_read_of}
 use Rattle.reader_entries.specs.Back.{AllFit}
-use Rattle.reader_entries.specs.Read.{by_keys, first_key, AllStand, keys_read}
+use Rattle.reader_entries.specs.Read.{first_key, AllStand}
+use Rattle.reader_entries.proofs.Read.{by_keys, keys_read}
 use Rattle.reader_section.specs.declared.Kind.TheVariants.{Plain}
 use Rattle.reader_section.specs.declared.Section.{Section}
 use Rattle.reader_section.specs.declared.SectionRead.{SectionRead}

@@ -11,7 +11,8 @@ use Rattle.format.specs.Format.{PublicBytes, PrivateBytes, Key, key_of, PublicFi
 use Rattle.reader_entries.specs.declared.KeyFields.{KeyFields}
 use Rattle.reader_entries.specs.Entries.{key_read_of}
 use Rattle.reader_entries.specs.Back.{AllFit, place_at}
-use Rattle.reader_entries.specs.Read.{AllStand, found_key, stands_found}
+use Rattle.reader_entries.specs.Read.{AllStand, found_key}
+use Rattle.reader_entries.proofs.Read.{stands_found}
 use Rattle.reader_header.specs.Header.{second_blob}
 use Rattle.reader_image.specs.declared.Fields.{Fields}
 use Rattle.reader_image.specs.Container.{first_in, other_places, keys_in}

@@ -3,7 +3,7 @@ use Rattle.std.specs.Prelude.{ℕ, ◌+◌, ◌≡◌, List, length}
 use Rattle.std.proofs.Common.{◌∙◌, ap}
 use Rattle.names.specs.declared.Algorithm.TheVariants.{Rsa}
 use Rattle.format.specs.Format.{of_modulus, of_numbers, blob, written_pair}
-use Rattle.format.specs.Lengths.{blob-length, keypair-length}
+use Rattle.format.proofs.Lengths.{blob-length, keypair-length}
 use Rattle.writer_parts.specs.Sizes.{capped, capped_sum}
 
 pub blob_size : (n e : List ℕ) → length (blob Rsa (of_modulus n e)) ≡ 19 + length e + length n

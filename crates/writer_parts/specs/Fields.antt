@@ -10,8 +10,9 @@ use Rattle.names.specs.declared.Kdf.TheVariants as kdf
 use Rattle.names.specs.Ciphers.{cipher_name, kdf_name}
 use Rattle.names.specs.declared.Algorithm.{Algorithm}
 use Rattle.format.specs.Format.{PublicBytes, PrivateBytes, Entry, entry, key_of, alone, blob, written_pair, written_image, magic, header, blob_fields, entry_fields, content, section, plain_image, padding_length, padding_bytes}
-use Rattle.format.specs.Laws.{header_then, content_then, section-length}
-use Rattle.format.specs.Lengths.{blobs_length, entries_length, content-length, plain_length}
+use Rattle.format.proofs.Laws.{header_then, content_then, section-length}
+use Rattle.format.specs.Lengths.{blobs_length, entries_length}
+use Rattle.format.proofs.Lengths.{content-length, plain_length}
 use Rattle.buffer.specs.Runs.{join-append}
 use Rattle.writer_parts.specs.Sizes.{capped, capped_small, capped_large, capped_again, capped_sum, capped_sum_last}
 

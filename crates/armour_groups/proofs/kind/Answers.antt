@@ -2,7 +2,7 @@
 use mathlib.Core.Path.{refl, sym, ◌∙◌}
 use mathlib.Core.Bool.{true, false}
 use Rattle.armour_signs.specs.Alphabet.{is_sign}
-use Rattle.armour_groups.specs.Kinds.{kind_one, kind_two, kind_three}
+use Rattle.armour_groups.proofs.Laws.{kind_one, kind_two, kind_three}
 use borrow.Author.Rules.{rules}
 use Rattle.armour_groups.proofs.kind.Goals as goal
 

@@ -5,7 +5,7 @@ use mathlib.Core.Path.{refl, ap, ◌∙◌}
 use lib.ListN.{length, drop}
 use lib.Seq.{length-sets}
 use Rattle.armour_text.specs.Base64.{bytes_of_bits}
-use Rattle.armour_text.specs.Exactly.{carried_bytes}
+use Rattle.armour_text.proofs.Exactly.{carried_bytes}
 use Rattle.armour_text.specs.Import.{carried}
 use Rattle.armour_import.specs.Fill.{ready, next_three, fill_three}
 use Rattle.armour_import.specs.FillTwo.{even_after}

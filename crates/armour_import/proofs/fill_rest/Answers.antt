@@ -1,7 +1,7 @@
 -- `armour_import::fill_rest` meets its contract: no byte is left, or one, or two.
 use native.Mathlib.Omega.{arith}
 use mathlib.Core.Path.{sym, ◌∙◌}
-use Rattle.armour_text.specs.Exactly.{carried_bytes}
+use Rattle.armour_text.proofs.Exactly.{carried_bytes}
 use Rattle.armour_text.specs.Import.{carried}
 use Rattle.armour_import.specs.Fill.{ready, next_rest_lem, fill_none, two_left, fill_one, fill_two}
 use Rattle.armour_import.proofs.fill_rest.Goals as goal

@@ -6,7 +6,7 @@ use mathlib.Core.Path.{◌≡◌, refl, ap, ◌∙◌}
 use lib.ListN.{length}
 use lib.Seq.{length-sets}
 use Rattle.armour_text.specs.Base64.{bytes_of_bits}
-use Rattle.armour_text.specs.Exactly.{carried_bytes}
+use Rattle.armour_text.proofs.Exactly.{carried_bytes}
 use Rattle.armour_text.specs.Import.{carried}
 use Rattle.armour_import.specs.FillTwo.{run_within, run_three}
 use Rattle.armour_import.proofs.fill_run.Goals as goal

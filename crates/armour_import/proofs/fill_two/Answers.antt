@@ -5,7 +5,7 @@ use Prim.Native.Nat.{◌+◌}
 use lib.ListN.{length}
 use lib.Seq.{length-sets}
 use Rattle.armour_text.specs.Base64.{bytes_of_bits}
-use Rattle.armour_text.specs.Exactly.{carried_bytes}
+use Rattle.armour_text.proofs.Exactly.{carried_bytes}
 use Rattle.armour_text.specs.Import.{carried}
 use Rattle.armour_import.specs.FillTwo.{first_feed, first_full, second_feed, second_within, parted_three, second_full, after_two}
 use Rattle.armour_import.proofs.fill_two.Goals as goal

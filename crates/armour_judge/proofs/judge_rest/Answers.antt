@@ -2,7 +2,7 @@
 use native.Mathlib.Omega.{arith}
 use Prim.Native.Nat.{ℕ, zero, suc, ◌<◌, ◌≤◌}
 use mathlib.Core.Path.{◌≡◌, refl}
-use Rattle.armour_groups.specs.Kinds.{kind_most}
+use Rattle.armour_groups.proofs.Laws.{kind_most}
 use Rattle.armour_judge.specs.Runs.{through_run}
 use Rattle.armour_judge.specs.Judge.{group_past, body_end, body_none, body_kind, body_last, body_not_last, body_more}
 use Rattle.armour_judge.proofs.judge_rest.Goals as goal

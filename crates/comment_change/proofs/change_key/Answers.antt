@@ -18,7 +18,7 @@ use Rattle.reader_keys.specs.declared.Looked.TheVariants as looked
 use Rattle.reader_keys.specs.Keys.{first_fields, key_numbered}
 use Rattle.writer_reply.specs.declared.Written.{Written}
 use Rattle.writer_reply.specs.Reply.{refused, answered}
-use Rattle.edit_shells.specs.Within.{change_key}
+use Rattle.edit_shells.proofs.Within.{change_key}
 use Rattle.edit_file.specs.declared.Editable.TheVariants as editable
 use Rattle.edit_file.specs.Edits.{editable_at, change_reply, change_left, IsChange}
 use Rattle.edit_file.specs.Afresh.{told, text, some_keys, change_is}

@@ -7,7 +7,8 @@ use mathlib.Core.List.{[], ◌∷◌, ◌++◌}
 use lib.ListN.{length}
 use Rattle.edit_shells.specs.Parts.{rises, rises-true}
 use Rattle.edit_shells.specs.Shells.{opened_at, opened_size}
-use Rattle.edit_shells.specs.Edits.{added_by_places, opened_many, opened_disordered, room_opened}
+use Rattle.edit_shells.specs.Edits.{added_by_places}
+use Rattle.edit_shells.proofs.Edits.{opened_many, opened_disordered, room_opened}
 use Rattle.edit_add.specs.Open.{rises_ordered, section_past}
 use Rattle.edit_add.proofs.open.Goals as goal
 use Rattle.edit_add.proofs.open.Goals.{Else-not-in_order}

@@ -3,7 +3,7 @@ use Prim.Native.Nat.{◌+◌, ◌-◌}
 use native.Mathlib.Omega.{arith}
 use mathlib.Core.Path.{◌≡◌, sym}
 use Rattle.edit_shells.specs.Shells.{opened_at, opened_size}
-use Rattle.edit_shells.specs.Edits.{room_size, room_none}
+use Rattle.edit_shells.proofs.Edits.{room_size, room_none}
 use Rattle.edit_add.specs.Open.{size_is, size_over, open_puts}
 use Rattle.edit_add.proofs.open_within.Goals as goal
 use Rattle.edit_add.proofs.open_within.Goals.{After-padding-padding}

@@ -3,7 +3,8 @@ use Prim.Native.Nat.{◌≤◌}
 use native.Mathlib.Omega.{arith}
 use mathlib.Core.Path.{sym, ◌∙◌}
 use Rattle.edit_shells.specs.Shells.{changed_at}
-use Rattle.edit_shells.specs.Edits.{changed_by_places, edit_many, edit_disordered, renewed_edit}
+use Rattle.edit_shells.specs.Edits.{changed_by_places}
+use Rattle.edit_shells.proofs.Edits.{edit_many, edit_disordered, renewed_edit}
 use Rattle.edit_change.specs.Change.{Ordered, ordered_rises, rises_ordered, section_past}
 use Rattle.edit_change.proofs.change.Goals as goal
 use Rattle.edit_change.proofs.change.Goals.{Else-not-in_order}

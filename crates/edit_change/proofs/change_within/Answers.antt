@@ -5,7 +5,7 @@ use mathlib.Core.Path.{◌≡◌}
 use mathlib.Core.List.{List}
 use lib.ListN.{length}
 use Rattle.edit_shells.specs.Shells.{changed_at}
-use Rattle.edit_shells.specs.Edits.{refused_size, refused_room}
+use Rattle.edit_shells.proofs.Edits.{refused_size, refused_room}
 use Rattle.edit_change.specs.Change.{bare, changed_length, size_is, change_puts}
 use Rattle.edit_change.proofs.change_within.Goals as goal
 use Rattle.edit_change.proofs.change_within.Goals.{After-padding-padding}

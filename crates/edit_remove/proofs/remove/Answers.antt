@@ -3,7 +3,8 @@ use Prim.Native.Nat.{◌≤◌}
 use native.Mathlib.Omega.{arith}
 use mathlib.Core.Path.{sym, ◌∙◌}
 use Rattle.edit_shells.specs.Shells.{removed_at}
-use Rattle.edit_shells.specs.Edits.{removed_by_places, edit_many, edit_disordered, renewed_edit}
+use Rattle.edit_shells.specs.Edits.{removed_by_places}
+use Rattle.edit_shells.proofs.Edits.{edit_many, edit_disordered, renewed_edit}
 use Rattle.edit_remove.specs.Remove.{Ordered, ordered_rises, rises_ordered, section_past}
 use Rattle.edit_remove.proofs.remove.Goals as goal
 use Rattle.edit_remove.proofs.remove.Goals.{Else-not-in_order}

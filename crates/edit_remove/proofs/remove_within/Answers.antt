@@ -5,7 +5,7 @@ use mathlib.Core.Path.{◌≡◌, refl}
 use mathlib.Core.List.{List}
 use lib.ListN.{length}
 use Rattle.edit_shells.specs.Shells.{removed_at}
-use Rattle.edit_shells.specs.Edits.{refused_size, refused_room}
+use Rattle.edit_shells.proofs.Edits.{refused_size, refused_room}
 use Rattle.edit_remove.specs.Remove.{field_of, size_is, remove_puts}
 use Rattle.edit_remove.proofs.remove_within.Goals as goal
 use Rattle.edit_remove.proofs.remove_within.Goals.{After-padding-padding}

@@ -1,7 +1,7 @@
 -- `edit_shells::put_ending` meets its contract: a put of the padding and one of the zeros, of none where the padding ends at n or past it.
 use native.Mathlib.Omega.{arith}
 use mathlib.Core.Path.{◌∙◌}
-use Rattle.edit_shells.specs.Edits.{no_zeros}
+use Rattle.edit_shells.proofs.Edits.{no_zeros}
 use Rattle.edit_shells.proofs.put_ending.Goals as goal
 
 pub returns-then-end-n : goal.returns-then-end-n

@@ -22,7 +22,7 @@ use Rattle.writer_plain.specs.Plain.{keys_reply}
 use Rattle.edit_shells.specs.Shells.{removed_at}
 use Rattle.edit_shells.specs.Edits.{removed_by_places, IsEdit}
 use Rattle.edit_shells.specs.Keys.{remove_at, keys_without, remove_length}
-use Rattle.edit_shells.specs.Within.{remove_key}
+use Rattle.edit_shells.proofs.Within.{remove_key}
 use Rattle.edit_file.specs.declared.Editable.TheVariants as editable
 use Rattle.edit_file.specs.Edits.{editable_at, file_keys, has_key, remove_reply, remove_left, IsRemove}
 use Rattle.edit_file.specs.Afresh.{told, text, remove_is}

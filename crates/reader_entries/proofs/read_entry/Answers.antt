@@ -1,5 +1,5 @@
 -- `reader_entries::read_entry` meets its contract: keypair and comment pick the case. Rests on `entry_paired`.
-use Rattle.reader_entries.specs.Paired.{entry_paired}
+use Rattle.reader_entries.proofs.Pairing.{entry_paired}
 use Rattle.reader_entries.proofs.read_entry.Goals as goal
 
 pub returns-in-Refused : goal.returns-in-Refused

@@ -1,6 +1,6 @@
 -- `reader_section::read_keys` meets its contract: the first key's keypair and comment, and then what follows it. Rests on `keys_followed` and
 -- `entry_paired`.
-use Rattle.reader_entries.specs.Paired.{entry_paired}
+use Rattle.reader_entries.proofs.Pairing.{entry_paired}
 use Rattle.reader_section.specs.Section.{keys_followed}
 use Rattle.reader_section.proofs.read_keys.Goals as goal
 

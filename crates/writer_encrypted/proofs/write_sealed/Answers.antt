@@ -4,7 +4,7 @@ use native.Mathlib.Omega.{arith}
 use lib.ListN.{length}
 use Prim.Native.Nat.{◌+◌}
 use Rattle.format.specs.Format.{encrypted_image}
-use Rattle.format.specs.Lengths.{encrypted_length}
+use Rattle.format.proofs.Lengths.{encrypted_length}
 use Rattle.writer_reply.specs.Sized.{too_large, no_room, done}
 use Rattle.writer_encrypted.specs.Parts.{options_long}
 use Rattle.writer_encrypted.proofs.write_sealed.Goals as goal

@@ -7,7 +7,8 @@ use Rattle.fields.specs.Bytes.{AllBytes, same_true, same_self}
 use Rattle.armour_text.specs.Inverse.{loosely-encode, loosely_bytes}
 use Rattle.armour_text.specs.Text.{text}
 use Rattle.armour_text.specs.Import.{strip, carried, carries}
-use Rattle.armour_text.specs.Ends.{CrLf, strip_crlf, crlf_strip, text_no_return, strip-text, unwrap-text}
+use Rattle.armour_text.specs.Ends.{CrLf}
+use Rattle.armour_text.proofs.Ends.{strip_crlf, crlf_strip, text_no_return, strip-text, unwrap-text}
 
 -- the bytes of a text are found again
 pub carried_of : (t b : List ℕ) → AllBytes b → strip t ≡ text b → carried t ≡ b

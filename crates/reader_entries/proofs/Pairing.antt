@@ -11,7 +11,7 @@ use Rattle.key_pairs.specs.declared.Private.{Private}
 use Rattle.key_pairs.specs.Pairs.{keypair_at}
 use Rattle.reader_entries.specs.declared.Entry.TheVariants as entry
 use Rattle.reader_entries.specs.Entries.{same_key, entry_at, on_paired, pair_at, comment_at}
-use Rattle.reader_entries.specs.Read.{by_keypair}
+use Rattle.reader_entries.proofs.Read.{by_keypair}
 
 comment_told :
     (s : List ℕ) (d : Cursor) (private : Private)

@@ -1,0 +1,4 @@
+pub mod Text
+pub mod Ends
+pub mod Exactly
+pub mod Examples
