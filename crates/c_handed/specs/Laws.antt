@@ -1,9 +1,8 @@
 -- Numbers handed in are a header's exactly if they are all the numbers of one: every header's own are (`half_own`), and no others
--- (`half_numbers`).
+-- (`half_numbers`, in proofs/Laws).
 use Rattle.std.specs.Prelude.{ℕ, ◌<◌, ◌^◌, ◌≡◌, Bool, true, ◌&&◌, eqb}
 use Rattle.std.proofs.Common.{arith, ◌∙◌, ap, eqb-true, lt-ltb}
 use Rattle.fields.specs.Bytes.{both_true}
-use Rattle.fields.specs.Place.{clash, by_bool}
 use Rattle.names.specs.Algorithms.{algorithm_code}
 use Rattle.names.specs.declared.Algorithm.{Algorithm}
 use Rattle.names.specs.declared.Algorithm.TheVariants.{Elliptic as OnCurve, Rsa}
@@ -17,9 +16,7 @@ use Rattle.names.specs.declared.Kdf.{Kdf}
 use Rattle.names.specs.declared.Kdf.TheVariants as kdf
 use Rattle.names.specs.declared.KdfName.TheVariants as kdf-name
 use Rattle.names_codes.specs.Codes.{cipher_code, kdf_code, algorithm_coded, cipher_coded, kdf_coded, algorithm_coded_lem, cipher_coded_lem, kdf_coded_lem}
-use Rattle.laws_keys.specs.Read.{by_algorithm}
 use Rattle.reader_header.specs.declared.Header.{Header}
-use Rattle.reader_header.specs.Place.{by_cipher_name, by_kdf_name}
 use Rattle.handed_header.specs.Halves.{part_same, eqb_self}
 use Rattle.c_numbers.specs.declared.Place.{Place}
 use Rattle.c_numbers.specs.declared.Image.{Image}
@@ -119,30 +116,3 @@ half_own h small =
       from_own h small,
       image_self (half_image h),
     )
-
-placed_numbers : (x : Image) (a : Algorithm) (c : Cipher) (k : Kdf) (h : Header) → placed_half x a c k ≡ half.Header h → x ≡ half_image h
-unfolding placed_half
-placed_numbers x a c k h e =
-    by_bool (same_image x (half_image (half_from x a c k)))
-    (λ w.
-    let own : half.Header (half_from x a c k) ≡ half.Header h = rw w at e in
-    let same : half_from x a c k ≡ h = cc in
-    image_same x (half_image (half_from x a c k)) w ∙ ap half_image same)
-    (λ w. let none = rw w at e in clash cc)
-
-pub half_numbers : (x : Image) (h : Header) → half_of x ≡ half.Header h → x ≡ half_image h
-unfolding half_of
-half_numbers x h e =
-    by_algorithm (algorithm_coded (code_of x.algorithm))
-    (λ w. let none = rw w at e in clash cc)
-    (λ a w.
-    let e₁ = rw w at e in
-    by_cipher_name (cipher_coded (code_of x.cipher))
-    (λ v. let none = rw v at e₁ in clash cc)
-    (λ c v.
-    let e₂ = rw v at e₁ in
-    by_kdf_name (kdf_coded (code_of x.kdf))
-    (λ u. let none = rw u at e₂ in clash cc)
-    (λ k u.
-    let e₃ : placed_half x a c k ≡ half.Header h = rw u at e₂ in
-    placed_numbers x a c k h e₃)))

@@ -13,14 +13,16 @@ use Rattle.reader_header.specs.declared.Header.{Header}
 use Rattle.reader_header.specs.declared.HeaderRead.TheVariants as header_read
 use Rattle.reader_header.specs.Header.{header_at}
 use Rattle.reader_header.specs.Read.{header-text}
-use Rattle.handed_header.specs.Halves.{is_header, by_header, passes_header}
+use Rattle.handed_header.specs.Halves.{is_header, by_header}
+use Rattle.handed_header.proofs.Halves.{passes_header}
 use Rattle.reader_image.specs.Container.{section_read_at}
 use Rattle.reader_image.specs.Form.{section_form_at}
 use Rattle.c_numbers.specs.declared.Image.{Image}
 use Rattle.c_numbers.specs.Numbers.{half_image, image_of}
 use Rattle.c_handed.specs.declared.Half.TheVariants as half
 use Rattle.c_handed.specs.Handed.{same_image, half_of}
-use Rattle.c_handed.specs.Laws.{image_same, image_self, half_own, half_numbers}
+use Rattle.c_handed.specs.Laws.{image_same, image_self, half_own}
+use Rattle.c_handed.proofs.Laws.{half_numbers}
 use Rattle.c_section.specs.Sections.{forged_half, section_c}
 
 options_rounds : (k : Kdf) (salt : List ℕ) (rounds : ℕ) → OptionsFit k salt rounds → rounds < 2 ^ 32

@@ -19,7 +19,8 @@ use Rattle.reader_header.specs.declared.Header.{Header}
 use Rattle.reader_header.specs.declared.HeaderRead.{HeaderRead}
 use Rattle.reader_header.specs.declared.HeaderRead.TheVariants as header_read
 use Rattle.reader_header.specs.Header.{on_header_read, header_at, AnswersHeader}
-use Rattle.handed_header.specs.Halves.{is_header, by_header, header_passes, passes_header}
+use Rattle.handed_header.specs.Halves.{is_header, by_header, header_passes}
+use Rattle.handed_header.proofs.Halves.{passes_header}
 use Rattle.reader_section.specs.declared.Kind.{Kind}
 use Rattle.reader_section.specs.declared.Kind.TheVariants.{Plain, Encrypted}
 use Rattle.handed_record.specs.Judge.{kind_code}

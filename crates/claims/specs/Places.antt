@@ -10,7 +10,8 @@ use Rattle.fields.specs.declared.Refusal.TheVariants.{Length}
 use Rattle.reader_header.specs.declared.Header.{Header}
 use Rattle.reader_header.specs.declared.HeaderRead.TheVariants as header_read
 use Rattle.reader_header.specs.Header.{on_header_read, header_at, told_header}
-use Rattle.handed_header.specs.Halves.{is_header, by_header, passes_header}
+use Rattle.handed_header.specs.Halves.{is_header, by_header}
+use Rattle.handed_header.proofs.Halves.{passes_header}
 use Rattle.reader_image.specs.declared.ImageRead.{ImageRead}
 use Rattle.reader_image.specs.declared.ImageRead.TheVariants as read
 use Rattle.reader_image.specs.Container.{read_at, section_read_at, told_read}

@@ -23,7 +23,8 @@ use Rattle.setting_record.specs.Places.{record_put, record_other, byte_before, b
 use Rattle.setting_store.specs.Store.{has_place, place_answer, get_reply, put_reply}
 use Rattle.setting_store.specs.Move.{known, fitting, all_places, moved_record, moved_places, move_reply, move_left}
 use Rattle.setting_store.specs.Moved.{moved_length}
-use Rattle.setting_store.specs.Kept.{used_says, MovedTo, place_moved, every_place, all_places_lem, moved_place, moved_same}
+use Rattle.setting_store.specs.Kept.{used_says, MovedTo, every_place, all_places_lem, moved_place, moved_same}
+use Rattle.setting_store.proofs.Kept.{place_moved}
 use Rattle.c_reply.specs.Replies.{reply_of}
 use Rattle.c_reply.specs.declared.Reply.{Reply}
 use Rattle.c_settings.specs.Settings.{setting_of}

@@ -1,11 +1,10 @@
 -- Key k of an image that may be edited, as `key_numbered` finds it: it finds a key exactly where the file has one of that number, and then its places
 -- are within the image. Rests on `key_places` and on the order of a key's places.
-use Rattle.std.specs.Prelude.{ℕ, ◌+◌, ◌-◌, ◌≤◌, ◌<◌, ◌≡◌, true, false, List, map, leb, length, take}
-use Rattle.std.proofs.Common.{arith, sym, ◌∙◌, leb-true, leb-false, eq-eqb, ne_eqb, lt-ltb, length-take-le}
-use Rattle.std.proofs.lemmas.List.{length-map}
+use Rattle.std.specs.Prelude.{ℕ, ◌+◌, ◌-◌, ◌≤◌, ◌<◌, ◌≡◌, true, List, leb, take}
+use Rattle.std.proofs.Common.{arith, sym, ◌∙◌, leb-true, leb-false, eq-eqb, ne_eqb, lt-ltb}
 use Rattle.fields.specs.Bytes.{AllBytes, both_true}
 use Rattle.fields.specs.Place.{clash, by_bool}
-use Rattle.format.specs.Format.{key_blob, written_entry, written_image}
+use Rattle.format.specs.Format.{written_image}
 use Rattle.reader_entries.specs.declared.KeyFields.{KeyFields}
 use Rattle.reader_image.specs.declared.Fields.{Fields}
 use Rattle.reader_image.specs.Container.{keys_in}
@@ -15,7 +14,7 @@ use Rattle.edit_shells.specs.Within.{KeyPlaces}
 use Rattle.edit_shells.proofs.Within.{as_long, remove_order}
 use Rattle.edit_file.specs.declared.Editable.TheVariants as editable
 use Rattle.edit_file.specs.Edits.{editable_at, has_key}
-use Rattle.edit_file.specs.Stand.{image_written, found, key_places}
+use Rattle.edit_file.specs.Stand.{image_written}
 use Rattle.edit_file.specs.Afresh.{told, text}
 
 -- a number that the file doesn't have finds nothing
@@ -28,7 +27,7 @@ none_past : (s : List ℕ) (f : Fields) (k : ℕ) → 1 ≤ k → f.header.count
 unfolding key_numbered
 none_past s f k some h = rw (ne_eqb k 0 (λ e. omega arith), lt-ltb f.header.count k h)
 
-has_found : (s : List ℕ) (f : Fields) (k : ℕ) (key : KeyFields) → key_numbered s f k ≡ looked.Key key → has_key f k ≡ true
+pub has_found : (s : List ℕ) (f : Fields) (k : ℕ) (key : KeyFields) → key_numbered s f k ≡ looked.Key key → has_key f k ≡ true
 has_found s f k key g =
     by_bool (leb 1 k)
     (λ w.
@@ -48,17 +47,6 @@ module _ (old : List ℕ) (all : AllBytes old) (n : ℕ) (f : Fields) (e : edita
   stands = let t = told old all n f e in image_written (take n old) f (text old all n f e) t.plain t.form
 
   module _ (k : ℕ) where
-    pub missing : key_numbered (take n old) f k ≡ looked.Nothing → has_key f k ≡ false
-    missing g =
-        let t = told old all n f e in
-        by_bool (has_key f k)
-        (λ w.
-        let h = has_numbers f k w in
-        let l = found (take n old) f (text old all n f e) t.plain t.form k h.0 h.1 in
-        let z : looked.Nothing ≡ looked.Key l.fields = sym g ∙ l.looked in
-        clash cc)
-        (λ w. w)
-
     -- a key that was found
     pub record There (key : KeyFields) : Type 0 where
       pub has : has_key f k ≡ true
@@ -72,32 +60,3 @@ module _ (old : List ℕ) (all : AllBytes old) (n : ℕ) (f : Fields) (e : edita
       pub whole_comment : 4 ≤ key.comment.start
       pub comment_within : key.comment.start + key.comment.length ≤ n
       pub padding_within : f.section.padding ≤ n
-
-    pub there : (key : KeyFields) → key_numbered (take n old) f k ≡ looked.Key key → There key
-    there key g =
-        let s = take n old in
-        let t = told old all n f e in
-        let p = text old all n f e in
-        let w = has_found s f k key g in
-        let h = has_numbers f k w in
-        let l = found s f p t.plain t.form k h.0 h.1 in
-        let both : looked.Key l.fields ≡ looked.Key key = sym l.looked ∙ g in
-        let same : l.fields ≡ key = cc in
-        let q = rw (same, length-take-le n old t.inside) at (key_places s f p t.plain t.form k h.0 h.1) in
-        let keys = keys_in s f in
-        let order =
-        remove_order f.section.checkint (map key_blob keys) (map written_entry keys) n (length old)
-        (as_long f.section.checkint keys old n stands t.inside) t.inside (k - 1)
-        (omega (arith, h, p.counted, length-map keys key_blob))
-        (omega (arith, h, p.counted, length-map keys written_entry)) in
-        record {
-          has = w;
-          some = h.0;
-          inside = h.1;
-          places = q;
-          whole_blob = omega (arith, q.blob_is);
-          blob_within = omega (arith, q.after_is, order);
-          whole_comment = omega (arith, q.field_is);
-          comment_within = omega (arith, q.past_is, order);
-          padding_within = omega (arith, q.end_is);
-        }

@@ -1,10 +1,9 @@
 -- docs/RULES.md, 9.3: an entry that is handed the first half of a record that isn't what an accepted
 -- header read of its image gives replies 1 before all else. So every field is compared: names, rounds, key count, bits and every place.
 use Rattle.std.specs.Prelude.{ℕ, ◌≡◌, refl, Bool, true, false, ◌&&◌, List, eqb}
-use Rattle.std.proofs.Common.{sym, ◌∙◌, ap, ap₂, eq-eqb, eqb-true}
+use Rattle.std.proofs.Common.{ap₂, eq-eqb, eqb-true}
 use Rattle.fields.specs.Bytes.{both_true}
 use Rattle.fields.specs.Fields.{part}
-use Rattle.fields.specs.Place.{clash}
 use Rattle.fields.specs.declared.Fault.{Fault}
 use Rattle.fields.specs.declared.Part.{Part}
 use Rattle.names.specs.Algorithms.{algorithm_code, same_algorithm, algorithm_same}
@@ -97,12 +96,3 @@ by_header (header_read.Header h) refused read = read h refl
 pub header_passes : (s : List ℕ) (h : Header) → header_at s ≡ header_read.Header h → is_header s h ≡ true
 unfolding is_header
 header_passes s h e = rw (e, header_self h)
-
-pub passes_header : (s : List ℕ) (half : Header) → is_header s half ≡ true → header_at s ≡ header_read.Header half
-unfolding is_header
-passes_header s half e =
-    by_header (header_at s)
-    (λ f w. let z : false ≡ true = rw w at e in clash cc)
-    (λ h w.
-    let same : same_header half h ≡ true = rw w at e in
-    w ∙ ap header_read.Header (sym (header_same half h same)))

@@ -5,7 +5,8 @@ use Rattle.fields.specs.Place.{clash, by_bool}
 use Rattle.reader_header.specs.declared.Header.{Header}
 use Rattle.reader_header.specs.declared.HeaderRead.TheVariants as header_read
 use Rattle.reader_header.specs.Header.{header_at}
-use Rattle.handed_header.specs.Halves.{is_header, header_passes, passes_header}
+use Rattle.handed_header.specs.Halves.{is_header, header_passes}
+use Rattle.handed_header.proofs.Halves.{passes_header}
 use Rattle.reader_image.specs.declared.Fields.{Fields}
 use Rattle.reader_image.specs.declared.ImageRead.TheVariants as read
 use Rattle.reader_image.specs.Container.{go_on_at, read_at, section_read_at}

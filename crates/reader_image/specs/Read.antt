@@ -37,7 +37,8 @@ use Rattle.places.specs.Places.{places_of, within_more}
 use Rattle.reader_entries.specs.Entries.{key_read_of}
 use Rattle.reader_entries.specs.Back.{AllFit}
 use Rattle.reader_entries.specs.Read.{AllStand}
-use Rattle.reader_section.specs.Read.{by_section, before_comment, PlainRead, plain_read}
+use Rattle.reader_section.specs.Read.{by_section, before_comment, PlainRead}
+use Rattle.reader_section.proofs.Read.{plain_read}
 use Rattle.reader_section.specs.ReadEncrypted.{EncryptedRead, encrypted_read}
 use Rattle.reader_image.specs.declared.Fields.{Fields}
 use Rattle.reader_image.specs.declared.ImageRead.TheVariants as read

@@ -45,7 +45,7 @@ abbrev pub before_comment : List ℕ → ℕ
 before_comment pair = 8 + length pair
 
 -- a padding that was read
-padding_read : (s : List ℕ) (c : Cursor) → Good s c → padding_at s c ≡ ending.Clean → (rest s c ≡ take (c.end - c.at) padding_bytes) × (c.end - c.at < 8)
+pub padding_read : (s : List ℕ) (c : Cursor) → Good s c → padding_at s c ≡ ending.Clean → (rest s c ≡ take (c.end - c.at) padding_bytes) × (c.end - c.at < 8)
 unfolding padding_at
 padding_read s c good e =
     by_bool (ltb (c.end - c.at) 8)
@@ -57,7 +57,7 @@ padding_read s c good e =
     (λ w. let g = rw w at e in clash cc)
 
 module _ (s : List ℕ) (all : AllBytes s) where
-  checkints_read :
+  pub checkints_read :
       (c : Cursor) (n : ℕ) (d : Cursor) → checkints_at s c ≡ answer.Value n d → (rest s c ≡ uint32 n ++ (uint32 n ++ rest s d)) × (n < 2 ^ 32)
       × (d.at ≡ c.at + 8) × (d.end ≡ c.end)
   unfolding checkints_at
@@ -84,29 +84,8 @@ module _ (s : List ℕ) (all : AllBytes s) where
       (λ u. let i = rw u at h in clash cc)))
 
   -- how long the padding is follows from the multiple of 8
-  padding_is : (n p : ℕ) → (n + p) % 8 ≡ 0 → p < 8 → p ≡ padding_length n
+  pub padding_is : (n p : ℕ) → (n + p) % 8 ≡ 0 → p < 8 → p ≡ padding_length n
   padding_is n p e h = omega arith
-
-  -- the fields one after the other, and the padding that they leave
-  content_joined :
-      (c : Cursor) (n : ℕ) (d : Cursor) (entries : List Entry) (b : Cursor) → c.end ≤ length s → (c.end - c.at) % 8 ≡ 0 → checkints_at s c ≡ answer.Value n d
-      → rest s d ≡ join (entry_fields entries) ++ rest s b → Good s b → padding_at s b ≡ ending.Clean
-      → (rest s c ≡ section n entries) × (b.end - b.at ≡ padding_length (length (content n entries)))
-  unfolding section
-  content_joined c n d entries b inside whole w stand good u =
-      let body = content n entries in
-      let k = checkints_read c n d w in
-      let p = padding_read s b good u in
-      let left = b.end - b.at in
-      let text : rest s c ≡ body ++ take left padding_bytes =
-      k.0 ∙ ap (λ (l : List ℕ). uint32 n ++ (uint32 n ++ l)) stand
-      ∙ sym (content_then n entries (rest s b))
-      ∙ ap (λ (l : List ℕ). body ++ l) p.0 in
-      let long : c.end - c.at ≡ length body + left =
-      sym (length-slice c.at c.end s inside) ∙ ap length text ∙ length-append body (take left padding_bytes)
-      ∙ ap (λ (i : ℕ). length body + i) (length-take-le left padding_bytes (omega (arith, p.1))) in
-      let fills : left ≡ padding_length (length body) = padding_is (length body) left (rw long at whole) p.1 in
-      (text ∙ ap (λ (i : ℕ). body ++ take i padding_bytes) fills, fills)
 
   -- a section's keys: the first by its fields, the others by their places
   abbrev pub section_keys : Algorithm → Public → Section → List ℕ → List Key
@@ -135,58 +114,6 @@ module _ (s : List ℕ) (all : AllBytes s) where
     pub counted : length others ≡ more
     pub inside : AllWithin (length s) others
 
-  content_read :
-      (c : Cursor) (a : Algorithm) (q : Public) (b : Cursor) (more : ℕ) (x : Section) → c.end ≡ length s
-      → content_at s c a q b more ≡ section_read.Section x → KeysFound c a q b more x
-  unfolding content_at closed_at
-  content_read c a q b more x end e =
-      by_bool (eqb ((c.end - c.at) % 8) 0)
-      (λ w.
-      let g = rw w at e in
-      by_uint32 (checkints_at s c)
-      (λ f v. let h : section_read.Refused f ≡ section_read.Section x = rw v at g in clash cc)
-      (λ n d v.
-      let h = rw v at g in
-      by_keys (keys_at s d a q b more)
-      (λ f u. let i : section_read.Refused f ≡ section_read.Section x = rw u at h in clash cc)
-      (λ y m places o u.
-      let i = rw u at h in
-      by_ending (padding_at s o)
-      (λ f t. let k : section_read.Refused f ≡ section_read.Section x = rw t at i in clash cc)
-      (λ t.
-      let k : section_read.Section (plain_of n (o.end - o.at) y m places) ≡ section_read.Section x = rw t at i in
-      let same : plain_of n (o.end - o.at) y m places ≡ x = cc in
-      let first = checkints_read c n d v in
-      let r = keys_read s all d a q b more y m places o (first.3 ∙ end) u in
-      let starts : d.at ≡ c.at + 8 = first.2 in
-      let joined =
-      content_joined c n d (standing_entries (r.zeros ∷ r.more_zeros) (first_key s all a q y m ∷ map (key_read_of s) r.others)) o
-      (omega (arith, end)) (eqb-true _ _ w) v r.text r.good t in
-      rw (← same)
-      (record {
-        zeros = r.zeros;
-        more_zeros = r.more_zeros;
-        others = r.others;
-        plain = refl;
-        text = joined.0;
-        padded = joined.1;
-        listed = r.listed ∙ ap (λ (j : ℕ). places_of (j ∷ r.others)) starts;
-        blobs = r.blobs;
-        fits = r.fits;
-        checkint = first.1;
-        begins = r.begins;
-        place = r.place ∙ omega (arith, starts);
-        size = r.size;
-        comment_within = r.comment_within;
-        second = r.second;
-        second_starts = r.second_starts;
-        second_ends = r.second_ends;
-        stand = r.stand;
-        counted = r.counted;
-        inside = r.inside;
-      })))))
-      (λ w. let g = rw w at e in clash cc)
-
   -- an accepted plain section, whose length is at c
   pub record PlainRead (c : Cursor) (a : Algorithm) (q : Public) (b : Cursor) (more : ℕ) (x : Section) : Type 0 where
     pub inside : Cursor
@@ -194,34 +121,3 @@ module _ (s : List ℕ) (all : AllBytes s) where
     pub found : KeysFound inside a q b more x
     pub text :
         rest s c ≡ string (section x.checkint (standing_entries (found.zeros ∷ found.more_zeros) (section_keys a q x found.others)))
-
-  pub plain_read :
-      (c : Cursor) (a : Algorithm) (q : Public) (b : Cursor) (more : ℕ) (x : Section) → c.end ≡ length s → plain_at s c a q b more ≡ section_read.Section x
-      → PlainRead c a q b more x
-  unfolding plain_at ended_at
-  plain_read c a q b more x end e =
-      by_field (string_at s c)
-      (λ f w. let g : section_read.Refused f ≡ section_read.Section x = rw w at e in clash cc)
-      (λ p d w.
-      let g = rw w at e in
-      by_section (content_at s (within p) a q b more)
-      (λ f v. let h : section_read.Refused f ≡ section_read.Section x = rw v at g in clash cc)
-      (λ y v.
-      let h = rw v at g in
-      by_ending (end_at d)
-      (λ f u. let i : section_read.Refused f ≡ section_read.Section x = rw u at h in clash cc)
-      (λ u.
-      let i : section_read.Section y ≡ section_read.Section x = rw u at h in
-      let o : y ≡ x = cc in
-      let r = string_read s all c p d w in
-      let z = end_read s d u in
-      let last : p.start + p.length ≡ length s = omega (arith, r.place.placed, z.1, end) in
-      let k = content_read (within p) a q b more x last (v ∙ ap section_read.Section o) in
-      let body : view_of s p ≡ section x.checkint (standing_entries (k.zeros ∷ k.more_zeros) (section_keys a q x k.others)) =
-      sym (rest-within s p (omega (arith, last))) ∙ k.text in
-      record {
-        inside = within p;
-        starts = r.place.placed.start;
-        found = k;
-        text = r.text ∙ ap (λ (l : List ℕ). string (view_of s p) ++ l) z.0 ∙ append-nil (string (view_of s p)) ∙ ap string body;
-      })))

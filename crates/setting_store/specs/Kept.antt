@@ -1,15 +1,14 @@
 -- What a move keeps: a place that passes both tests says what it said, in version 2, and a second move leaves it. Rests on the laws of what is
 -- packed.
-use Rattle.std.specs.Prelude.{ℕ, zero, suc, ◌/◌, ◌<◌, ◌^◌, ◌≡◌, Bool, true, List, ◌++◌, eqb, ltb}
-use Rattle.std.proofs.Common.{arith, sym, ◌∙◌, append_assoc, eq-eqb, ne_eqb, eqb-true, ltb-true, ltb-false}
+use Rattle.std.specs.Prelude.{ℕ, zero, suc, ◌/◌, ◌<◌, ◌^◌, ◌≡◌, Bool, true, List, ◌++◌, ltb}
+use Rattle.std.proofs.Common.{arith, sym, ◌∙◌, append_assoc, eq-eqb, ne_eqb, ltb-true, ltb-false}
 use Rattle.std.proofs.Math.Path.{refl, ap}
-use Rattle.std.proofs.lemmas.Bool.{eqb-false}
 use Rattle.fields.specs.Bytes.{uint32, both_true}
 use Rattle.fields.specs.Place.{by_bool}
 use Rattle.setting_record.specs.Bits.{version_in, kind_in, is_version, is_kind, unit, is_known, milliseconds_in, answer_of}
 use Rattle.setting_record.specs.Packing.{bits, writable, pack_of}
 use Rattle.setting_record.specs.Record.{record_at}
-use Rattle.setting_record.specs.Laws.{version_two, PackedAs, pack_as, known-says, packed_version, packed_kind, packed_fits, packed_used, packed_known, packed_milliseconds, packed_says}
+use Rattle.setting_record.specs.Laws.{version_two, PackedAs, pack_as, packed_kind, packed_used, packed_milliseconds}
 use Rattle.setting_record.specs.Places.{record_of}
 use Rattle.setting_store.specs.Store.{place_answer}
 use Rattle.setting_store.specs.Move.{known, fitting, all_places, moved_record, moved_places}
@@ -31,7 +30,7 @@ pub record MovedTo (n m : ℕ) : Type 0 where
   pub still_fitting : fitting m ≡ true
   pub again : moved_record m ≡ m
 
-unused_moved : (n : ℕ) → n ≡ 0 → MovedTo n (moved_record n)
+pub unused_moved : (n : ℕ) → n ≡ 0 → MovedTo n (moved_record n)
 unfolding moved_record
 unused_moved n e =
     let z : n ≡ 0 = e in
@@ -47,53 +46,31 @@ unused_moved n e =
     })
 
 module _ (n : ℕ) (used : n ≡ 0 → ⊥) (k : is_known n ≡ true) (f : writable 2 (milliseconds_in n) ≡ true) where
-  m : ℕ
+  pub m : ℕ
   m = bits 2 (kind_in n) (milliseconds_in n / unit 2)
 
   kind_is : is_kind (kind_in n) ≡ true
   unfolding is_known
   kind_is = (both_true (is_version (version_in n)) (is_kind (kind_in n)) k).1
 
-  packed_from : PackedAs 2 (kind_in n) (milliseconds_in n) m
+  pub packed_from : PackedAs 2 (kind_in n) (milliseconds_in n) m
   unfolding m
   packed_from = record { version = version_two.1; kind = kind_is; delay = f; is = refl }
 
-  moved_is : moved_record n ≡ m
+  pub moved_is : moved_record n ≡ m
   unfolding moved_record m
   moved_is = rw (ne_eqb n 0 used, pack_as 2 (kind_in n) (milliseconds_in n) version_two.1 kind_is f)
 
-  m_used : m ≡ 0 → ⊥
+  pub m_used : m ≡ 0 → ⊥
   m_used e = let h = packed_used 2 _ _ m packed_from in absurd (omega arith)
 
   -- the record that it is moved to is moved to itself
-  m_again : moved_record m ≡ m
+  pub m_again : moved_record m ≡ m
   unfolding moved_record m
   m_again =
       let same : pack_of 2 (kind_in m) (milliseconds_in m) ≡ pack_of 2 (kind_in n) (milliseconds_in n) =
       ap (λ (x : ℕ). pack_of 2 x (milliseconds_in m)) (packed_kind 2 _ _ m packed_from) ∙ ap (pack_of 2 (kind_in n)) (packed_milliseconds 2 _ _ m packed_from) in
       rw (ne_eqb m 0 m_used, same, pack_as 2 (kind_in n) (milliseconds_in n) version_two.1 kind_is f)
-
-  used_moved : MovedTo n m
-  used_moved =
-      record {
-        says = used_says m m_used ∙ packed_says 2 _ _ m packed_from ∙ sym (known-says n k) ∙ sym (used_says n used);
-        unused = λ e. absurd (used e);
-        version = λ u. packed_version 2 _ _ m packed_from;
-        small = packed_fits 2 _ _ m packed_from;
-        still_known = rw (ne_eqb m 0 m_used) (packed_known 2 _ _ m packed_from);
-        still_fitting = rw (ne_eqb m 0 m_used) (ap (writable 2) (packed_milliseconds 2 _ _ m packed_from) ∙ f);
-        again = m_again;
-      }
-
-pub place_moved : (n : ℕ) → known n ≡ true → fitting n ≡ true → MovedTo n (moved_record n)
-place_moved n k f =
-    by_bool (eqb n 0)
-    (λ e. unused_moved n (eqb-true n 0 e))
-    (λ e.
-    let used = eqb-false n 0 e in
-    let k' : is_known n ≡ true = rw e at k in
-    let f' : writable 2 (milliseconds_in n) ≡ true = rw e at f in
-    rw (moved_is n used k' f') (used_moved n used k' f'))
 
 -- ---- all places
 

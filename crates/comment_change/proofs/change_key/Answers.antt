@@ -22,7 +22,8 @@ use Rattle.edit_shells.proofs.Within.{change_key}
 use Rattle.edit_file.specs.declared.Editable.TheVariants as editable
 use Rattle.edit_file.specs.Edits.{editable_at, change_reply, change_left, IsChange}
 use Rattle.edit_file.specs.Afresh.{told, text, some_keys, change_is}
-use Rattle.edit_file.specs.Numbered.{stands, missing, there}
+use Rattle.edit_file.specs.Numbered.{stands}
+use Rattle.edit_file.proofs.Numbered.{missing, there}
 use Rattle.comment_change.specs.At.{IsChangeAt}
 use Rattle.comment_change.proofs.change_key.Goals as goal
 use Rattle.comment_change.proofs.change_key.Goals.{In-Key}

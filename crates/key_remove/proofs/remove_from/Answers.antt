@@ -26,7 +26,8 @@ use Rattle.edit_shells.proofs.Within.{remove_key}
 use Rattle.edit_file.specs.declared.Editable.TheVariants as editable
 use Rattle.edit_file.specs.Edits.{editable_at, file_keys, has_key, remove_reply, remove_left, IsRemove}
 use Rattle.edit_file.specs.Afresh.{told, text, remove_is}
-use Rattle.edit_file.specs.Numbered.{stands, has_numbers, missing, There, there}
+use Rattle.edit_file.specs.Numbered.{stands, has_numbers, There}
+use Rattle.edit_file.proofs.Numbered.{missing, there}
 use Rattle.key_remove.proofs.remove_from.Goals as goal
 use Rattle.key_remove.proofs.remove_from.Goals.{In-Key}
 

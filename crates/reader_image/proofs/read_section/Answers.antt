@@ -2,7 +2,7 @@
 -- Assumes nothing.
 use mathlib.Core.Path.{refl, sym, ◌∙◌}
 use Rattle.reader_header.specs.Place.{header_second}
-use Rattle.handed_header.specs.Halves.{passes_header}
+use Rattle.handed_header.proofs.Halves.{passes_header}
 use Rattle.reader_image.specs.Container.{section_read_at}
 use Rattle.reader_image.proofs.read_section.Goals as goal
 
