@@ -20,7 +20,8 @@ use Rattle.key_public.specs.declared.Public.{Public}
 use Rattle.format.proofs.Laws.{content_then}
 use Rattle.places.specs.Places.{places_of}
 use Rattle.reader_entries.specs.Entries.{keys_at, key_read_of}
-use Rattle.reader_entries.proofs.Read.{by_keys, first_key, keys_read}
+use Rattle.reader_entries.specs.Read.{first_key}
+use Rattle.reader_entries.proofs.Read.{by_keys, keys_read}
 use Rattle.reader_section.specs.declared.Section.{Section}
 use Rattle.reader_section.specs.declared.SectionRead.TheVariants as section_read
 use Rattle.reader_section.specs.Section.{checkints_at, padding_at, plain_of, closed_at, content_at, ended_at, plain_at}
