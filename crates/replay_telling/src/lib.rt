@@ -1,5 +1,6 @@
 // What the programs that replay stored vectors have in common: their file, the numbers and codes in what they have
-// read, and what they say of a number, a reply and a buffer.
+// read, and what they say of a number, a reply and a buffer. What is said goes to a stream: the one error is the
+// stream's own, and leaves there what was said before it.
 #![tactic(auto)]
 
 ghost use Rattle.std.specs.Prelude.{◌≡◌, ◌≤◌, ◌+◌, ◌*◌, ◌%◌, length, IfOk};

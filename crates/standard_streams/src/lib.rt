@@ -1,6 +1,7 @@
 // What the programs that go from standard input to standard output have in common: bytes taken in and handed out, and
 // what is told on standard error: a refusal, a read that failed, a write that failed. `input` and `output`
-// name the program and the stream.
+// name the program and the stream. The one error that is answered is of the stream on which it is told, and leaves there
+// what was told before it; a buffer is left as it was read into.
 #![tactic(auto)]
 
 ghost use Rattle.std.specs.Prelude.{◌≡◌, ◌≤◌, length, IfOk, IfSome};
