@@ -87,7 +87,7 @@ def named_edits(document):
 
 
 def contracts_document():
-    """What docs/CONTRACTS.md names is there: edits, specification files, functions and definitions."""
+    """What docs/CONTRACTS.md names is there: edits, files of specs/ and proofs/, functions and definitions."""
     document = open("docs/CONTRACTS.md", encoding="utf-8").read()
     for crate, edit in named_edits(document):
         if not glob.glob(f"crates/{crate}/must-fail/{edit}.edit"):
@@ -95,7 +95,7 @@ def contracts_document():
     if re.search(r"\bno edit\b", document, re.I):
         yield "docs/CONTRACTS.md says that there is no edit: leave it at the edits that are named"
     for crate, name in re.findall(r"\((\w+)/([A-Z]\w+)\)", document):
-        if not os.path.exists(f"crates/{crate}/specs/{name}.antt"):
+        if not glob.glob(f"crates/{crate}/specs/{name}.antt") + glob.glob(f"crates/{crate}/proofs/{name}.antt"):
             yield f"docs/CONTRACTS.md names {crate}/{name}, which isn't there"
     for name in re.findall(r"^\| [^|]*\(([A-Z]\w+)\)", document, re.M):
         if not os.path.exists(f"crates/claims/specs/{name}.antt"):

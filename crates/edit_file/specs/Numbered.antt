@@ -11,7 +11,6 @@ use Rattle.reader_image.specs.Container.{keys_in}
 use Rattle.reader_keys.specs.declared.Looked.TheVariants as looked
 use Rattle.reader_keys.specs.Keys.{key_numbered}
 use Rattle.edit_shells.specs.Within.{KeyPlaces}
-use Rattle.edit_shells.proofs.Within.{as_long, remove_order}
 use Rattle.edit_file.specs.declared.Editable.TheVariants as editable
 use Rattle.edit_file.specs.Edits.{editable_at, has_key}
 use Rattle.edit_file.specs.Stand.{image_written}
