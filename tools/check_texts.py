@@ -30,7 +30,7 @@ def public_functions(text):
     """The name of each `pub fn`, with what stands between its name and its body: parameters, answer and clauses."""
     for m in re.finditer(r'\bpub (?:extern "C" )?fn (\w+)', text):
         head = text[m.end():text.index("\n{", m.end()) if "\n{" in text[m.end():] else len(text)]
-        body = re.search(r"\n\s*\{\n", text[m.end():])
+        body = re.search(r"(?:\n\s*| )\{\n", text[m.end():])
         yield m.group(1), text[m.end():m.end() + body.start()] if body else head
 
 
@@ -44,7 +44,8 @@ def libraries():
 
 
 def reads_stream(clauses):
-    """Whether a function reads from a stream or a file, which give what no contract can say: then no reply is the only one."""
+    """Whether a function reads from a stream or a file, which give what no contract can say: then no reply is the only one. Of a function
+    that answers an open file a contract can say nothing at all."""
     return re.search(r"\b(?:Read|Files)\b", re.split(r"\n\s*(?:requires|ensures)\b", clauses)[0])
 
 
@@ -52,7 +53,7 @@ def contracts():
     for crate, source in libraries():
         proofs = all_text(f"crates/{crate}/proofs/*.antt")
         for name, clauses in public_functions(source):
-            if not re.search(r"\bensures\b", clauses):
+            if not re.search(r"\bensures\b", clauses) and "R::File" not in clauses:
                 yield f"{crate}::{name} has no ensures"
             if re.search(r"\brequires\b", clauses):
                 yield f"{crate}::{name} asks its caller"

@@ -11,6 +11,7 @@ use fields::{Cursor, Fault, Part, Uint32};
 use key_material::Checkint;
 use names::{Algorithm, AlgorithmName, Cipher, CipherName, Elliptic, Kdf, KdfName};
 use places::Places;
+use standard_streams::Said;
 use std::io::{Read, Write};
 use std::rt::Files;
 use std::{fs, io};
@@ -23,7 +24,7 @@ pub fn open<R: Files + Eprint>(rt: &R, path: &str) -> io::Result<Option<R::File>
     match fs::open(rt, path) {
         Ok(file) => Ok(Some(file)),
         Err(why) => {
-            eprintln!(rt; "{path}: {why}")?;
+            eprintln!(rt; "{path}: {}", Said(why))?;
             Ok(None)
         }
     }

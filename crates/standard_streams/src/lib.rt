@@ -7,8 +7,9 @@
 ghost use Rattle.std.specs.Prelude.{◌≡◌, ◌≤◌, length, IfOk, IfSome};
 
 use fields::{Fault, Part};
-use std::io;
+use std::fmt::{Display, Formatter};
 use std::io::{Read, Write};
+use std::{fmt, io};
 use writer_reply::Written;
 
 // Reads until `buf` is full, the input ends or a read fails, and answers how many bytes it put at the start of `buf`.
@@ -62,10 +63,65 @@ pub fn tell_unread<E: Write>(err: &mut E, got: io::Result<usize>, input: &[u8]) 
     }
 }
 
+// What std says of an error, as far as there is room for it.
+#[derive(Drop)]
+struct Words {
+    text: [u8; 128],
+    length: usize,
+}
+
+impl Write for Words {
+    fn write(&mut self, buf: &[u8]) -> io::Result<usize> {
+        for byte in buf {
+            if self.length < 128 {
+                self.text[self.length] = *byte;
+                self.length += 1;
+            }
+        }
+        Ok(buf.len())
+    }
+
+    fn flush(&mut self) -> io::Result<()> {
+        Ok(())
+    }
+}
+
+// The system's own words, without the number that std puts behind them.
+fn without_number(text: &[u8]) -> &[u8] {
+    for at in 0..text.len() {
+        if text[at..].starts_with(b" (os error ") {
+            return &text[..at];
+        }
+    }
+    text
+}
+
+// An error in the system's own words.
+#[derive(Drop)]
+pub struct Said(pub io::Error);
+
+impl Display for Said {
+    fn fmt<W: fmt::Write>(&self, f: &mut Formatter<W>) -> fmt::Result {
+        let mut words = Words {
+            text: [0; 128],
+            length: 0,
+        };
+        if write!(words, "{}", self.0).is_err() {
+            return Err(fmt::Error);
+        }
+        let said = Part {
+            start: 0,
+            length: words.length,
+        };
+        let text = without_number(fields::view(&words.text, said));
+        f.write_str(str::from_utf8(text).unwrap_or(""))
+    }
+}
+
 // What failed, as the caller names it, and why.
 fn tell_failed<E: Write>(err: &mut E, what: &[u8], why: io::Error) -> io::Result<()> {
     err.write_all(what)?;
-    writeln!(err, ": {why}")
+    writeln!(err, ": {}", Said(why))
 }
 
 // A refusal by its number, its count and its place.
@@ -164,6 +220,14 @@ mod tests {
         let taken = take_input(&mut from, &mut told, &mut [0u8; 8], b"me: in")?;
         assert_eq!(rt; taken, None);
         assert_eq!(rt; told.as_slice(), b"me: in: gone\n".as_slice());
+        Ok(())
+    }
+
+    #[test]
+    fn the_system_is_told_in_its_own_words(rt: HostRuntime) -> Result<(), Fail> {
+        let mut told = Vec::new(rt.alloc());
+        tell_failed(&mut told, b"me: in", io::Error::from_raw_os_error(21))?;
+        assert_eq!(rt; told.as_slice(), b"me: in: Is a directory\n".as_slice());
         Ok(())
     }
 
