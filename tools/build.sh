@@ -8,11 +8,11 @@ cd "$(dirname "$0")/.."
 is_program() { [ -f "crates/$1/src/main.rt" ]; }
 
 # What rt says of a crate. It has no command that builds a program and doesn't run it: so the program is run once, on an empty input, and
-# what it writes is dropped. What is built is for every x86-64 processor; of its own accord rt takes x86-64-v2.
+# what it writes is dropped. A static library is for every x86-64 processor; of its own accord rt takes x86-64-v2.
 made() (
     cd "crates/$1"
     if [ -f src/main.rt ]; then
-        rt run --cpu x86-64 </dev/null 2>&1 >/dev/null
+        rt run </dev/null 2>&1 >/dev/null
     else
         rt lib --cpu x86-64 </dev/null 2>&1
     fi

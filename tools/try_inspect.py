@@ -226,7 +226,7 @@ def stale(folder):
     log = pathlib.Path(folder) / "asked"
     env = with_script(folder, "rt", f'echo "$@ ${{PWD##*/}}" >>{log}\nexec {shutil.which("rt")} "$@"')
     hold("twice", [ask(given=IMAGE, env=env)[0] for _ in range(2)], [0, 0])
-    hold("rt is asked each time", log.read_text().splitlines(), 2 * ["run --cpu x86-64 inspect", "run --cpu x86-64 dearmour"])
+    hold("rt is asked each time", log.read_text().splitlines(), 2 * ["run inspect", "run dearmour"])
     refusing = with_script(folder, "rt", 'echo "rt: not proved"; exit 1')
     status, out, err = ask(given=IMAGE, env=refusing)
     hold("what isn't proved doesn't answer", (status, out, "it was not built" in err), (2, "", True))
