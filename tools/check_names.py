@@ -1,7 +1,8 @@
 """Holds what the documents name to the tree: each path, script, switch, function, theorem, definition and type that stands in
 backquotes is there, and so is the heading that a link points at. A name is there if it is a word of a source, and of antt outside its
 comments, where names that are gone may be spoken of. Names of one small word, as `value`, say too little to be looked for. The change
-pages, docs/DESIGN-PASS.md, docs/PORT.md and CHANGELOG.md speak of names as they were: there only headings are looked for. check_texts.py runs it."""
+pages, docs/DESIGN-PASS.md, docs/PORT.md and CHANGELOG.md speak of names as they were: there only headings are looked for.
+check_texts.py runs it."""
 import fnmatch
 import os
 import re
