@@ -3,10 +3,10 @@
 // standard error.
 #![tactic(auto)]
 
-use fields::{Fault, Refusal};
-use key_material::{Checkint, Material};
+use fields::Refusal;
+use key_material::Material;
 use names::Algorithm;
-use reader_image::{Fields, ImageRead};
+use reader_image::Fields;
 use reader_parts::Which;
 use reader_section::{Kind, Section};
 use std::io;
@@ -20,7 +20,7 @@ fn derived_checkint(image: &[u8], f: Fields) -> u32 {
                 reader_parts::part(image, f, Which::Point),
                 reader_parts::part(image, f, Which::Scalar),
             );
-            m.checkint(Checkint::Derived)
+            m.checkint(None)
         }
         Algorithm::Rsa => key_material::derived_checkint(reader_parts::part(image, f, Which::D)),
     }
@@ -28,13 +28,11 @@ fn derived_checkint(image: &[u8], f: Fields) -> u32 {
 
 // The same record under another checkint.
 fn with_checkint(f: Fields, checkint: u32) -> Fields {
-    Fields {
-        header: f.header,
-        section: Section {
-            checkint,
-            ..f.section
-        },
-    }
+    let section = Section {
+        checkint,
+        ..f.section
+    };
+    Fields { section, ..f }
 }
 
 fn write(rt: HostRuntime, image: &[u8], f: Fields) -> io::Result<()> {
@@ -51,13 +49,9 @@ fn write(rt: HostRuntime, image: &[u8], f: Fields) -> io::Result<()> {
                 b"afresh: standard output",
             )
         }
-        Kind::Encrypted => standard_streams::tell_refused(
-            &mut rt.stderr(),
-            Fault {
-                why: Refusal::Encrypted,
-                at: 0,
-            },
-        ),
+        Kind::Encrypted => {
+            standard_streams::tell_refused(&mut rt.stderr(), Refusal::Encrypted.at(0))
+        }
     }
 }
 
@@ -66,7 +60,7 @@ fn main(rt: HostRuntime) -> io::Result<()> {
     let n = standard_streams::read_full(&mut rt.stdin(), &mut buffer);
     let image = &buffer[..n];
     match reader_image::read(image) {
-        ImageRead::Refused(f) => standard_streams::tell_refused(&mut rt.stderr(), f),
-        ImageRead::Record(f) => write(rt, image, f),
+        Err(f) => standard_streams::tell_refused(&mut rt.stderr(), f),
+        Ok(f) => write(rt, image, f),
     }
 }

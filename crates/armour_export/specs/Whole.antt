@@ -1,5 +1,5 @@
 -- The whole text: the line that opens it is put, then the signs, then the end.
-use Rattle.std.specs.Prelude.{ℕ, ◌+◌, ◌<◌, ◌≤◌, ◌≡◌, refl}
+use Rattle.std.specs.Prelude.{ℕ, ◌+◌, ◌<◌, ◌≤◌, ◌≡◌, refl, Ok}
 use Rattle.std.proofs.Common.{zero-add, arith, ap, ◌∙◌}
 use Rattle.std.proofs.Math.Path.{sym}
 use mathlib.Core.List.{List, [], ◌∷◌, ◌++◌, append-nil}
@@ -9,7 +9,6 @@ use Rattle.std.proofs.Math.Seq.{sets, sets-eq, length-sets}
 use Rattle.fields.specs.declared.Refusal.TheVariants.{Size, Room}
 use Rattle.buffer.specs.Puts.{splice, IsPut}
 use Rattle.writer_reply.specs.Reply.{refused, Answers, answered}
-use Rattle.writer_reply.specs.declared.Written.TheVariants as written
 use Rattle.armour_text.specs.Base64.{encode}
 use Rattle.armour_text.specs.Text.{opening, closing, last, wrap, text, export_reply, export_left}
 use Rattle.armour_export.specs.Sizes.{size_of, opening-length, closing-length, text-length}
@@ -71,9 +70,9 @@ module _ (b old : List ℕ) where
     no_room k = answered (refused Room) _ old _ (rw (le-leb _ _ h, text-length b, lt-leb _ _ k) (refl, refl))
 
     pub done : size_of (length b) ≤ length old → (out : List ℕ) → out ≡ sets old 0 (text b)
-        → Answers (export_reply b (length old)) (export_left b old) (written.Length (size_of (length b))) out
+        → Answers (export_reply b (length old)) (export_left b old) (Ok (size_of (length b))) out
     unfolding export_reply export_left splice
     done k out e =
         let fit : 0 + length (text b) ≤ length old = omega (arith, fits b old k) in
-        answered (written.Length (size_of (length b))) _ out _
+        answered (Ok (size_of (length b))) _ out _
         (rw (le-leb _ _ h, text-length b, le-leb _ _ k) (refl, e ∙ sets-eq (text b) old 0 fit))

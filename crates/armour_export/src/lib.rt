@@ -46,51 +46,26 @@ fn sign(table: &[u8], value: u32) -> u8
     table[value as usize]
 }
 
-// The signs of the first, the second and the third six of 24 bits.
-
-fn sign_0(table: &[u8], n: u32) -> u8
-    requires { table.now ≡ signs }
-    ensures { result ≡ sign_of (n / 262144 % 64) }
-{
-    sign(table, n / 262144 % 64)
-}
-
-fn sign_1(table: &[u8], n: u32) -> u8
-    requires { table.now ≡ signs }
-    ensures { result ≡ sign_of (n / 4096 % 64) }
-{
-    sign(table, n / 4096 % 64)
-}
-
-fn sign_2(table: &[u8], n: u32) -> u8
-    requires { table.now ≡ signs }
-    ensures { result ≡ sign_of (n / 64 % 64) }
-{
-    sign(table, n / 64 % 64)
-}
-
 // One sign, after a line feed where its line has no column left.
 fn put_sign(out: &mut [u8], p: Place, x: u8) -> Place
     requires { p.at + 2 ≤ length out.old }
     ensures { (result.next ≡ p.next) × Moves out.old p.at p.left (x ∷ []) out.new result.at result.left }
 {
-    let at = p.at;
-    let left = p.left;
-    let next = p.next;
+    let Place { at, left, next } = p;
     if left == 0 {
-        out[at] = 10;
+        out[at] = b'\n';
         out[at + 1] = x;
         return Place {
             at: at + 2,
             left: 69,
-            next: next,
+            next,
         };
     }
     out[at] = x;
     Place {
         at: at + 1,
         left: left - 1,
-        next: next,
+        next,
     }
 }
 
@@ -115,15 +90,14 @@ fn put_three(out: &mut [u8], p: Place, table: &[u8], bytes: &[u8]) -> Place
     let q = put_four(
         out,
         p,
-        sign_0(table, n),
-        sign_1(table, n),
-        sign_2(table, n),
+        sign(table, n / 262144 % 64),
+        sign(table, n / 4096 % 64),
+        sign(table, n / 64 % 64),
         sign(table, n % 64),
     );
     Place {
-        at: q.at,
-        left: q.left,
         next: next + 3,
+        ..q
     }
 }
 
@@ -134,13 +108,11 @@ fn three_in_line(out: &mut [u8], p: Place, table: &[u8], bytes: &[u8]) -> Place
     ensures passes { Passes bytes.now out.old p.at p.left p.next out.new result.at result.left result.next }
     ensures next_value { (result.next ≡ p.next + 3) × (result.at ≡ p.at + 4) × (result.left ≡ p.left - 4) }
 {
-    let at = p.at;
-    let left = p.left;
-    let next = p.next;
+    let Place { at, left, next } = p;
     let n = bits(bytes[next], bytes[next + 1], bytes[next + 2]);
-    out[at] = sign_0(table, n);
-    out[at + 1] = sign_1(table, n);
-    out[at + 2] = sign_2(table, n);
+    out[at] = sign(table, n / 262144 % 64);
+    out[at + 1] = sign(table, n / 4096 % 64);
+    out[at + 2] = sign(table, n / 64 % 64);
     out[at + 3] = sign(table, n % 64);
     Place {
         at: at + 4,
@@ -166,15 +138,10 @@ fn put_some(out: &mut [u8], p: Place, table: &[u8], bytes: &[u8]) -> Place
     requires { Room bytes.now out.old p.at p.left p.next × (p.next + 3 ≤ length bytes.now) × (table.now ≡ signs) }
     ensures { (p.next < result.next) × Passes bytes.now out.old p.at p.left p.next out.new result.at result.left result.next }
 {
-    let left = p.left;
-    let next = p.next;
-    if left < 4 {
+    if p.left < 4 {
         return put_three(out, p, table, bytes);
     }
-    if left < 16 {
-        return three_in_line(out, p, table, bytes);
-    }
-    if bytes.len() - next < 12 {
+    if p.left < 16 || bytes.len() - p.next < 12 {
         return three_in_line(out, p, table, bytes);
     }
     twelve_in_line(out, p, table, bytes)
@@ -193,20 +160,27 @@ fn put_rest(out: &mut [u8], p: Place, table: &[u8], bytes: &[u8]) -> Place
     }
     if left == 1 {
         let n = bits(bytes[at], 0, 0);
-        return put_four(out, p, sign_0(table, n), sign_1(table, n), b'=', b'=');
+        return put_four(
+            out,
+            p,
+            sign(table, n / 262144 % 64),
+            sign(table, n / 4096 % 64),
+            b'=',
+            b'=',
+        );
     }
     let n = bits(bytes[at], bytes[at + 1], 0);
     put_four(
         out,
         p,
-        sign_0(table, n),
-        sign_1(table, n),
-        sign_2(table, n),
+        sign(table, n / 262144 % 64),
+        sign(table, n / 4096 % 64),
+        sign(table, n / 64 % 64),
         b'=',
     )
 }
 
-// The signs of all bytes.
+// The signs of all bytes. How many a step takes hangs on the line, so it is no `for`.
 fn put_signs(out: &mut [u8], from: Place, table: &[u8], bytes: &[u8]) -> Place
     requires { Room bytes.now out.old from.at from.left from.next × (from.next ≡ 0) × (table.now ≡ signs) }
     ensures { Moves out.old from.at from.left (encode bytes.now) out.new result.at result.left }
@@ -220,15 +194,15 @@ fn put_signs(out: &mut [u8], from: Place, table: &[u8], bytes: &[u8]) -> Place
 }
 
 // The end of the last line, if there is a line, and the line that closes the text.
-fn put_end(out: &mut [u8], at: usize, left: usize)
-    requires { at + length (last left ++ closing) ≤ length out.old }
-    ensures { out.new ≡ sets out.old at (last left ++ closing) }
+fn put_end(out: &mut [u8], p: Place)
+    requires { p.at + length (last p.left ++ closing) ≤ length out.old }
+    ensures { out.new ≡ sets out.old p.at (last p.left ++ closing) }
 {
-    if left == 70 {
-        buffer::put(out, at, b"-----END OPENSSH PRIVATE KEY-----\n");
+    if p.left == 70 {
+        buffer::put(out, p.at, b"-----END OPENSSH PRIVATE KEY-----\n");
         return;
     }
-    buffer::put(out, at, b"\n-----END OPENSSH PRIVATE KEY-----\n");
+    buffer::put(out, p.at, b"\n-----END OPENSSH PRIVATE KEY-----\n");
 }
 
 // The text of bytes that are within the limit, where there is room for it.
@@ -244,7 +218,7 @@ fn put_text(bytes: &[u8], out: &mut [u8])
         next: 0,
     };
     let end = put_signs(out, begin, &table, bytes);
-    put_end(out, end.at, end.left);
+    put_end(out, end);
 }
 
 // The text of the bytes at the start of the buffer. Refused, which changes nothing: 11 for more than 65,535 bytes, then 9 for
@@ -260,5 +234,5 @@ pub fn export(bytes: &[u8], out: &mut [u8]) -> Written
         return writer_reply::refused(Refusal::Room);
     }
     put_text(bytes, out);
-    Written::Length(size)
+    Ok(size)
 }

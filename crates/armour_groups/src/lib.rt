@@ -25,7 +25,7 @@ fn is_two(w: u8, x: u8, y: u8) -> bool
 fn one(w: u8, x: u8, z: u8) -> usize
     ensures { result ≡ cond (eqb z 61 && one_of (value_of w) (value_of x)) 1 0 }
 {
-    if (z == 61) & is_one(value(w), value(x)) {
+    if (z == b'=') & is_one(value(w), value(x)) {
         return 1;
     }
     0
@@ -41,14 +41,15 @@ fn two(w: u8, x: u8, y: u8) -> usize
     0
 }
 
-// How many bytes four signs give: three, or two before one `=`, or one before two; 0 where they are not the signs of some bytes.
+// How many bytes four signs give: three, or two before one `=`, or one before two; 0 where they are not the signs of some bytes, as the
+// contract has it.
 pub fn kind(w: u8, x: u8, y: u8, z: u8) -> usize
     ensures { result ≡ kind_of w x y z }
 {
-    if y == 61 {
+    if y == b'=' {
         return one(w, x, z);
     }
-    if z == 61 {
+    if z == b'=' {
         return two(w, x, y);
     }
     if is_sign(w) & (is_sign(x) & (is_sign(y) & is_sign(z))) {

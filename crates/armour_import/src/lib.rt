@@ -15,27 +15,16 @@ ghost use Rattle.armour_import.specs.Fill.{Ready, Lines};
 ghost use Rattle.armour_import.specs.FillTwo.{Full, Feed};
 ghost use Rattle.armour_import.specs.Reply.{Body};
 
-use armour_judge::Judged;
+use armour_judge::Four;
 use fields::Refusal;
 use writer_reply::Written;
-
-// Four signs, the place after them, and how many columns the last one's line has left.
-#[derive(Clone, Copy)]
-struct Four {
-    w: u8,
-    x: u8,
-    y: u8,
-    z: u8,
-    at: usize,
-    left: usize,
-}
 
 // Past a line end of a text that was judged.
 fn after_end(text: &[u8], at: usize) -> usize
     requires { Feed text.now at }
     ensures { EndedAt text.now at result }
 {
-    if text[at] == 13 {
+    if text[at] == b'\r' {
         return at + 2;
     }
     at + 1
@@ -105,39 +94,34 @@ fn bits_of(table: &[u8], w: u8, x: u8, y: u8, z: u8) -> u32
     )
 }
 
-fn first(n: u32) -> u8
-    ensures { result ≡ n / 65536 % 256 }
+// The bytes of 24 bits.
+fn bytes_of(n: u32) -> [u8; 3]
+    ensures { result ≡ bytes_of_bits n }
 {
-    (n / 65536 % 256) as u8
-}
-
-fn second(n: u32) -> u8
-    ensures { result ≡ n / 256 % 256 }
-{
-    (n / 256 % 256) as u8
-}
-
-fn third(n: u32) -> u8
-    ensures { result ≡ n % 256 }
-{
-    (n % 256) as u8
+    [
+        (n / 65536 % 256) as u8,
+        (n / 256 % 256) as u8,
+        (n % 256) as u8,
+    ]
 }
 
 fn store_three(out: &mut [u8], o: usize, n: u32)
     requires { o + 3 ≤ length out.old }
     ensures { out.new ≡ sets out.old o (bytes_of_bits n) }
 {
-    out[o] = first(n);
-    out[o + 1] = second(n);
-    out[o + 2] = third(n);
+    let [a, b, c] = bytes_of(n);
+    out[o] = a;
+    out[o + 1] = b;
+    out[o + 2] = c;
 }
 
 fn store_two(out: &mut [u8], o: usize, n: u32)
     requires { o + 2 ≤ length out.old }
     ensures { out.new ≡ sets out.old o (take 2 (bytes_of_bits n)) }
 {
-    out[o] = first(n);
-    out[o + 1] = second(n);
+    let [a, b, _] = bytes_of(n);
+    out[o] = a;
+    out[o + 1] = b;
 }
 
 // The last bytes of a text that was judged, those from o on, fewer than three. The value of `A` is 0.
@@ -151,7 +135,8 @@ fn fill_rest(text: &[u8], at: usize, left: usize, table: &[u8], o: usize, n: usi
     }
     let f = four_at(text, at, left);
     if n - o == 1 {
-        out[o] = first(bits_of(table, f.w, f.x, b'A', b'A'));
+        let [a, _, _] = bytes_of(bits_of(table, f.w, f.x, b'A', b'A'));
+        out[o] = a;
         return;
     }
     store_two(out, o, bits_of(table, f.w, f.x, f.y, b'A'));
@@ -162,15 +147,13 @@ fn fill_run(text: &[u8], at: usize, table: &[u8], o: usize, out: &mut [u8])
     requires { (table.now ≡ values) × Full text.now (carried text.now) at o × (o + 51 ≤ length out.old) }
     ensures { (sets out.new (o + 51) (drop (o + 51) (carried text.now)) ≡ sets out.old o (drop o (carried text.now))) × (length out.new ≡ length out.old) }
 {
-    let mut i: usize = 0;
-    while i < 17 {
+    for i in 0..17 {
         let p = at + 4 * i;
         store_three(
             out,
             o + 3 * i,
             bits_of(table, text[p], text[p + 1], text[p + 2], text[p + 3]),
         );
-        i += 1;
     }
 }
 
@@ -212,7 +195,7 @@ fn fill_last(text: &[u8], from: usize, table: &[u8], done: usize, n: usize, out:
     fill_rest(text, at, left, table, o, n, out);
 }
 
-// The bytes of a text that was judged, of which there are n.
+// The bytes of a text that was judged, of which there are n. Each step says where the next begins, so here and above it is no `for`.
 fn fill(text: &[u8], table: &[u8], n: usize, out: &mut [u8])
     requires { (table.now ≡ values) × Body text.now n × (n ≤ length out.old) }
     ensures { out.new ≡ sets out.old 0 (carried text.now) }
@@ -231,18 +214,15 @@ fn fill(text: &[u8], table: &[u8], n: usize, out: &mut [u8])
 pub fn import(text: &[u8], out: &mut [u8]) -> Written
     ensures { Answers (import_reply text.now (length out.old)) (import_left text.now out.old) result out.new }
 {
-    match armour_judge::judge(text) {
-        Judged::Bad => writer_reply::refused(Refusal::FormatEncoding),
-        Judged::Count(n) => {
-            if 65535 < n {
-                return writer_reply::refused(Refusal::Size);
-            }
-            if out.len() < n {
-                return writer_reply::refused(Refusal::Room);
-            }
-            let table = armour_signs::value_table();
-            fill(text, &table, n, out);
-            Written::Length(n)
-        }
+    let Some(n) = armour_judge::judge(text) else {
+        return writer_reply::refused(Refusal::FormatEncoding);
+    };
+    if 65535 < n {
+        return writer_reply::refused(Refusal::Size);
     }
+    if out.len() < n {
+        return writer_reply::refused(Refusal::Room);
+    }
+    fill(text, &armour_signs::value_table(), n, out);
+    Ok(n)
 }

@@ -1,5 +1,5 @@
 -- What is left of a text from a place on, without its carriage returns before line feeds: how it goes on, byte by byte.
-use Rattle.std.specs.Prelude.{ℕ, ◌+◌, ◌-◌, ◌<◌, ◌≤◌, refl, Bool, true, false, cond, ◌&&◌, List, [], ◌∷◌, eqb, ltb, length, drop}
+use Rattle.std.specs.Prelude.{Option, Some, None, ℕ, ◌+◌, ◌-◌, ◌<◌, ◌≤◌, refl, Bool, true, false, cond, ◌&&◌, List, [], ◌∷◌, eqb, ltb, length, drop}
 use native.Mathlib.Omega.{arith}
 use Rattle.std.proofs.Math.Path.{◌≡◌, ap}
 use Rattle.std.proofs.Common.{◌∙◌, ne_eqb, eqb-true, drop_of_length-le}
@@ -7,8 +7,6 @@ use Rattle.std.proofs.Math.ListN.{get_or}
 use Rattle.fields.specs.Bytes.{both_true}
 use Rattle.armour_text.specs.Import.{feeds, strip}
 use Rattle.armour_text.specs.Places.{at_next}
-use Rattle.armour_judge.specs.declared.Past.{Past}
-use Rattle.armour_judge.specs.declared.Past.TheVariants.{At, Nowhere}
 
 abbrev pub rest : List ℕ → ℕ → List ℕ
 rest t p = strip (drop p t)
@@ -79,35 +77,35 @@ above (x ∷ s) = cond (ltb 13 x) (above s) false
 abbrev pub EndedAt : List ℕ → ℕ → ℕ → Type 0
 EndedAt t p q = (rest t p ≡ 10 ∷ rest t q) × (p < q) × (q ≤ length t)
 
-unfoldable pub Ended : List ℕ → ℕ → Past → Type 0
-Ended t p (At q) = EndedAt t p q
-Ended t p Nowhere = (r : List ℕ) → rest t p ≡ 10 ∷ r → ⊥
+unfoldable pub Ended : List ℕ → ℕ → Option ℕ → Type 0
+Ended t p (Some q) = EndedAt t p q
+Ended t p None = (r : List ℕ) → rest t p ≡ 10 ∷ r → ⊥
 
 module _ (t : List ℕ) (p : ℕ) where
-  pub ended_none : length t ≤ p → Ended t p Nowhere
+  pub ended_none : length t ≤ p → Ended t p None
   unfolding Ended
   ended_none h r e = let f = rest_none t p h in let z : ◌≡◌ {A = ℕ} 0 1 = cc in omega arith
 
-  pub ended_other : p < length t → (get_or t p 0 ≡ 10 → ⊥) → (get_or t p 0 ≡ 13 → ⊥) → Ended t p Nowhere
+  pub ended_other : p < length t → (get_or t p 0 ≡ 10 → ⊥) → (get_or t p 0 ≡ 13 → ⊥) → Ended t p None
   unfolding Ended
   ended_other h f g r e = let k = rest_byte t p h g in let z : get_or t p 0 ≡ 10 = cc in f z
 
-  pub ended_last : p < length t → length t - p < 2 → get_or t p 0 ≡ 13 → Ended t p Nowhere
+  pub ended_last : p < length t → length t - p < 2 → get_or t p 0 ≡ 13 → Ended t p None
   unfolding Ended
   ended_last h l g r e = let k = rest_last t p h l g in let z : ◌≡◌ {A = ℕ} 13 10 = cc in omega arith
 
-  pub ended_return : p + 1 < length t → get_or t p 0 ≡ 13 → (get_or t (p + 1) 0 ≡ 10 → ⊥) → Ended t p Nowhere
+  pub ended_return : p + 1 < length t → get_or t p 0 ≡ 13 → (get_or t (p + 1) 0 ≡ 10 → ⊥) → Ended t p None
   unfolding Ended
   ended_return h g f r e = let k = rest_return t p h g f in let z : ◌≡◌ {A = ℕ} 13 10 = cc in omega arith
 
-  pub ended_feed : p < length t → get_or t p 0 ≡ 10 → Ended t p (At (p + 1))
+  pub ended_feed : p < length t → get_or t p 0 ≡ 10 → Ended t p (Some (p + 1))
   unfolding Ended
   ended_feed h f = (rest_byte t p h (λ e. omega arith) ∙ ap (λ (x : ℕ). x ∷ rest t (p + 1)) f, omega arith, omega arith)
 
-  pub ended_both : p + 1 < length t → get_or t p 0 ≡ 13 → get_or t (p + 1) 0 ≡ 10 → Ended t p (At (p + 2))
+  pub ended_both : p + 1 < length t → get_or t p 0 ≡ 13 → get_or t (p + 1) 0 ≡ 10 → Ended t p (Some (p + 2))
   unfolding Ended
   ended_both h e f = (rest_feed t p h e f, omega arith, omega arith)
 
-pub ended_place : (t : List ℕ) (p q : ℕ) → Ended t p (At q) → q ≤ length t
+pub ended_place : (t : List ℕ) (p q : ℕ) → Ended t p (Some q) → q ≤ length t
 unfolding Ended
 ended_place t p q h = h.2

@@ -1,5 +1,5 @@
 -- Reading a text: whether a line stands at a place, whether the text ends there, the next sign and the next four.
-use Rattle.std.specs.Prelude.{ℕ, zero, suc, ◌+◌, ◌-◌, ◌<◌, ◌≤◌, ◌≡◌, Bool, true, false, cond, ◌&&◌, eqb, ltb, length, take, drop}
+use Rattle.std.specs.Prelude.{Option, Some, None, ℕ, zero, suc, ◌+◌, ◌-◌, ◌<◌, ◌≤◌, ◌≡◌, Bool, true, false, cond, ◌&&◌, eqb, ltb, length, take, drop}
 use Rattle.std.proofs.Common.{eq-or-lt_of_le, ⊎_elim, ◌∙◌, ltb-true, ne_eqb, eqb-true, length-drop, length-take, take-append-drop, drop-drop, drop_at, take_all}
 use native.Mathlib.Omega.{arith}
 use Rattle.std.proofs.Math.Path.{refl, sym, ap}
@@ -11,11 +11,7 @@ use Rattle.std.proofs.Math.Seq.{drop-cons}
 use Rattle.fields.specs.Bytes.{ascii, same_bytes, same_true, same_self, not_as_long}
 use Rattle.armour_text.specs.Text.{lead, fewer, closing}
 use Rattle.armour_text.specs.Import.{strip}
-use Rattle.armour_judge.specs.declared.Past.TheVariants.{At, Nowhere}
-use Rattle.armour_judge.specs.declared.Sign.{Sign}
-use Rattle.armour_judge.specs.declared.Sign.TheVariants as sign
-use Rattle.armour_judge.specs.declared.Group.{Group}
-use Rattle.armour_judge.specs.declared.Group.TheVariants as group
+use Rattle.armour_judge.specs.declared.Four.{Four}
 use Rattle.armour_judge.specs.Rest.{rest, strip_front, above, Ended, rest_none, rest_byte}
 
 -- ---- a line
@@ -111,11 +107,11 @@ rest_some t p h e = go (drop (suc p) t) (get_or t p 0) (rw (drop-cons t p 0 h) a
         other false f e = no_cons (sym e)
 
 module _ (t : List ℕ) (p : ℕ) where
-  pub end_no_line : Ended t p Nowhere → End t p false
+  pub end_no_line : Ended t p None → End t p false
   unfolding Ended End
   end_no_line f e = f closing e
 
-  module _ (q : ℕ) (h : Ended t p (At q)) where
+  module _ (q : ℕ) (h : Ended t p (Some q)) where
     -- what is left after the line end
     after_end : (r : List ℕ) → rest t p ≡ 10 ∷ r → rest t q ≡ r
     unfolding Ended
@@ -135,18 +131,18 @@ module _ (t : List ℕ) (p : ℕ) where
       closed : (r : List ℕ) → rest t q ≡ closes ++ r → rest t (q + 33) ≡ r
       closed r e = sym (drop_at closes (rest t (q + 33)) 33 closes_line.1) ∙ ap (drop 33) (sym follows ∙ e) ∙ drop_at closes r 33 closes_line.1
 
-      pub end_cut : Ended t (q + 33) Nowhere → End t p false
+      pub end_cut : Ended t (q + 33) None → End t p false
       unfolding Ended End
       end_cut f e = f [] (closed (10 ∷ []) (after_end closing e ∙ closes_line.2))
 
-      pub end_here : (l : ℕ) → Ended t (q + 33) (At l) → l ≡ length t → End t p true
+      pub end_here : (l : ℕ) → Ended t (q + 33) (Some l) → l ≡ length t → End t p true
       unfolding Ended End
       end_here l f k =
           let z : rest t l ≡ [] = rest_none t l (omega arith) in
           let g : rest t (q + 33) ≡ 10 ∷ [] = f.0 ∙ ap (λ (r : List ℕ). 10 ∷ r) z in
           h.0 ∙ ap (λ (r : List ℕ). 10 ∷ r) (follows ∙ ap (λ (r : List ℕ). closes ++ r) g ∙ sym closes_line.2)
 
-      pub end_later : (l : ℕ) → Ended t (q + 33) (At l) → (l ≡ length t → ⊥) → End t p false
+      pub end_later : (l : ℕ) → Ended t (q + 33) (Some l) → (l ≡ length t → ⊥) → End t p false
       unfolding Ended End
       end_later l f k e =
           let g : rest t (q + 33) ≡ 10 ∷ [] = closed (10 ∷ []) (after_end closing e ∙ closes_line.2) in
@@ -155,7 +151,7 @@ module _ (t : List ℕ) (p : ℕ) where
 
 -- the last test's answer
 pub end_tested :
-    (t : List ℕ) (p q : ℕ) → Ended t p (At q) → stands t q closes ≡ true → (l : ℕ) → Ended t (q + 33) (At l) → End t p (eqb l (length t))
+    (t : List ℕ) (p q : ℕ) → Ended t p (Some q) → stands t q closes ≡ true → (l : ℕ) → Ended t (q + 33) (Some l) → End t p (eqb l (length t))
 end_tested t p q h s l f = go (eqb l (length t)) refl
   where
     go : (b : Bool) → eqb l (length t) ≡ b → End t p b
@@ -164,16 +160,16 @@ end_tested t p q h s l f = go (eqb l (length t)) refl
 
 -- ---- one sign: no byte above 42 ends a line
 
-unfoldable pub Signs : List ℕ → ℕ → ℕ → Sign → Type 0
-Signs t p k (sign.Is x q j) = (rest t p ≡ lead k ++ x ∷ rest t q) × (j ≡ fewer k) × (p < q) × (q ≤ length t)
-Signs t p k sign.Missing = (x : ℕ) (r : List ℕ) → 42 < x → rest t p ≡ lead k ++ x ∷ r → ⊥
+unfoldable pub Signs : List ℕ → ℕ → ℕ → Option (ℕ × ℕ × ℕ) → Type 0
+Signs t p k (Some (x, q, j)) = (rest t p ≡ lead k ++ x ∷ rest t q) × (j ≡ fewer k) × (p < q) × (q ≤ length t)
+Signs t p k None = (x : ℕ) (r : List ℕ) → 42 < x → rest t p ≡ lead k ++ x ∷ r → ⊥
 
 module _ (t : List ℕ) (p j : ℕ) where
-  pub sign_none : length t ≤ p → Signs t p (suc j) sign.Missing
+  pub sign_none : length t ≤ p → Signs t p (suc j) None
   unfolding Signs
   sign_none h x r l e = no_cons (sym (rest_none t p h) ∙ e)
 
-  pub sign_low : p < length t → get_or t p 0 < 43 → Signs t p (suc j) sign.Missing
+  pub sign_low : p < length t → get_or t p 0 < 43 → Signs t p (suc j) None
   unfolding Signs
   sign_low h k x r l e =
       let f = strip_front (drop p t) x r (omega arith) e in
@@ -182,21 +178,21 @@ module _ (t : List ℕ) (p j : ℕ) where
       let z : get_or t p 0 ≡ x = cc in
       omega arith
 
-  pub sign_is : p < length t → 43 ≤ get_or t p 0 → Signs t p (suc j) (sign.Is (get_or t p 0) (p + 1) j)
+  pub sign_is : p < length t → 43 ≤ get_or t p 0 → Signs t p (suc j) (Some (get_or t p 0, p + 1, j))
   unfolding Signs
   sign_is h k = (rest_byte t p h (λ e. omega arith), refl, omega arith, omega arith)
 
 module _ (t : List ℕ) (p : ℕ) where
-  pub sign_no_end : Ended t p Nowhere → Signs t p 0 sign.Missing
+  pub sign_no_end : Ended t p None → Signs t p 0 None
   unfolding Signs Ended
   sign_no_end f x r l e = f (x ∷ r) e
 
-  pub sign_past : (q : ℕ) → Ended t p (At q) → (s : Sign) → Signs t q 70 s → Signs t p 0 s
+  pub sign_past : (q : ℕ) → Ended t p (Some q) → (s : Option (ℕ × ℕ × ℕ)) → Signs t q 70 s → Signs t p 0 s
   unfolding Signs Ended
-  sign_past q h (sign.Is x l j) s = (h.0 ∙ ap (λ (r : List ℕ). 10 ∷ r) s.0, s.1, omega (arith, h.1, s.2), s.3)
-  sign_past q h sign.Missing s = λ x r l e. s x r l (let f = h.0 in cc)
+  sign_past q h (Some (x, l, j)) s = (h.0 ∙ ap (λ (r : List ℕ). 10 ∷ r) s.0, s.1, omega (arith, h.1, s.2), s.3)
+  sign_past q h None s = λ x r l e. s x r l (let f = h.0 in cc)
 
-pub sign_in_line : (t : List ℕ) (p k : ℕ) (s : Sign) → 0 < k → Signs t p (suc (k - 1)) s → Signs t p k s
+pub sign_in_line : (t : List ℕ) (p k : ℕ) (s : Option (ℕ × ℕ × ℕ)) → 0 < k → Signs t p (suc (k - 1)) s → Signs t p k s
 sign_in_line t p k s h g = let e : suc (k - 1) ≡ k = omega arith in rw e at g
 
 -- ---- four signs
@@ -211,35 +207,38 @@ after k = fewer (fewer (fewer (fewer k)))
 abbrev pub FourAt : List ℕ → ℕ → ℕ → ℕ → ℕ → ℕ → ℕ → ℕ → ℕ → Type 0
 FourAt t p k w x y z q j = (rest t p ≡ four k w x y z (rest t q)) × (j ≡ after k) × (p + 4 ≤ q) × (q ≤ length t)
 
-unfoldable pub Groups : List ℕ → ℕ → ℕ → Group → Type 0
-Groups t p k (group.Are w x y z q j) = FourAt t p k w x y z q j
-Groups t p k group.Missing = (w x y z : ℕ) (r : List ℕ) → (42 < w) × (42 < x) × (42 < y) × (42 < z) → rest t p ≡ four k w x y z r → ⊥
+abbrev pub some_four : (w x y z q j : ℕ) → Option Four
+some_four w x y z q j = Some (record { w = w; x = x; y = y; z = z; at = q; left = j })
+
+unfoldable pub Groups : List ℕ → ℕ → ℕ → Option Four → Type 0
+Groups t p k (Some f) = FourAt t p k f.w f.x f.y f.z f.at f.left
+Groups t p k None = (w x y z : ℕ) (r : List ℕ) → (42 < w) × (42 < x) × (42 < y) × (42 < z) → rest t p ≡ four k w x y z r → ⊥
 
 pub lead_same : (k x y : ℕ) (r s : List ℕ) → lead k ++ x ∷ r ≡ lead k ++ y ∷ s → (x ≡ y) × (r ≡ s)
 lead_same zero x y r s e = (cc, cc)
 lead_same (suc k) x y r s e = (cc, cc)
 
 -- what follows a sign that was read
-follow : (t : List ℕ) (p k x q j : ℕ) → Signs t p k (sign.Is x q j) → (y : ℕ) (r : List ℕ) → rest t p ≡ lead k ++ y ∷ r → rest t q ≡ r
+follow : (t : List ℕ) (p k x q j : ℕ) → Signs t p k (Some (x, q, j)) → (y : ℕ) (r : List ℕ) → rest t p ≡ lead k ++ y ∷ r → rest t q ≡ r
 unfolding Signs
 follow t p k x q j s y r e = (lead_same k x y (rest t q) r (sym s.0 ∙ e)).1
 
 module _ (t : List ℕ) (p k : ℕ) where
-  pub no_first : Signs t p k sign.Missing → Groups t p k group.Missing
+  pub no_first : Signs t p k None → Groups t p k None
   unfolding Signs Groups
   no_first s w x y z r l e = s w _ l.0 e
 
-  module _ (w q₁ j₁ : ℕ) (s₁ : Signs t p k (sign.Is w q₁ j₁)) where
+  module _ (w q₁ j₁ : ℕ) (s₁ : Signs t p k (Some (w, q₁, j₁))) where
     left₁ : j₁ ≡ fewer k
     unfolding Signs
     left₁ = s₁.1
 
-    pub no_second : Signs t q₁ j₁ sign.Missing → Groups t p k group.Missing
+    pub no_second : Signs t q₁ j₁ None → Groups t p k None
     unfolding Signs Groups
     no_second s w' x y z r l e =
         s x (lead (fewer (fewer k)) ++ y ∷ (lead (fewer (fewer (fewer k))) ++ z ∷ r)) l.1 (rw left₁ (follow t p k w q₁ j₁ s₁ w' _ e))
 
-    module _ (x q₂ j₂ : ℕ) (s₂ : Signs t q₁ j₁ (sign.Is x q₂ j₂)) where
+    module _ (x q₂ j₂ : ℕ) (s₂ : Signs t q₁ j₁ (Some (x, q₂, j₂))) where
       left₂ : j₂ ≡ fewer (fewer k)
       unfolding Signs
       left₂ = s₂.1 ∙ ap fewer left₁
@@ -248,21 +247,21 @@ module _ (t : List ℕ) (p k : ℕ) where
       from_second : (w' x' : ℕ) (r : List ℕ) → rest t p ≡ lead k ++ w' ∷ (lead (fewer k) ++ x' ∷ r) → rest t q₂ ≡ r
       from_second w' x' r e = follow t q₁ j₁ x q₂ j₂ s₂ x' r (rw left₁ (follow t p k w q₁ j₁ s₁ w' _ e))
 
-      pub no_third : Signs t q₂ j₂ sign.Missing → Groups t p k group.Missing
+      pub no_third : Signs t q₂ j₂ None → Groups t p k None
       unfolding Signs Groups
       no_third s w' x' y z r l e = s y (lead (fewer (fewer (fewer k))) ++ z ∷ r) l.2 (rw left₂ (from_second w' x' _ e))
 
-      module _ (y q₃ j₃ : ℕ) (s₃ : Signs t q₂ j₂ (sign.Is y q₃ j₃)) where
+      module _ (y q₃ j₃ : ℕ) (s₃ : Signs t q₂ j₂ (Some (y, q₃, j₃))) where
         left₃ : j₃ ≡ fewer (fewer (fewer k))
         unfolding Signs
         left₃ = s₃.1 ∙ ap fewer left₂
 
-        pub no_fourth : Signs t q₃ j₃ sign.Missing → Groups t p k group.Missing
+        pub no_fourth : Signs t q₃ j₃ None → Groups t p k None
         unfolding Signs Groups
         no_fourth s w' x' y' z r l e =
             s z r l.3 (rw left₃ (follow t q₂ j₂ y q₃ j₃ s₃ y' _ (rw left₂ (from_second w' x' _ e))))
 
-        pub all_four : (z q j : ℕ) → Signs t q₃ j₃ (sign.Is z q j) → Groups t p k (group.Are w x y z q j)
+        pub all_four : (z q j : ℕ) → Signs t q₃ j₃ (Some (z, q, j)) → Groups t p k (some_four w x y z q j)
         unfolding Signs Groups
         all_four z q j s =
             let a = rw left₁ at s₂.0 in

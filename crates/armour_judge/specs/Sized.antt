@@ -23,8 +23,8 @@ pub record Sized (r : List ℕ) (k n : ℕ) : Type 0 where
   pub size : length bytes ≡ n
 
 -- it is that of no list of bytes, however long
-abbrev pub None : List ℕ → ℕ → Type 0
-None r k = (m : ℕ) → Sized r k m → ⊥
+abbrev pub NoBytes : List ℕ → ℕ → Type 0
+NoBytes r k = (m : ℕ) → Sized r k m → ⊥
 
 -- ---- four signs of a text
 
@@ -116,7 +116,7 @@ module _ (r : List ℕ) (k : ℕ) (less : k < 70) where
 
   module _ (f : r ≡ 10 ∷ closing → ⊥) where
     -- no four signs
-    pub none_group : ((w x y z : ℕ) (s : List ℕ) → (42 < w) × (42 < x) × (42 < y) × (42 < z) → r ≡ four k w x y z s → ⊥) → None r k
+    pub none_group : ((w x y z : ℕ) (s : List ℕ) → (42 < w) × (42 < x) × (42 < y) × (42 < z) → r ≡ four k w x y z s → ⊥) → NoBytes r k
     none_group g m s = let a = first_at s.bytes s.are f s.lines in g a.w a.x a.y a.z _ a.high a.begins
 
     module _ (w x y z : ℕ) (r' : List ℕ) (e : r ≡ four k w x y z r') where
@@ -126,13 +126,13 @@ module _ (r : List ℕ) (k : ℕ) (less : k < 70) where
           let q = four_same k w x y z a.w a.x a.y a.z r' _ (sym e ∙ a.begins) in
           (rw (q.0, q.1, q.2, q.3), q.4)
 
-      pub none_kind : kind_of w x y z ≡ 0 → None r k
+      pub none_kind : kind_of w x y z ≡ 0 → NoBytes r k
       none_kind h m s =
           let a = first_at s.bytes s.are f s.lines in
           let q = same_first a in
           omega (arith, a.some, q.0, h)
 
-      pub none_last : kind_of w x y z < 3 → (r' ≡ 10 ∷ closing → ⊥) → None r k
+      pub none_last : kind_of w x y z < 3 → (r' ≡ 10 ∷ closing → ⊥) → NoBytes r k
       unfolding wrap encode
       none_last h g m s =
           let a = first_at s.bytes s.are f s.lines in
@@ -140,7 +140,7 @@ module _ (r : List ℕ) (k : ℕ) (less : k < 70) where
           let n : a.more ≡ [] = a.last_one (rw q.0 h) in
           g (q.1 ∙ rw (n, last_feed (after k) (after_less k less)))
 
-      pub none_more : None r' (after k) → None r k
+      pub none_more : NoBytes r' (after k) → NoBytes r k
       none_more g m s =
           let a = first_at s.bytes s.are f s.lines in
           let q = same_first a in
@@ -173,7 +173,7 @@ module _ (r : List ℕ) (k : ℕ) (less : k < 70) where
 
 pub record Through (r₀ : List ℕ) (k₀ n : ℕ) (r : List ℕ) (k : ℕ) : Type 0 where
   pub to : (m : ℕ) → Sized r k m → Sized r₀ k₀ (n + m)
-  pub back : None r k → None r₀ k₀
+  pub back : NoBytes r k → NoBytes r₀ k₀
 
 pub through_none : (r : List ℕ) (k : ℕ) → Through r k 0 r k
 through_none r k = record { to = λ m s. rw (zero-add m) s; back = λ f. f }

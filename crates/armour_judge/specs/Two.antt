@@ -1,13 +1,11 @@
 -- Two whole lines at once: 140 signs are 35 groups, one of which the line end parts, and carry 105 bytes.
-use Rattle.std.specs.Prelude.{ℕ, ◌+◌, ◌*◌, ◌<◌, ◌≤◌, ◌≡◌, List, ◌∷◌, Bool, true, ◌&&◌, leb, length, get_or}
+use Rattle.std.specs.Prelude.{Option, Some, None, ℕ, ◌+◌, ◌*◌, ◌<◌, ◌≤◌, ◌≡◌, List, ◌∷◌, Bool, true, ◌&&◌, leb, length, get_or}
 use Rattle.std.proofs.Common.{add_assoc, add-zero, arith, sym, ap, ◌∙◌, leb-true}
 use Rattle.fields.specs.Bytes.{AllBytes, both_true}
 use Rattle.armour_signs.specs.Alphabet.{value_of, all_signs}
 use Rattle.armour_signs.specs.Rule.{Inner, value_sign, sign_value}
 use Rattle.armour_text.specs.Text.{closing}
 use Rattle.armour_groups.proofs.Laws.{kind_signs}
-use Rattle.armour_judge.specs.declared.Past.{Past}
-use Rattle.armour_judge.specs.declared.Past.TheVariants.{At, Nowhere}
 use Rattle.armour_judge.specs.Rest.{rest, rest_byte, Ended}
 use Rattle.armour_judge.specs.Signs.{four, after}
 use Rattle.armour_judge.specs.Sized.{Through, through_more}
@@ -23,31 +21,31 @@ line_tested t p x e h =
 pub record Pair (t : List ℕ) (p e : ℕ) : Type 0 where
   pub first : ℕ
   pub second : ℕ
-  pub opened : Ended t p (At first)
+  pub opened : Ended t p (Some first)
   pub signs : AllSigns t first 70
-  pub parted : Ended t (first + 70) (At second)
+  pub parted : Ended t (first + 70) (Some second)
   pub others : AllSigns t second 70
   pub end : e ≡ second + 70
   pub within : e ≤ length t
 
-unfoldable pub Pairs : List ℕ → ℕ → Past → Type 0
-Pairs t p (At e) = Pair t p e
-Pairs t p Nowhere = Unit {0}
+unfoldable pub Pairs : List ℕ → ℕ → Option ℕ → Type 0
+Pairs t p (Some e) = Pair t p e
+Pairs t p None = Unit {0}
 
-pub no_pair : (t : List ℕ) (p : ℕ) → Pairs t p Nowhere
+pub no_pair : (t : List ℕ) (p : ℕ) → Pairs t p None
 unfolding Pairs
 no_pair t p = tt
 
-pub a_pair : (t : List ℕ) (p e : ℕ) → Pair t p e → Pairs t p (At e)
+pub a_pair : (t : List ℕ) (p e : ℕ) → Pair t p e → Pairs t p (Some e)
 unfolding Pairs
 a_pair t p e q = q
 
-pub the_pair : (t : List ℕ) (p e : ℕ) → Pairs t p (At e) → Pair t p e
+pub the_pair : (t : List ℕ) (p e : ℕ) → Pairs t p (Some e) → Pair t p e
 unfolding Pairs
 the_pair t p e q = q
 
 -- where a line end ends
-ended_is : (t : List ℕ) (p q : ℕ) → Ended t p (At q) → (rest t p ≡ 10 ∷ rest t q) × (p < q) × (q ≤ length t)
+ended_is : (t : List ℕ) (p q : ℕ) → Ended t p (Some q) → (rest t p ≡ 10 ∷ rest t q) × (p < q) × (q ≤ length t)
 unfolding Ended
 ended_is t p q h = h
 
@@ -82,7 +80,7 @@ module _ (t : List ℕ) (all : AllBytes t) where
 
   -- the four after a line end
   first-four :
-      {r₀ : List ℕ} {k₀ n : ℕ} (p f : ℕ) → Ended t p (At f) → AllSigns t f 70 → f + 70 ≤ length t → Through r₀ k₀ n (rest t p) 0
+      {r₀ : List ℕ} {k₀ n : ℕ} (p f : ℕ) → Ended t p (Some f) → AllSigns t f 70 → f + 70 ≤ length t → Through r₀ k₀ n (rest t p) 0
       → Through r₀ k₀ (n + 3) (rest t (f + 4)) 66
   first-four p f h s l v =
       let a = ended_is t p f h in
@@ -97,7 +95,7 @@ module _ (t : List ℕ) (all : AllBytes t) where
 
   -- the four that a line end parts
   parted_four :
-      {r₀ : List ℕ} {k₀ n : ℕ} (s q : ℕ) → Ended t (s + 2) (At q) → AllSigns t s 2 → AllSigns t q 70 → s + 2 ≤ length t → q + 70 ≤ length t
+      {r₀ : List ℕ} {k₀ n : ℕ} (s q : ℕ) → Ended t (s + 2) (Some q) → AllSigns t s 2 → AllSigns t q 70 → s + 2 ≤ length t → q + 70 ≤ length t
       → Through r₀ k₀ n (rest t s) 2 → Through r₀ k₀ (n + 3) (rest t (q + 2)) 68
   parted_four s q h x y l m v =
       let a = ended_is t (s + 2) q h in

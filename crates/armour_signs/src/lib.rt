@@ -7,6 +7,7 @@ ghost use Rattle.std.specs.Prelude.{◌≡◌, ◌&&◌, ◌+◌, leb, length};
 ghost use Rattle.armour_signs.specs.Alphabet.{signs, value_of, values, is_sign, all_signs};
 
 // The signs, each at its value.
+#[tactic(auto, unfolding(crate::specs::Alphabet::signs))]
 pub fn sign_table() -> [u8; 64]
     ensures { result ≡ signs }
 {
@@ -14,6 +15,7 @@ pub fn sign_table() -> [u8; 64]
 }
 
 // The value of each byte. Where it is no sign: 64, which is `@`.
+#[tactic(auto, unfolding(crate::specs::Alphabet::values, crate::specs::Alphabet::value_of, crate::specs::Alphabet::signs))]
 pub fn value_table() -> [u8; 256]
     ensures { result ≡ values }
 {
@@ -27,36 +29,30 @@ pub fn value_table() -> [u8; 256]
 pub fn value(c: u8) -> u8
     ensures { result ≡ value_of c }
 {
-    let table = value_table();
-    table[c as usize]
+    value_table()[c as usize]
 }
 
 // By ranges, without a jump, and not by the table: of many bytes, compiled, it is vector code.
 pub fn is_sign(c: u8) -> bool
     ensures { result ≡ is_sign c }
 {
-    ((65 <= c) & (c <= 90))
-        | ((97 <= c) & (c <= 122))
-        | ((48 <= c) & (c <= 57))
-        | (c == 43)
-        | (c == 47)
+    ((b'A' <= c) & (c <= b'Z'))
+        | ((b'a' <= c) & (c <= b'z'))
+        | ((b'0' <= c) & (c <= b'9'))
+        | (c == b'+')
+        | (c == b'/')
 }
 
 // Are the n bytes from the place on there, and all signs? All are looked at, without a jump: compiled, it is vector code.
 pub fn all_signs(text: &[u8], at: usize, n: usize) -> bool
     ensures { result ≡ (leb (at + n) (length text.now) && all_signs n text.now at) }
 {
-    if text.len() < n {
-        return false;
-    }
-    if text.len() - n < at {
+    if text.len() < n || text.len() - n < at {
         return false;
     }
     let mut good = true;
-    let mut k: usize = 0;
-    while k < n {
-        good = good & is_sign(text[at + k]);
-        k += 1;
+    for c in &text[at..at + n] {
+        good &= is_sign(*c);
     }
     good
 }

@@ -5,8 +5,7 @@
 use Rattle.std.specs.Prelude.{ℕ, Bool, false, cond, ◌&&◌, List, [], ◌∷◌, eqb, length, drop}
 use Rattle.fields.specs.Bytes.{same_bytes}
 use Rattle.fields.specs.declared.Refusal.TheVariants.{FormatEncoding}
-use Rattle.writer_reply.specs.declared.Written.{Written}
-use Rattle.writer_reply.specs.Reply.{refused, sized, left}
+use Rattle.writer_reply.specs.Reply.{refused, sized, left, Written}
 use Rattle.armour_text.specs.Base64.{loosely}
 use Rattle.armour_text.specs.Text.{text}
 

@@ -1,6 +1,6 @@
 -- Reading loosely what was encoded gives the bytes back, and whatever is read loosely are bytes. Rests on the alphabet's rule and on the
 -- arithmetic of 24 bits.
-use Rattle.std.specs.Prelude.{ℕ, zero, suc, ◌+◌, ◌/◌, ◌%◌, ◌<◌, ◌≡◌, refl, Bool, true, false, cond, List, [], ◌∷◌, ◌++◌, eqb, take}
+use Rattle.std.specs.Prelude.{ℕ, zero, suc, ◌/◌, ◌%◌, ◌<◌, ◌≡◌, refl, Bool, true, false, cond, List, [], ◌∷◌, ◌++◌, eqb, take}
 use Rattle.std.proofs.Common.{arith, ap, ◌∙◌, ne_eqb}
 use Rattle.fields.specs.Bytes.{AllBytes}
 use Rattle.armour_signs.specs.Alphabet.{sign_of, value_of}

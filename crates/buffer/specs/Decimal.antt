@@ -40,7 +40,7 @@ unfolding digits digits_of
 digits_none = refl
 
 -- the digits of a number above 0 are its decimal
-digits_some : (n : ℕ) → 0 < n → digits n ≡ decimal n
+pub digits_some : (n : ℕ) → 0 < n → digits n ≡ decimal n
 unfolding decimal digits
 digits_some zero h = absurd (omega arith)
 digits_some (suc n) h = rw (one_more n (suc n) (omega arith), enough n (suc n / 10) (suc n / 10) (omega arith) (omega arith))

@@ -2,61 +2,44 @@
 // where they don't fit it changes nothing and answers the place that it was given.
 #![tactic(auto)]
 
-ghost use Rattle.std.specs.Prelude.{◌≡◌, ◌≤◌, length, take, drop};
+ghost use Rattle.std.specs.Prelude.{◌≡◌, ◌+◌, ◌≤◌, ◌↔◌, IsTrue, length, take, drop};
 ghost use Rattle.fields.specs.Bytes.{uint32, string};
 ghost use Rattle.format.specs.Format.{padding_length, padding_bytes};
 ghost use Rattle.buffer.specs.Decimal.{last_digit, decimal};
 ghost use Rattle.buffer.specs.Puts.{IsPut, zeros};
 
+// Is there room for n bytes at a place?
+fn has_room(out: &[u8], at: usize, n: usize) -> bool
+    ensures { IsTrue result ↔ (at + n ≤ length out.now) }
+{
+    at <= out.len() && n <= out.len() - at
+}
+
+#[tactic(auto, unfolding(crate::specs::Puts::next, crate::specs::Puts::placed, crate::specs::Puts::fits, crate::specs::Puts::splice))]
 pub fn put(out: &mut [u8], at: usize, bytes: &[u8]) -> usize
     ensures { IsPut out.old at bytes.now result out.new }
 {
-    if out.len() < at {
+    if !has_room(out, at, bytes.len()) {
         return at;
     }
-    if out.len() - at < bytes.len() {
-        return at;
-    }
-    let mut i: usize = 0;
-    while i < bytes.len() {
-        out[at + i] = bytes[i];
-        i += 1;
-    }
-    at + i
+    let past = at + bytes.len();
+    out[at..past].copy_from_slice(bytes);
+    past
 }
 
-// The four lowest bytes of a number, the highest first.
-fn uint32_bytes(n: usize) -> [u8; 4]
-    ensures { result ≡ uint32 n }
-{
-    [
-        (n / 16777216 % 256) as u8,
-        (n / 65536 % 256) as u8,
-        (n / 256 % 256) as u8,
-        (n % 256) as u8,
-    ]
-}
-
-// A number as a uint32.
+// A number as a uint32: its four lowest bytes, the highest first.
+#[tactic(auto, unfolding(fields::specs::Bytes::uint32))]
 pub fn put_uint32(out: &mut [u8], at: usize, n: usize) -> usize
     ensures { IsPut out.old at (uint32 n) result out.new }
 {
-    let bytes = uint32_bytes(n);
-    put(out, at, &bytes)
+    put(out, at, &n.to_be_bytes()[4..])
 }
 
 // A string: its length as a uint32, and its bytes.
 pub fn put_string(out: &mut [u8], at: usize, bytes: &[u8]) -> usize
     ensures { IsPut out.old at (string bytes.now) result out.new }
 {
-    if out.len() < at {
-        return at;
-    }
-    let room = out.len() - at;
-    if room < 4 {
-        return at;
-    }
-    if room - 4 < bytes.len() {
+    if !has_room(out, at, 4) || !has_room(out, at + 4, bytes.len()) {
         return at;
     }
     let body = put_uint32(out, at, bytes.len());
@@ -75,28 +58,20 @@ pub fn put_padding(out: &mut [u8], at: usize, n: usize) -> usize
     ensures { IsPut out.old at (take n padding_bytes) result out.new }
 {
     let bytes: [u8; 7] = [1, 2, 3, 4, 5, 6, 7];
-    if n < 7 {
-        return put(out, at, &bytes[..n]);
-    }
-    put(out, at, &bytes)
+    put(out, at, &bytes[..n.min(7)])
 }
 
 // n zeros.
+#[tactic(auto, unfolding(crate::specs::Puts::next, crate::specs::Puts::placed, crate::specs::Puts::fits, crate::specs::Puts::splice, crate::specs::Puts::zeros))]
 pub fn put_zeros(out: &mut [u8], at: usize, n: usize) -> usize
     ensures { IsPut out.old at (zeros n) result out.new }
 {
-    if out.len() < at {
+    if !has_room(out, at, n) {
         return at;
     }
-    if out.len() - at < n {
-        return at;
-    }
-    let mut i: usize = 0;
-    while i < n {
-        out[at + i] = 0;
-        i += 1;
-    }
-    at + i
+    let past = at + n;
+    out[at..past].fill(0);
+    past
 }
 
 // The last digit of a number.
@@ -107,19 +82,20 @@ fn last_digit(n: usize) -> u8
 }
 
 // Writes the digits of a number at the end of a text that has room for any, and answers where they begin.
-fn spell(n: usize, text: &mut [u8]) -> usize
-    requires { length text.old ≡ 20 }
+// The digits come last first, and how many there are is known at their end: no iterator goes so, and the index stays.
+fn spell(n: usize, text: &mut [u8; 20]) -> usize
     ensures { (result ≤ 20) × (length text.new ≡ 20) × (drop result text.new ≡ decimal n) }
 {
-    let mut i: usize = 19;
-    let mut rest = n / 10;
-    text[19] = last_digit(n);
-    while 0 < rest {
+    let mut i = text.len();
+    let mut rest = n;
+    loop {
         i -= 1;
         text[i] = last_digit(rest);
-        rest = rest / 10;
+        rest /= 10;
+        if rest == 0 {
+            return i;
+        }
     }
-    i
 }
 
 // A number in decimal digits.

@@ -5,9 +5,9 @@ use Rattle.names.specs.declared.Algorithm.TheVariants.{Elliptic as OnCurve}
 use Rattle.names_codes.specs.Codes.{algorithm_coded}
 use Rattle.format.specs.Format.{key_of, of_point, of_scalar}
 use Rattle.key_public.specs.Keys.{on_algorithm_name, on_algorithm}
-use Rattle.writer_reply.specs.declared.Written.{Written}
 use Rattle.edit_file.specs.Edits.{add_reply, add_left}
 use Rattle.c_reply.specs.Replies.{names_nothing}
+use Rattle.writer_reply.specs.Reply.{Written}
 
 unfoldable pub coded_add_reply : List ℕ → ℕ → ℕ → List ℕ → List ℕ → List ℕ → Written
 coded_add_reply old n code public private comment =

@@ -8,10 +8,11 @@ ghost use Rattle.c_reply.specs.Replies.{AnswersC};
 ghost use Rattle.c_add.specs.Added.{coded_add_reply, coded_add_left};
 
 use c_reply::{Reply, names_nothing, reply_of};
-use names::{Algorithm, AlgorithmName};
+use names::Algorithm;
 use names_codes::algorithm_coded;
 
 // A key on a curve. RSA's code names nothing here.
+#[tactic(auto, unfolding(crate::specs::Added::coded_add_reply, crate::specs::Added::coded_add_left))]
 pub fn saltorchard_add_key(
     buffer: &mut [u8],
     n: usize,
@@ -23,13 +24,10 @@ pub fn saltorchard_add_key(
     ensures { AnswersC (coded_add_reply buffer.old n algorithm public.now private.now comment.now) (coded_add_left buffer.old n algorithm public.now private.now comment.now) result buffer.new }
 {
     match algorithm_coded(algorithm) {
-        AlgorithmName::Unknown => names_nothing(),
-        AlgorithmName::Known(a) => match a {
-            Algorithm::Rsa => names_nothing(),
-            Algorithm::Elliptic(e) => {
-                reply_of(key_add::add_key(buffer, n, e, public, private, comment))
-            }
-        },
+        Some(Algorithm::Elliptic(e)) => {
+            reply_of(key_add::add_key(buffer, n, e, public, private, comment))
+        }
+        Some(Algorithm::Rsa) | None => names_nothing(),
     }
 }
 

@@ -9,6 +9,7 @@ ghost use Rattle.c_reply.specs.Replies.{AnswersC};
 use c_reply::{Reply, reply_of};
 
 // The text form of any bytes within the limit.
+#[tactic(auto, using(c_reply::specs::Replies::handed_on))]
 pub fn saltorchard_export(image: &[u8], out: &mut [u8]) -> Reply
     ensures { AnswersC (export_reply image.now (length out.old)) (export_left image.now out.old) result out.new }
 {
@@ -16,6 +17,7 @@ pub fn saltorchard_export(image: &[u8], out: &mut [u8]) -> Reply
 }
 
 // The bytes that such a text carries.
+#[tactic(auto, using(c_reply::specs::Replies::handed_on))]
 pub fn saltorchard_import(text: &[u8], out: &mut [u8]) -> Reply
     ensures { AnswersC (import_reply text.now (length out.old)) (import_left text.now out.old) result out.new }
 {

@@ -1,6 +1,6 @@
 -- docs/RULES.md, 15.3: over the C boundary a half is handed in as the numbers of a `saltorchard_image`. They are a header's exactly if
 -- they are all the numbers of one (`half_own`, `half_numbers`); a code that names nothing, a full read's answer and a refusal's are none.
-use Rattle.std.specs.Prelude.{ℕ, ◌^◌, Bool, cond, ◌&&◌, eqb, ltb}
+use Rattle.std.specs.Prelude.{ℕ, ◌^◌, Bool, cond, ◌&&◌, eqb, ltb, Option, Some, None}
 use Rattle.fields.specs.Fields.{part}
 use Rattle.fields.specs.declared.Part.{Part}
 use Rattle.names.specs.declared.Algorithm.{Algorithm}
@@ -14,8 +14,6 @@ use Rattle.reader_header.specs.Header.{on_cipher_name, on_kdf_name}
 use Rattle.c_numbers.specs.declared.Place.{Place}
 use Rattle.c_numbers.specs.declared.Image.{Image}
 use Rattle.c_numbers.specs.Numbers.{half_image}
-use Rattle.c_handed.specs.declared.Half.{Half}
-use Rattle.c_handed.specs.declared.Half.TheVariants as half
 
 abbrev pub same_place : Place → Place → Bool
 same_place a b = eqb a.start b.start && eqb a.length b.length
@@ -81,12 +79,12 @@ half_from x a c k =
     }
 
 -- if all the numbers are that half's
-unfoldable pub placed_half : Image → Algorithm → Cipher → Kdf → Half
-placed_half x a c k = cond (same_image x (half_image (half_from x a c k))) (half.Header (half_from x a c k)) half.Forged
+unfoldable pub placed_half : Image → Algorithm → Cipher → Kdf → Option Header
+placed_half x a c k = cond (same_image x (half_image (half_from x a c k))) (Some (half_from x a c k)) None
 
-unfoldable pub half_of : Image → Half
+unfoldable pub half_of : Image → Option Header
 half_of x =
-    on_algorithm_name (algorithm_coded (code_of x.algorithm)) half.Forged (λ a.
-    on_cipher_name (cipher_coded (code_of x.cipher)) half.Forged (λ c.
-    on_kdf_name (kdf_coded (code_of x.kdf)) half.Forged (λ k.
+    on_algorithm_name (algorithm_coded (code_of x.algorithm)) None (λ a.
+    on_cipher_name (cipher_coded (code_of x.cipher)) None (λ c.
+    on_kdf_name (kdf_coded (code_of x.kdf)) None (λ k.
     placed_half x a c k)))

@@ -1,6 +1,6 @@
 -- Numbers handed in are a header's exactly if they are all the numbers of one: every header's own are (`half_own`), and no others
 -- (`half_numbers`, in proofs/Laws).
-use Rattle.std.specs.Prelude.{ℕ, ◌<◌, ◌^◌, ◌≡◌, Bool, true, ◌&&◌, eqb}
+use Rattle.std.specs.Prelude.{ℕ, ◌<◌, ◌^◌, ◌≡◌, Bool, true, ◌&&◌, eqb, Some}
 use Rattle.std.proofs.Common.{arith, ◌∙◌, ap, eqb-true, lt-ltb}
 use Rattle.fields.specs.Bytes.{both_true}
 use Rattle.names.specs.Algorithms.{algorithm_code}
@@ -8,20 +8,16 @@ use Rattle.names.specs.declared.Algorithm.{Algorithm}
 use Rattle.names.specs.declared.Algorithm.TheVariants.{Elliptic as OnCurve, Rsa}
 use Rattle.names.specs.declared.Elliptic.TheVariants.{Ed25519, Ecdsa}
 use Rattle.names.specs.declared.Curve.TheVariants.{Nistp256, Nistp384, Nistp521}
-use Rattle.names.specs.declared.AlgorithmName.TheVariants as algorithm-name
 use Rattle.names.specs.declared.Cipher.{Cipher}
 use Rattle.names.specs.declared.Cipher.TheVariants.{None, TripleDesCbc, Aes128Cbc, Aes192Cbc, Aes256Cbc, Aes128Ctr, Aes192Ctr, Aes256Ctr, Aes128Gcm, Aes256Gcm}
-use Rattle.names.specs.declared.CipherName.TheVariants as cipher-name
 use Rattle.names.specs.declared.Kdf.{Kdf}
 use Rattle.names.specs.declared.Kdf.TheVariants as kdf
-use Rattle.names.specs.declared.KdfName.TheVariants as kdf-name
 use Rattle.names_codes.specs.Codes.{cipher_code, kdf_code, algorithm_coded, cipher_coded, kdf_coded, algorithm_coded_lem, cipher_coded_lem, kdf_coded_lem}
 use Rattle.reader_header.specs.declared.Header.{Header}
 use Rattle.handed_header.specs.Halves.{part_same, eqb_self}
 use Rattle.c_numbers.specs.declared.Place.{Place}
 use Rattle.c_numbers.specs.declared.Image.{Image}
 use Rattle.c_numbers.specs.Numbers.{place_of, half_image}
-use Rattle.c_handed.specs.declared.Half.TheVariants as half
 use Rattle.c_handed.specs.Handed.{same_place, same_image, part_of, code_of, rounds_of, half_from, placed_half, half_of}
 
 place_same : (a b : Place) → same_place a b ≡ true → a ≡ b
@@ -106,13 +102,13 @@ from_own h small =
     ap (λ (n : ℕ). record { cipher = h.cipher; kdf = h.kdf; salt = h.salt; rounds = n; count = h.count; algorithm = h.algorithm; blob = h.blob; public = h.public; section = h.section })
     (let own : rounds_of h.rounds ≡ h.rounds = rw (lt-ltb h.rounds (2 ^ 32) small) in own)
 
-pub half_own : (h : Header) → h.rounds < 2 ^ 32 → half_of (half_image h) ≡ half.Header h
+pub half_own : (h : Header) → h.rounds < 2 ^ 32 → half_of (half_image h) ≡ Some h
 unfolding half_of placed_half
 half_own h small =
     rw (
-      coded_own algorithm_code algorithm_coded algorithm-name.Known algorithm_small algorithm_coded_lem h.algorithm,
-      coded_own cipher_code cipher_coded cipher-name.Known cipher_small cipher_coded_lem h.cipher,
-      coded_own kdf_code kdf_coded kdf-name.Known kdf_small kdf_coded_lem h.kdf,
+      coded_own algorithm_code algorithm_coded Some algorithm_small algorithm_coded_lem h.algorithm,
+      coded_own cipher_code cipher_coded Some cipher_small cipher_coded_lem h.cipher,
+      coded_own kdf_code kdf_coded Some kdf_small kdf_coded_lem h.kdf,
       from_own h small,
       image_self (half_image h),
     )

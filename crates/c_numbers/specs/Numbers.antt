@@ -1,7 +1,7 @@
 -- docs/RULES.md, 15.1: what a read found, in plain numbers. An accepted image is 0 0 0, its kind (1 plain, 2 encrypted), the codes,
 -- the numbers and the places of its fields; of a refused one all after the place is 0. An accepted header is of kind 3, and all that a
 -- header doesn't have is 0, the form too. A key that the image doesn't have is 1, count 0, at 0, and all after it 0.
-use Rattle.std.specs.Prelude.{ℕ, Bool, true, false}
+use Rattle.std.specs.Prelude.{ℕ, Bool, true, false, Result, Option}
 use Rattle.fields.specs.Fields.{fault, absent}
 use Rattle.fields.specs.Refusals.{number_of, count_of}
 use Rattle.fields.specs.declared.Fault.{Fault}
@@ -11,13 +11,10 @@ use Rattle.names.specs.Algorithms.{algorithm_code}
 use Rattle.names_codes.specs.Codes.{cipher_code, kdf_code}
 use Rattle.reader_entries.specs.declared.KeyFields.{KeyFields}
 use Rattle.reader_header.specs.declared.Header.{Header}
-use Rattle.reader_header.specs.declared.HeaderRead.{HeaderRead}
 use Rattle.reader_header.specs.Header.{on_header_read}
 use Rattle.handed_record.specs.Judge.{kind_code}
 use Rattle.reader_image.specs.declared.Fields.{Fields}
-use Rattle.reader_image.specs.declared.FormRead.{FormRead}
 use Rattle.reader_image.specs.Form.{on_form}
-use Rattle.reader_keys.specs.declared.Looked.{Looked}
 use Rattle.reader_keys.specs.Keys.{on_looked}
 use Rattle.c_numbers.specs.declared.Place.{Place}
 use Rattle.c_numbers.specs.declared.Image.{Image}
@@ -96,7 +93,7 @@ accepted_image f form =
       keys = f.header.count;
     }
 
-unfoldable pub image_of : FormRead → Image
+unfoldable pub image_of : Result (Fields × Bool) Fault → Image
 image_of read = on_form read refused_image accepted_image
 
 -- ---- a header
@@ -133,7 +130,7 @@ half_image h =
       keys = h.count;
     }
 
-unfoldable pub header_of : HeaderRead → Image
+unfoldable pub header_of : Result Header Fault → Image
 header_of read = on_header_read read refused_image half_image
 
 -- ---- one key of an image
@@ -178,5 +175,5 @@ accepted_key f =
       q = place_of f.private.q;
     }
 
-unfoldable pub looked_key : Looked → Key
+unfoldable pub looked_key : Option KeyFields → Key
 looked_key found = on_looked found (refused_key (fault Length 0)) accepted_key

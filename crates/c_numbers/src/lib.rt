@@ -3,27 +3,25 @@
 #![tactic(auto)]
 
 ghost use Rattle.std.specs.Prelude.{◌≡◌};
-ghost use Rattle.fields.specs.Fields.{absent};
-ghost use Rattle.c_numbers.specs.Numbers.{place_of, form_code, refused_image, accepted_image, image_of, half_image, header_of, refused_key, accepted_key, looked_key};
+ghost use Rattle.c_numbers.specs.Numbers.{place_of, refused_image, accepted_image, image_of, half_image, header_of, refused_key, accepted_key, looked_key};
 
 use fields::{Fault, Part, Refusal};
 use handed_record::kind_code;
 use names_codes::{cipher_code, kdf_code};
 use reader_entries::KeyFields;
-use reader_header::{Header, HeaderRead};
-use reader_image::{Fields, FormRead};
-use reader_keys::Looked;
+use reader_header::Header;
+use reader_image::Fields;
 
 // Where a field stands; 0 and 0 where the image has none.
 #[repr(C)]
-#[derive(Clone, Copy)]
+#[derive(Clone, Copy, PartialEq, Eq)]
 pub struct Place {
     pub start: u64,
     pub length: u64,
 }
 
 #[repr(C)]
-#[derive(Clone, Copy)]
+#[derive(Clone, Copy, PartialEq, Eq)]
 pub struct Image {
     pub number: u64,
     pub count: u64,
@@ -75,42 +73,31 @@ pub struct Key {
     pub q: Place,
 }
 
-fn place_of(part: Part) -> Place
-    ensures { result ≡ place_of part }
-{
-    Place {
-        start: part.start as u64,
-        length: part.length as u64,
+impl From<Part> for Place {
+    ghost from_gives = { λ part place. place ≡ place_of part };
+
+    fn from(part: Part) -> Place {
+        Place {
+            start: part.start as u64,
+            length: part.length as u64,
+        }
     }
 }
 
-fn nowhere() -> Place
-    ensures { result ≡ place_of absent }
-{
-    Place {
+impl Place {
+    // Of a field that the image doesn't have.
+    const ABSENT: Place = Place {
         start: 0,
         length: 0,
-    }
+    };
 }
 
-fn form_code(form: bool) -> u64
-    ensures { result ≡ form_code form }
-{
-    if form {
-        return 1;
-    }
-    0
-}
-
-fn refused_image(f: Fault) -> Image
-    ensures { result ≡ refused_image f }
-{
-    let why = f.why;
-    let zero = nowhere();
-    Image {
-        number: why.number() as u64,
-        count: why.count() as u64,
-        at: f.at as u64,
+impl Image {
+    // Nothing of an image.
+    const NOTHING: Image = Image {
+        number: 0,
+        count: 0,
+        at: 0,
         kind: 0,
         algorithm: 0,
         cipher: 0,
@@ -119,74 +106,81 @@ fn refused_image(f: Fault) -> Image
         checkint: 0,
         padding: 0,
         form: 0,
-        blob: zero,
-        point: zero,
-        scalar: zero,
-        comment: zero,
-        salt: zero,
-        ciphertext: zero,
-        tag: zero,
+        blob: Place::ABSENT,
+        point: Place::ABSENT,
+        scalar: Place::ABSENT,
+        comment: Place::ABSENT,
+        salt: Place::ABSENT,
+        ciphertext: Place::ABSENT,
+        tag: Place::ABSENT,
         section: 0,
         bits: 0,
-        modulus: zero,
-        exponent: zero,
-        d: zero,
-        iqmp: zero,
-        p: zero,
-        q: zero,
+        modulus: Place::ABSENT,
+        exponent: Place::ABSENT,
+        d: Place::ABSENT,
+        iqmp: Place::ABSENT,
+        p: Place::ABSENT,
+        q: Place::ABSENT,
         keys: 0,
+    };
+}
+
+fn refused_image(f: Fault) -> Image
+    ensures { result ≡ refused_image f }
+{
+    Image {
+        number: f.why.number() as u64,
+        count: f.why.count() as u64,
+        at: f.at as u64,
+        ..Image::NOTHING
     }
 }
 
 fn accepted_image(f: Fields, form: bool) -> Image
     ensures { result ≡ accepted_image f form }
 {
-    let header = f.header;
-    let section = f.section;
+    let Fields { header, section } = f;
     let public = header.public;
     let private = section.private;
-    let kind = section.kind;
-    let algorithm = header.algorithm;
-    let cipher = header.cipher;
-    let kdf = header.kdf;
     Image {
         number: 0,
         count: 0,
         at: 0,
-        kind: kind_code(kind) as u64,
-        algorithm: algorithm.code() as u64,
-        cipher: cipher_code(cipher) as u64,
-        kdf: kdf_code(kdf) as u64,
+        kind: kind_code(section.kind) as u64,
+        algorithm: header.algorithm.code() as u64,
+        cipher: cipher_code(header.cipher) as u64,
+        kdf: kdf_code(header.kdf) as u64,
         rounds: header.rounds as u64,
         checkint: section.checkint as u64,
         padding: section.padding as u64,
-        form: form_code(form),
-        blob: place_of(header.blob),
-        point: place_of(public.point),
-        scalar: place_of(private.scalar),
-        comment: place_of(section.comment),
-        salt: place_of(header.salt),
-        ciphertext: place_of(section.ciphertext),
-        tag: place_of(section.tag),
+        form: u64::from(form),
+        blob: header.blob.into(),
+        point: public.point.into(),
+        scalar: private.scalar.into(),
+        comment: section.comment.into(),
+        salt: header.salt.into(),
+        ciphertext: section.ciphertext.into(),
+        tag: section.tag.into(),
         section: header.section as u64,
         bits: public.bits as u64,
-        modulus: place_of(public.modulus),
-        exponent: place_of(public.exponent),
-        d: place_of(private.d),
-        iqmp: place_of(private.iqmp),
-        p: place_of(private.p),
-        q: place_of(private.q),
+        modulus: public.modulus.into(),
+        exponent: public.exponent.into(),
+        d: private.d.into(),
+        iqmp: private.iqmp.into(),
+        p: private.p.into(),
+        q: private.q.into(),
         keys: header.count as u64,
     }
 }
 
 // What a read with the form answered, in numbers.
-pub fn image_of(read: FormRead) -> Image
+#[tactic(auto, unfolding(crate::specs::Numbers::image_of))]
+pub fn image_of(read: Result<(Fields, bool), Fault>) -> Image
     ensures { result ≡ image_of read }
 {
     match read {
-        FormRead::Refused(f) => refused_image(f),
-        FormRead::Record(fields, form) => accepted_image(fields, form),
+        Ok((fields, form)) => accepted_image(fields, form),
+        Err(f) => refused_image(f),
     }
 }
 
@@ -194,49 +188,33 @@ pub fn image_of(read: FormRead) -> Image
 pub fn half_image(h: Header) -> Image
     ensures { result ≡ half_image h }
 {
-    let none = nowhere();
     let key = h.public;
-    let algorithm = h.algorithm;
-    let cipher = h.cipher;
-    let kdf = h.kdf;
     Image {
-        number: 0,
-        count: 0,
-        at: 0,
         kind: 3,
-        algorithm: algorithm.code() as u64,
-        cipher: cipher_code(cipher) as u64,
-        kdf: kdf_code(kdf) as u64,
+        algorithm: h.algorithm.code() as u64,
+        cipher: cipher_code(h.cipher) as u64,
+        kdf: kdf_code(h.kdf) as u64,
         rounds: h.rounds as u64,
-        checkint: 0,
-        padding: 0,
-        form: 0,
-        blob: place_of(h.blob),
-        point: place_of(key.point),
-        scalar: none,
-        comment: none,
-        salt: place_of(h.salt),
-        ciphertext: none,
-        tag: none,
+        blob: h.blob.into(),
+        point: key.point.into(),
+        salt: h.salt.into(),
         section: h.section as u64,
         bits: key.bits as u64,
-        modulus: place_of(key.modulus),
-        exponent: place_of(key.exponent),
-        d: none,
-        iqmp: none,
-        p: none,
-        q: none,
+        modulus: key.modulus.into(),
+        exponent: key.exponent.into(),
         keys: h.count as u64,
+        ..Image::NOTHING
     }
 }
 
 // What a header read answered, in numbers.
-pub fn header_of(read: HeaderRead) -> Image
+#[tactic(auto, unfolding(crate::specs::Numbers::header_of))]
+pub fn header_of(read: Result<Header, Fault>) -> Image
     ensures { result ≡ header_of read }
 {
     match read {
-        HeaderRead::Refused(f) => refused_image(f),
-        HeaderRead::Header(h) => half_image(h),
+        Ok(h) => half_image(h),
+        Err(f) => refused_image(f),
     }
 }
 
@@ -244,24 +222,22 @@ pub fn header_of(read: HeaderRead) -> Image
 pub fn refused_key(f: Fault) -> Key
     ensures { result ≡ refused_key f }
 {
-    let why = f.why;
-    let zero = nowhere();
     Key {
-        number: why.number() as u64,
-        count: why.count() as u64,
+        number: f.why.number() as u64,
+        count: f.why.count() as u64,
         at: f.at as u64,
         algorithm: 0,
         bits: 0,
-        blob: zero,
-        point: zero,
-        scalar: zero,
-        comment: zero,
-        modulus: zero,
-        exponent: zero,
-        d: zero,
-        iqmp: zero,
-        p: zero,
-        q: zero,
+        blob: Place::ABSENT,
+        point: Place::ABSENT,
+        scalar: Place::ABSENT,
+        comment: Place::ABSENT,
+        modulus: Place::ABSENT,
+        exponent: Place::ABSENT,
+        d: Place::ABSENT,
+        iqmp: Place::ABSENT,
+        p: Place::ABSENT,
+        q: Place::ABSENT,
     }
 }
 
@@ -270,35 +246,32 @@ fn accepted_key(f: KeyFields) -> Key
 {
     let public = f.public;
     let pair = f.private;
-    let algorithm = f.algorithm;
     Key {
         number: 0,
         count: 0,
         at: 0,
-        algorithm: algorithm.code() as u64,
+        algorithm: f.algorithm.code() as u64,
         bits: public.bits as u64,
-        blob: place_of(f.blob),
-        point: place_of(public.point),
-        scalar: place_of(pair.scalar),
-        comment: place_of(f.comment),
-        modulus: place_of(public.modulus),
-        exponent: place_of(public.exponent),
-        d: place_of(pair.d),
-        iqmp: place_of(pair.iqmp),
-        p: place_of(pair.p),
-        q: place_of(pair.q),
+        blob: f.blob.into(),
+        point: public.point.into(),
+        scalar: pair.scalar.into(),
+        comment: f.comment.into(),
+        modulus: public.modulus.into(),
+        exponent: public.exponent.into(),
+        d: pair.d.into(),
+        iqmp: pair.iqmp.into(),
+        p: pair.p.into(),
+        q: pair.q.into(),
     }
 }
 
 // What was found of a key by its number.
-pub fn looked_key(found: Looked) -> Key
+#[tactic(auto, unfolding(crate::specs::Numbers::looked_key))]
+pub fn looked_key(found: Option<KeyFields>) -> Key
     ensures { result ≡ looked_key found }
 {
     match found {
-        Looked::Nothing => refused_key(Fault {
-            why: Refusal::Length,
-            at: 0,
-        }),
-        Looked::Key(f) => accepted_key(f),
+        Some(key) => accepted_key(key),
+        None => refused_key(Refusal::Length.at(0)),
     }
 }

@@ -3,8 +3,7 @@
 use Rattle.std.specs.Prelude.{ℕ, ◌≡◌, List}
 use Rattle.std.proofs.Common.{◌∙◌, ap}
 use Rattle.fields.specs.declared.Refusal.TheVariants.{AlgorithmUnknown}
-use Rattle.writer_reply.specs.declared.Written.{Written}
-use Rattle.writer_reply.specs.Reply.{refused, Answers, told}
+use Rattle.writer_reply.specs.Reply.{refused, Answers, told, Written}
 use Rattle.c_reply.specs.declared.Reply.{Reply}
 
 unfoldable pub reply_of : Written → Reply

@@ -4,7 +4,7 @@
 ghost use Rattle.std.specs.Prelude.{◌≡◌};
 ghost use Rattle.c_reply.specs.Replies.{names_nothing, reply_of};
 
-use fields::Refusal;
+use fields::{Fault, Refusal};
 use writer_reply::Written;
 
 #[repr(C)]
@@ -17,26 +17,23 @@ pub struct Reply {
 }
 
 // What a writer answered, in numbers.
+#[tactic(auto, unfolding(crate::specs::Replies::reply_of, writer_reply::specs::Reply::told))]
 pub fn reply_of(written: Written) -> Reply
     ensures { result ≡ reply_of written }
 {
     match written {
-        Written::Length(n) => Reply {
+        Ok(length) => Reply {
             number: 0,
             count: 0,
             at: 0,
-            length: n as u64,
+            length: length as u64,
         },
-        Written::Refused(f) => {
-            let why = f.why;
-            let at = f.at;
-            Reply {
-                number: why.number() as u64,
-                count: why.count() as u64,
-                at: at as u64,
-                length: 0,
-            }
-        }
+        Err(Fault { why, at }) => Reply {
+            number: why.number() as u64,
+            count: why.count() as u64,
+            at: at as u64,
+            length: 0,
+        },
     }
 }
 

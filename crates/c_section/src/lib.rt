@@ -4,18 +4,15 @@
 ghost use Rattle.std.specs.Prelude.{◌≡◌};
 ghost use Rattle.c_section.specs.Sections.{forged_half, section_c};
 
-use c_handed::{Half, half_of};
+use c_handed::half_of;
 use c_numbers::{Image, image_of};
-use fields::{Fault, Refusal};
-use reader_image::FormRead;
+use fields::Refusal;
 
+#[tactic(auto, unfolding(c_numbers::specs::Numbers::image_of))]
 fn forged_half() -> Image
     ensures { result ≡ forged_half }
 {
-    image_of(FormRead::Refused(Fault {
-        why: Refusal::Length,
-        at: 0,
-    }))
+    image_of(Err(Refusal::Length.at(0)))
 }
 
 // The section that goes on from a header, with all that a full read answers.
@@ -23,7 +20,7 @@ pub fn saltorchard_read_section(image: &[u8], header: Image) -> Image
     ensures { result ≡ section_c image.now header }
 {
     match half_of(header) {
-        Half::Forged => forged_half(),
-        Half::Header(h) => image_of(reader_image::read_section_with_form(image, h)),
+        Some(half) => image_of(reader_image::read_section_with_form(image, half)),
+        None => forged_half(),
     }
 }

@@ -9,11 +9,11 @@ ghost use Rattle.c_reply.specs.Replies.{AnswersC};
 ghost use Rattle.c_settings.specs.Settings.{setting_of};
 
 use c_reply::{Reply, reply_of};
-use setting_record::Answer;
+use fields::Refusal;
 
 // A setting in plain numbers. Refused or empty, all after `number` is 0.
 #[repr(C)]
-#[derive(Clone, Copy)]
+#[derive(Clone, Copy, Debug, PartialEq, Eq)]
 pub struct Setting {
     pub number: u64,
     pub used: u64,
@@ -21,31 +21,27 @@ pub struct Setting {
     pub milliseconds: u64,
 }
 
-fn setting_of(answer: Answer) -> Setting
+#[tactic(auto, unfolding(crate::specs::Settings::setting_of, setting_record::specs::Bits::told_setting))]
+fn setting_of(answer: Result<Option<setting_record::Setting>, Refusal>) -> Setting
     ensures { result ≡ setting_of answer }
 {
+    let nothing = Setting {
+        number: 0,
+        used: 0,
+        kind: 0,
+        milliseconds: 0,
+    };
     match answer {
-        Answer::Setting(s) => {
-            let kind = s.kind;
-            let milliseconds = s.milliseconds;
-            Setting {
-                number: 0,
-                used: 1,
-                kind: kind as u64,
-                milliseconds: milliseconds,
-            }
-        }
-        Answer::Empty => Setting {
-            number: 0,
-            used: 0,
-            kind: 0,
-            milliseconds: 0,
+        Ok(Some(s)) => Setting {
+            used: 1,
+            kind: s.kind as u64,
+            milliseconds: s.milliseconds,
+            ..nothing
         },
-        Answer::Refused(why) => Setting {
+        Ok(None) => nothing,
+        Err(why) => Setting {
             number: why.number() as u64,
-            used: 0,
-            kind: 0,
-            milliseconds: 0,
+            ..nothing
         },
     }
 }
@@ -58,6 +54,7 @@ pub fn saltorchard_read_setting(bytes: &[u8]) -> Setting
 }
 
 // A record, into four lent bytes.
+#[tactic(auto, using(c_reply::specs::Replies::handed_on))]
 pub fn saltorchard_write_setting(
     version: u8,
     kind: u8,
@@ -77,6 +74,7 @@ pub fn saltorchard_store_get(store: &[u8], device: u64) -> Setting
 }
 
 // A device's record, into its place.
+#[tactic(auto, using(c_reply::specs::Replies::handed_on))]
 pub fn saltorchard_store_put(
     store: &mut [u8],
     device: u64,
@@ -90,6 +88,7 @@ pub fn saltorchard_store_put(
 }
 
 // A store, moved to version 2.
+#[tactic(auto, using(c_reply::specs::Replies::handed_on))]
 pub fn saltorchard_store_move(store: &mut [u8]) -> Reply
     ensures { AnswersC (move_reply store.old) (move_left store.old) result store.new }
 {

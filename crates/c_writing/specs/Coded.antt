@@ -1,27 +1,25 @@
 -- docs/RULES.md, 15.2: what the writers for C reply and leave. A code that names nothing is 4, before all else. RSA has a writer of its own, so to the
 -- other plain writer its code names nothing.
-use Rattle.std.specs.Prelude.{ℕ, ◌≡◌, cond, List, eqb}
+use Rattle.std.specs.Prelude.{ℕ, ◌≡◌, cond, List, eqb, Option, Some, None}
 use Rattle.fields.specs.Place.{by_bool}
 use Rattle.names.specs.declared.Algorithm.TheVariants.{Elliptic as OnCurve}
 use Rattle.names_codes.specs.Codes.{algorithm_coded, cipher_coded, kdf_coded}
 use Rattle.format.specs.Format.{of_point, of_scalar}
 use Rattle.key_public.specs.Keys.{on_algorithm_name, on_algorithm}
-use Rattle.key_material.specs.declared.Checkint.{Checkint}
-use Rattle.key_material.specs.declared.Checkint.TheVariants.{Given, Derived}
 use Rattle.key_material.specs.Material.{derived_checkint, checkint_of}
 use Rattle.reader_header.specs.Header.{on_cipher_name, on_kdf_name}
-use Rattle.writer_reply.specs.declared.Written.{Written}
 use Rattle.writer_plain.specs.Plain.{plain_reply, plain_left}
 use Rattle.writer_encrypted.specs.Encrypted.{encrypted_reply, encrypted_left}
 use Rattle.c_reply.specs.Replies.{names_nothing}
+use Rattle.writer_reply.specs.Reply.{Written}
 
 -- derive 0: the given checkint
 abbrev pub checkint_for : ℕ → ℕ → List ℕ → ℕ
 checkint_for derive given private = cond (eqb derive 0) given (derived_checkint private)
 
 -- the same of several keys, where the first one's private bytes are found later
-abbrev pub given_for : ℕ → ℕ → Checkint
-given_for derive given = cond (eqb derive 0) (Given given) Derived
+abbrev pub given_for : ℕ → ℕ → Option ℕ
+given_for derive given = cond (eqb derive 0) (Some given) None
 
 unfoldable pub coded_plain_reply : ℕ → List ℕ → List ℕ → ℕ → List ℕ → ℕ → Written
 coded_plain_reply code public private checkint comment room =

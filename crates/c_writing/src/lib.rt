@@ -10,29 +10,24 @@ ghost use Rattle.c_reply.specs.Replies.{AnswersC};
 ghost use Rattle.c_writing.specs.Coded.{checkint_for, given_for, coded_plain_reply, coded_plain_left, coded_encrypted_reply, coded_encrypted_left};
 
 use c_reply::{Reply, names_nothing, reply_of};
-use key_material::Checkint;
-use names::{Algorithm, AlgorithmName, CipherName, KdfName};
+use names::Algorithm;
 use names_codes::{algorithm_coded, cipher_coded, kdf_coded};
+
+// The given checkint, unless one is to be derived.
+fn given_checkint(derive: u8, given: u32) -> Option<u32>
+    ensures { result ≡ given_for derive given }
+{
+    (derive == 0).then_some(given)
+}
 
 fn checkint_of(derive: u8, given: u32, private: &[u8]) -> u32
     ensures { result ≡ checkint_for derive given private.now }
 {
-    if derive == 0 {
-        return given;
-    }
-    key_material::derived_checkint(private)
-}
-
-fn given_checkint(derive: u8, given: u32) -> Checkint
-    ensures { result ≡ given_for derive given }
-{
-    if derive == 0 {
-        return Checkint::Given(given);
-    }
-    Checkint::Derived
+    given_checkint(derive, given).unwrap_or_else(|| key_material::derived_checkint(private))
 }
 
 // Keys on a curve. RSA has a writer of its own, and its code names nothing here.
+#[tactic(auto, unfolding(crate::specs::Coded::coded_plain_reply, crate::specs::Coded::coded_plain_left))]
 pub fn saltorchard_write_plain(
     algorithm: u8,
     public: &[u8],
@@ -45,18 +40,15 @@ pub fn saltorchard_write_plain(
     ensures { AnswersC (coded_plain_reply algorithm public.now private.now (checkint_for derive checkint private.now) comment.now (length out.old)) (coded_plain_left algorithm public.now private.now (checkint_for derive checkint private.now) comment.now out.old) result out.new }
 {
     match algorithm_coded(algorithm) {
-        AlgorithmName::Unknown => names_nothing(),
-        AlgorithmName::Known(a) => match a {
-            Algorithm::Rsa => names_nothing(),
-            Algorithm::Elliptic(e) => reply_of(writer_plain::write_parts(
-                e,
-                public,
-                private,
-                checkint_of(derive, checkint, private),
-                comment,
-                out,
-            )),
-        },
+        Some(Algorithm::Elliptic(e)) => reply_of(writer_plain::write_parts(
+            e,
+            public,
+            private,
+            checkint_of(derive, checkint, private),
+            comment,
+            out,
+        )),
+        Some(Algorithm::Rsa) | None => names_nothing(),
     }
 }
 
@@ -89,6 +81,7 @@ pub fn saltorchard_write_rsa(
 
 // 1 to 16 keys of any kind, 19 numbers each: the algorithm's code, then start and length within the bytes of
 // public, private, comment, n, e, d, iqmp, p and q.
+#[tactic(auto, using(crate::specs::Coded::given_checkint))]
 pub fn saltorchard_write_keys(
     keys: &[usize],
     bytes: &[u8],
@@ -101,6 +94,7 @@ pub fn saltorchard_write_keys(
     reply_of(writer_keys::write_keys(bytes, keys, given_checkint(derive, checkint), out))
 }
 
+#[tactic(auto, unfolding(crate::specs::Coded::coded_encrypted_reply, crate::specs::Coded::coded_encrypted_left))]
 pub fn saltorchard_write_encrypted(
     cipher: u8,
     kdf: u8,
@@ -113,15 +107,8 @@ pub fn saltorchard_write_encrypted(
 ) -> Reply
     ensures { AnswersC (coded_encrypted_reply cipher kdf salt.now rounds blob.now ciphertext.now tag.now (length out.old)) (coded_encrypted_left cipher kdf salt.now rounds blob.now ciphertext.now tag.now out.old) result out.new }
 {
-    match cipher_coded(cipher) {
-        CipherName::Unknown => names_nothing(),
-        CipherName::Known(c) => match kdf_coded(kdf) {
-            KdfName::Unknown => names_nothing(),
-            KdfName::Known(k) => {
-                reply_of(writer_encrypted::write_encrypted(
-                    c, k, salt, rounds, blob, ciphertext, tag, out,
-                ))
-            }
-        },
-    }
+    let (Some(c), Some(k)) = (cipher_coded(cipher), kdf_coded(kdf)) else {
+        return names_nothing();
+    };
+    reply_of(writer_encrypted::write_encrypted(c, k, salt, rounds, blob, ciphertext, tag, out))
 }

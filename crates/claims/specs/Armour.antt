@@ -2,16 +2,14 @@
 -- Import after export gives the bytes back; export after import gives the text back with LF ends. Import answers a length exactly where there
 -- is room for the bytes and the text is export's of some bytes within the limit with some of its line feeds made CR LF, and 2 exactly for what
 -- is no such text of any bytes, however many. So a text that carries more than the limit and is misspelled after it is 2.
-use Rattle.std.specs.Prelude.{ℕ, ◌+◌, ◌≤◌, ◌<◌, ◌≡◌, refl, true, false, List, leb, length, take, drop}
+use Rattle.std.specs.Prelude.{ℕ, ◌+◌, ◌≤◌, ◌<◌, ◌≡◌, refl, true, false, List, leb, length, take, drop, Ok}
 use Rattle.std.proofs.Common.{arith, sym, ◌∙◌, ap, le-leb, leb-true}
 use Rattle.std.proofs.lemmas.Bool.{lt-leb}
 use Rattle.fields.specs.Bytes.{AllBytes}
 use Rattle.fields.specs.Place.{clash, by_bool}
 use Rattle.fields.specs.declared.Refusal.TheVariants.{FormatEncoding, Size, Room}
 use Rattle.buffer.specs.Puts.{splice-length, take-splice, drop-splice}
-use Rattle.writer_reply.specs.declared.Written.{Written}
-use Rattle.writer_reply.specs.declared.Written.TheVariants as written
-use Rattle.writer_reply.specs.Reply.{told, refused, sized, left, Answers}
+use Rattle.writer_reply.specs.Reply.{told, refused, sized, left, Answers, Written}
 use Rattle.armour_text.specs.Text.{text, export_reply, export_left}
 use Rattle.armour_text.specs.Import.{strip, carried, carries, import_reply, import_left}
 use Rattle.armour_text.specs.Ends.{CrLf, has_no_return}
@@ -30,13 +28,13 @@ Spells t b = AllBytes b × CrLf (text b) t
 
 -- the length is that of `new`, which stands at the buffer's start; the bytes past it stay
 pub record Holds (new old : List ℕ) (r : Written) (out : List ℕ) : Type 0 where
-  pub answered : r ≡ written.Length (length new)
+  pub answered : r ≡ Ok (length new)
   pub begins : take (length new) out ≡ new
   pub past : drop (length new) out ≡ drop (length new) old
   pub as_long : length out ≡ length old
 
 holds :
-    (new old : List ℕ) (w r : Written) (out : List ℕ) → w ≡ written.Length (length new) → length new ≤ length old → Answers w (left w new old) r out
+    (new old : List ℕ) (w r : Written) (out : List ℕ) → w ≡ Ok (length new) → length new ≤ length old → Answers w (left w new old) r out
     → Holds new old r out
 holds new old w r out e room p =
     let fit : 0 + length new ≤ length old = omega arith in
@@ -51,11 +49,11 @@ holds new old w r out e room p =
 
 -- ---- export
 
-export_fits : (b : List ℕ) (room : ℕ) → length b ≤ 65535 → length (text b) ≤ room → export_reply b room ≡ written.Length (length (text b))
+export_fits : (b : List ℕ) (room : ℕ) → length b ≤ 65535 → length (text b) ≤ room → export_reply b room ≡ Ok (length (text b))
 unfolding export_reply
 export_fits b room small fit = rw (le-leb _ _ small, le-leb _ _ fit)
 
-export_held : (b : List ℕ) (room n : ℕ) → export_reply b room ≡ written.Length n → (length b ≤ 65535) × (length (text b) ≤ room)
+export_held : (b : List ℕ) (room n : ℕ) → export_reply b room ≡ Ok n → (length b ≤ 65535) × (length (text b) ≤ room)
 unfolding export_reply
 export_held b room n e =
     let h₁ = held (leb (length b) 65535) Size _ n e in
@@ -112,16 +110,16 @@ pub record Taken (t old : List ℕ) (n : ℕ) (out : List ℕ) : Type 0 where
   pub size : n ≡ length bytes
   pub begins : take n out ≡ bytes
 
-pub imported_only : (t old : List ℕ) (n : ℕ) (out : List ℕ) → Promise (import t) old (written.Length n) out → Taken t old n out
+pub imported_only : (t old : List ℕ) (n : ℕ) (out : List ℕ) → Promise (import t) old (Ok n) out → Taken t old n out
 imported_only t old n out p =
     by_bool (carries t)
     (λ e.
     let s = carries_spells t e in
     let b = carried t in
     let h = sized_held b (length old) n (sym (spelled t b (length old) s) ∙ sym p.0) in
-    let there = imported t b old (written.Length n) out s h.0 h.1 p in
+    let there = imported t b old (Ok n) out s h.0 h.1 p in
     record { bytes = b; spells = s; small = h.0; room = h.1; size = h.2; begins = rw h.2 there.begins })
-    (λ e. clash (let o : written.Length n ≡ refused FormatEncoding = p.0 ∙ misspelled t (length old) e in cc))
+    (λ e. clash (let o : Ok n ≡ refused FormatEncoding = p.0 ∙ misspelled t (length old) e in cc))
 
 -- 2 is for all that spells no bytes, however many, and for nothing else
 pub no_text : (t old : List ℕ) (r : Written) (out : List ℕ) → ((b : List ℕ) → Spells t b → ⊥) → Promise (import t) old r out → r ≡ refused FormatEncoding
@@ -160,18 +158,18 @@ one_spelling t b n s = sym (crlf_strip n (crlf_same t)) ∙ one_text t b s
 
 -- import of the bytes that export wrote
 pub import_after_export :
-    (b old : List ℕ) (n : ℕ) (out : List ℕ) → AllBytes b → Promise (export b) old (written.Length n) out
+    (b old : List ℕ) (n : ℕ) (out : List ℕ) → AllBytes b → Promise (export b) old (Ok n) out
     → (into : List ℕ) (r : Written) (after : List ℕ) → length b ≤ length into → Promise (import (take n out)) into r after → Holds b into r after
 import_after_export b old n out all p into r after fit q =
     let h = export_held b (length old) n (sym p.0) in
-    let there = exported b old (written.Length n) out h.0 h.1 p in
-    let size : n ≡ length (text b) = let o : written.Length n ≡ written.Length (length (text b)) = there.answered in cc in
+    let there = exported b old (Ok n) out h.0 h.1 p in
+    let size : n ≡ length (text b) = let o : Ok n ≡ Ok (length (text b)) = there.answered in cc in
     let is : take n out ≡ text b = rw size there.begins in
     imported (text b) b into r after (all, itself b all) h.0 fit (rw is at q)
 
 -- export of the bytes that import wrote
 pub export_after_import :
-    (t old : List ℕ) (n : ℕ) (out : List ℕ) → Promise (import t) old (written.Length n) out
+    (t old : List ℕ) (n : ℕ) (out : List ℕ) → Promise (import t) old (Ok n) out
     → (into : List ℕ) (r : Written) (after : List ℕ) → length (strip t) ≤ length into → Promise (export (take n out)) into r after → Holds (strip t) into r after
 export_after_import t old n out p into r after fit q =
     let h = imported_only t old n out p in

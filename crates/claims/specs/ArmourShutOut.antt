@@ -1,16 +1,14 @@
 -- What the promises of export and import shut out, as ShutOut does for the writers: no program that meets its promise refuses everything,
 -- replies the same always or stores nothing; and no import refuses a text with 11 once its lines carry more than the limit, without a look
 -- at the rest. A program here is any function of what it is given, which is bytes and a buffer of bytes; of anything else nothing is asked.
-use Rattle.std.specs.Prelude.{ℕ, zero, suc, ◌<◌, ◌≡◌, refl, Bool, true, false, cond, List, [], ◌∷◌, ◌++◌, eqb, length, take, get_or, replicate}
+use Rattle.std.specs.Prelude.{ℕ, zero, suc, ◌<◌, ◌≡◌, refl, Bool, true, false, cond, List, [], ◌∷◌, ◌++◌, eqb, length, take, get_or, replicate, Ok, Err}
 use Rattle.std.proofs.Common.{arith, sym, ◌∙◌, ap, append_assoc}
 use Rattle.std.proofs.lemmas.List.{length-replicate}
 use Rattle.fields.specs.Bytes.{AllBytes}
 use Rattle.fields.specs.Place.{clash}
 use Rattle.fields.specs.declared.Fault.{Fault}
 use Rattle.fields.specs.declared.Refusal.TheVariants.{FormatEncoding}
-use Rattle.writer_reply.specs.declared.Written.{Written}
-use Rattle.writer_reply.specs.declared.Written.TheVariants as written
-use Rattle.writer_reply.specs.Reply.{told, refused}
+use Rattle.writer_reply.specs.Reply.{told, refused, Written}
 use Rattle.armour_signs.specs.Alphabet.{signs, sign_of}
 use Rattle.armour_text.specs.Base64.{pad, bits_of_bytes, signs_of_bits, encode}
 use Rattle.armour_text.specs.Text.{opening, closing, wrap, text}
@@ -82,7 +80,7 @@ abbrev pub Meets : (List ℕ → Entry) → Program → Type 0
 Meets entry w = (s old : List ℕ) → AllBytes s → AllBytes old → Promise (entry s) old (w.reply s old) (w.leaves s old)
 
 pub record Shut (w : Program) : Type 0 where
-  pub refuses_all : ((s old : List ℕ) → AllBytes s → AllBytes old → (g : Fault) × (w.reply s old ≡ written.Refused g)) → ⊥
+  pub refuses_all : ((s old : List ℕ) → AllBytes s → AllBytes old → (g : Fault) × (w.reply s old ≡ Err g)) → ⊥
   pub replies_same : (r : Written) → ((s old : List ℕ) → AllBytes s → AllBytes old → w.reply s old ≡ r) → ⊥
   pub stores_nothing : ((s old : List ℕ) → AllBytes s → AllBytes old → w.leaves s old ≡ old) → ⊥
 
@@ -95,11 +93,11 @@ shut w s t first second old hs ht ho h k unlike other =
       refuses_all =
           λ refuses.
           let r = refuses s old hs ho in
-          let e : written.Refused r.0 ≡ written.Length (length first) = sym r.1 ∙ h.answered in
+          let e : Err r.0 ≡ Ok (length first) = sym r.1 ∙ h.answered in
           clash cc;
       replies_same =
           λ r same.
-          let e : written.Length (length first) ≡ written.Length (length second) = sym h.answered ∙ same s old hs ho ∙ sym (same t old ht ho) ∙ k.answered in
+          let e : Ok (length first) ≡ Ok (length second) = sym h.answered ∙ same s old hs ho ∙ sym (same t old ht ho) ∙ k.answered in
           let o : length first ≡ length second = cc in
           unlike o;
       stores_nothing = λ stays. other (ap (take (length second)) (sym (stays t old ht ho)) ∙ k.begins);

@@ -1,7 +1,7 @@
 -- docs/RULES.md, 16.3, the third demand, of one edit: the comment of key k changed, key k removed, a key added. It leaves what the writer, given the keys then
 -- in the file and the image's own checkint, leaves; old bytes past the new end become zero; what lies past both ends stays; a refused edit
 -- leaves every byte.
-use Rattle.std.specs.Prelude.{ℕ, ◌+◌, ◌-◌, ◌≤◌, ◌≡◌, refl, true, List, ◌++◌, map, leb, length, take, drop}
+use Rattle.std.specs.Prelude.{ℕ, ◌+◌, ◌-◌, ◌≤◌, ◌≡◌, refl, true, List, ◌++◌, map, leb, length, take, drop, Result, Ok, Err}
 use Rattle.std.proofs.Common.{arith, sym, ◌∙◌, ap, take_at, drop_at, drop-drop}
 use Rattle.fields.specs.Bytes.{AllBytes}
 use Rattle.fields.specs.Place.{clash}
@@ -9,31 +9,27 @@ use Rattle.fields.specs.declared.Fault.{Fault}
 use Rattle.format.specs.Format.{Key, filled_key, written_image}
 use Rattle.reader_section.specs.declared.Kind.TheVariants.{Plain}
 use Rattle.reader_image.specs.declared.Fields.{Fields}
-use Rattle.reader_image.specs.declared.ImageRead.TheVariants as read
 use Rattle.reader_image.specs.Container.{keys_in, read_at}
 use Rattle.reader_image.specs.Form.{form_of}
 use Rattle.buffer.specs.Puts.{take-splice, zeros, zeros-length}
-use Rattle.writer_reply.specs.declared.Written.TheVariants as written
 use Rattle.writer_plain.specs.Plain.{keys_reply, keys_left}
 use Rattle.edit_shells.specs.Sequence.{Holds, further}
 use Rattle.edit_shells.proofs.Sequence.{holds_image}
-use Rattle.edit_file.specs.declared.Editable.{Editable}
-use Rattle.edit_file.specs.declared.Editable.TheVariants as editable
 use Rattle.edit_file.specs.Edits.{record_editable, editable_at, file_keys}
 use Rattle.laws_edits.specs.Steps.{Edit, made, reply, leaves, not_editable, refused_left, accepted_afresh, step_holds, first_file, first_holds}
 
 -- an image is read in one way
-pub one_record : (s : List ℕ) (f g : Fields) → read_at s ≡ read.Record f → read_at s ≡ read.Record g → f ≡ g
-one_record s f g e w = let o : read.Record f ≡ read.Record g = sym e ∙ w in cc
+pub one_record : (s : List ℕ) (f g : Fields) → read_at s ≡ Ok f → read_at s ≡ Ok g → f ≡ g
+one_record s f g e w = let o : Ok f ≡ Ok g = sym e ∙ w in cc
 
-pub by_editable : {P : Type 0} (w : Editable) → ((g : Fault) → w ≡ editable.Refused g → P) → ((f : Fields) → w ≡ editable.Image f → P) → P
-by_editable (editable.Refused g) refused image = refused g refl
-by_editable (editable.Image f) refused image = image f refl
+pub by_editable : {P : Type 0} (w : Result Fields Fault) → ((g : Fault) → w ≡ Err g → P) → ((f : Fields) → w ≡ Ok f → P) → P
+by_editable (Err g) refused image = refused g refl
+by_editable (Ok f) refused image = image f refl
 
 -- an accepted image that is plain and in the form
 pub may_edit :
-    (old : List ℕ) (n : ℕ) (f : Fields) → leb n 65535 ≡ true → leb n (length old) ≡ true → read_at (take n old) ≡ read.Record f → f.section.kind ≡ Plain
-    → form_of (take n old) f ≡ true → editable_at old n ≡ editable.Image f
+    (old : List ℕ) (n : ℕ) (f : Fields) → leb n 65535 ≡ true → leb n (length old) ≡ true → read_at (take n old) ≡ Ok f → f.section.kind ≡ Plain
+    → form_of (take n old) f ≡ true → editable_at old n ≡ Ok f
 unfolding editable_at record_editable
 may_edit old n f small inside e plain form = rw (small, inside, e, form, plain)
 
@@ -41,9 +37,9 @@ may_edit old n f small inside e plain form = rw (small, inside, e, form, plain)
 pub record Changed (e : Edit) (old : List ℕ) (n m : ℕ) : Type 0 where
   -- a plain image in the form
   pub fields : Fields
-  pub may_edit : editable_at old n ≡ editable.Image fields
+  pub may_edit : editable_at old n ≡ Ok fields
   -- the writer takes the keys then in the file, and the first m bytes are those that it leaves: their image
-  pub by_writer : keys_reply (made e (file_keys (take n old) fields)) fields.section.checkint (length old) ≡ written.Length m
+  pub by_writer : keys_reply (made e (file_keys (take n old) fields)) fields.section.checkint (length old) ≡ Ok m
   pub image : take m (leaves e old n) ≡ written_image fields.section.checkint (made e (file_keys (take n old) fields))
   pub written_afresh : take m (leaves e old n) ≡ take m (keys_left (made e (file_keys (take n old) fields)) fields.section.checkint old)
   -- old bytes past the new end are zero
@@ -73,7 +69,7 @@ held_out c old keys n m out h =
 
 -- the writer's first bytes are the image
 pub writer_leaves :
-    (keys : List Key) (c : ℕ) (old : List ℕ) (m : ℕ) → keys_reply keys c (length old) ≡ written.Length m → m ≡ length (written_image c keys)
+    (keys : List Key) (c : ℕ) (old : List ℕ) (m : ℕ) → keys_reply keys c (length old) ≡ Ok m → m ≡ length (written_image c keys)
     → length (written_image c keys) ≤ length old → take m (keys_left keys c old) ≡ written_image c keys
 unfolding keys_left
 writer_leaves keys c old m e size fits =
@@ -82,11 +78,11 @@ writer_leaves keys c old m e size fits =
     let end : m ≡ 0 + length image = omega (arith, size) in
     rw (e, end) (take-splice old 0 image fit)
 
-pub change_changes : (e : Edit) (old : List ℕ) → AllBytes old → (n m : ℕ) → reply e old n ≡ written.Length m → Changed e old n m
+pub change_changes : (e : Edit) (old : List ℕ) → AllBytes old → (n m : ℕ) → reply e old n ≡ Ok m → Changed e old n m
 unfolding file_keys
 change_changes e old all n m a =
     by_editable (editable_at old n)
-    (λ g w. clash (let o : written.Refused g ≡ written.Length m = sym (not_editable e old n g w).0 ∙ a in cc))
+    (λ g w. clash (let o : Err g ≡ Ok m = sym (not_editable e old n g w).0 ∙ a in cc))
     (λ f w.
     let c = f.section.checkint in
     let keys = made e (map filled_key (keys_in (take n old) f)) in
@@ -105,7 +101,7 @@ change_changes e old all n m a =
     })
 
 -- a refused edit leaves every byte
-pub refused_stays : (e : Edit) (old : List ℕ) (n : ℕ) (g : Fault) → reply e old n ≡ written.Refused g → leaves e old n ≡ old
+pub refused_stays : (e : Edit) (old : List ℕ) (n : ℕ) (g : Fault) → reply e old n ≡ Err g → leaves e old n ≡ old
 refused_stays e old n g a =
     by_editable (editable_at old n)
     (λ h w. (not_editable e old n h w).1)

@@ -3,7 +3,7 @@
 -- meets the contract of a change then accepts it, answers that length and leaves that image; all before the length field of key k's comment
 -- stays, but the four bytes of the section's length; zeros stand from the new end to the old one; bytes past both ends stay. That the premises
 -- can be met: `asked` (ShutOut), of a written image of keys of any kinds, and `relettered` there, of one.
-use Rattle.std.specs.Prelude.{ℕ, ◌+◌, ◌-◌, ◌≤◌, ◌≡◌, refl, true, take, drop}
+use Rattle.std.specs.Prelude.{ℕ, ◌+◌, ◌-◌, ◌≤◌, ◌≡◌, refl, true, take, drop, Ok}
 use Rattle.std.proofs.Common.{arith, ◌∙◌, length-append, length-take-le, take_at, drop_at}
 use Rattle.std.proofs.Math.Path.{sym, ap}
 use mathlib.Core.List.{List, [], ◌∷◌, ◌++◌, append_assoc, map}
@@ -18,15 +18,12 @@ use Rattle.format.specs.Scalars.{written_filled}
 use Rattle.reader_entries.specs.declared.KeyFields.{KeyFields}
 use Rattle.reader_section.specs.declared.Kind.TheVariants.{Plain}
 use Rattle.reader_image.specs.declared.Fields.{Fields}
-use Rattle.reader_image.specs.declared.ImageRead.TheVariants as read
 use Rattle.reader_image.specs.Container.{keys_in, read_at}
 use Rattle.reader_image.specs.Form.{form_of}
 use Rattle.reader_image.specs.Read.{KeysText}
 use Rattle.reader_image.specs.FormLaws.{keys_of}
 use Rattle.buffer.specs.Puts.{zeros}
-use Rattle.writer_reply.specs.declared.Written.{Written}
-use Rattle.writer_reply.specs.declared.Written.TheVariants as written
-use Rattle.writer_reply.specs.Reply.{sized}
+use Rattle.writer_reply.specs.Reply.{sized, Written}
 use Rattle.writer_plain.specs.Plain.{keys_reply, keys_left}
 use Rattle.edit_shells.specs.Shells.{closed, padded, changed_at}
 use Rattle.edit_shells.specs.Keys.{change_at, with_comment, keys_changed, map_change, change_length}
@@ -35,7 +32,6 @@ use Rattle.edit_shells.specs.Edits.{changed_by_places}
 use Rattle.edit_shells.specs.Within.{KeyPlaces}
 use Rattle.edit_shells.proofs.Within.{change_rises, change_there}
 use Rattle.edit_shells.specs.Sequence.{Holds, further}
-use Rattle.edit_file.specs.declared.Editable.TheVariants as editable
 use Rattle.edit_file.specs.Edits.{editable_at, file_keys, comment_field, change_reply, change_left, IsChange}
 use Rattle.edit_file.specs.Stand.{image_written, found, key_places}
 use Rattle.edit_file.specs.Afresh.{all_take, fit_changed, keys_sized, text, some_keys, few_keys, keys_fit}
@@ -45,7 +41,7 @@ use Rattle.claims.specs.Change.{may_edit, held_out, writer_leaves}
 
 -- a plain image in the form and its record: what every edit of it begins with
 pub record Base (s : List ℕ) (f : Fields) : Type 0 where
-  pub was_read : read_at s ≡ read.Record f
+  pub was_read : read_at s ≡ Ok f
   pub plain : f.section.kind ≡ Plain
   pub form : form_of s f ≡ true
 
@@ -73,7 +69,7 @@ module _ (old : List ℕ) (n : ℕ) (f : Fields) (k : ℕ) (comment : List ℕ) 
 
   -- what it asks of the answer r and of the buffer out
   pub record Demanded (r : Written) (out : List ℕ) : Type 0 where
-    pub answered : r ≡ written.Length (length new)
+    pub answered : r ≡ Ok (length new)
     pub image : take (length new) out ≡ new
     -- the writer, lent the same buffer, answers the same and leaves the same image
     pub by_writer :
@@ -149,7 +145,7 @@ module _ (old : List ℕ) (n : ℕ) (f : Fields) (k : ℕ) (comment : List ℕ) 
   image_small : n ≤ 65535
   image_small = omega (arith, accepted_text.fits, length-take-le n old h.inside)
 
-  editable_is : editable_at old n ≡ editable.Image f
+  editable_is : editable_at old n ≡ Ok f
   editable_is =
       may_edit old n f (le-leb n 65535 image_small) (le-leb n (length old) h.inside) h.image.was_read h.image.plain h.image.form
 
@@ -158,7 +154,7 @@ module _ (old : List ℕ) (n : ℕ) (f : Fields) (k : ℕ) (comment : List ℕ) 
   unfolding keys_changed file_keys
   same_keys = sym (map_change filled_key (with_comment comment) (with_comment comment) (λ x. refl) (k - 1) (keys_in s f))
 
-  writer_answers : keys_reply (new_keys old n f k comment) c (length old) ≡ written.Length (length (new old n f k comment))
+  writer_answers : keys_reply (new_keys old n f k comment) c (length old) ≡ Ok (length (new old n f k comment))
   unfolding keys_changed
   writer_answers =
       let keys = keys_in s f in
@@ -171,7 +167,7 @@ module _ (old : List ℕ) (n : ℕ) (f : Fields) (k : ℕ) (comment : List ℕ) 
       ∙ ap (λ (l : List ℕ). sized l (length old)) image
       ∙ sized-fits (new old n f k comment) (length old) h.small h.fits
 
-  accepts : change_reply old n k comment ≡ written.Length (length (new old n f k comment))
+  accepts : change_reply old n k comment ≡ Ok (length (new old n f k comment))
   unfolding change_reply
   accepts = rw (editable_is, le-leb 1 k h.some, le-leb k f.header.count h.there, h.text) writer_answers
 

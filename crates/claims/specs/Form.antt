@@ -1,7 +1,7 @@
 -- docs/RULES.md, 11, and 16.2, the second demand, of the form: write after read gives the image exactly where it is in the form. Of accepted plain images, of one key or
 -- several, those are in the form in which every ECDSA scalar stands as RFC 4251's mpint, so every one of keys that aren't ECDSA's; two things break it, a needless zero
 -- before the scalar of some key, and a missing one. Every accepted encrypted image is in the form.
-use Rattle.std.specs.Prelude.{ℕ, zero, suc, ◌+◌, ◌≤◌, ◌<◌, ◌≡◌, refl, Bool, true, false, ◌&&◌, eqb, get_or}
+use Rattle.std.specs.Prelude.{ℕ, zero, suc, ◌+◌, ◌≤◌, ◌<◌, ◌≡◌, refl, Bool, true, false, ◌&&◌, eqb, get_or, Ok}
 use native.Mathlib.Omega.{arith}
 use Rattle.std.proofs.Common.{sym, ◌∙◌, ap₂, eq-eqb, le-leb, leb-true}
 use Rattle.std.proofs.Math.Path.{ap}
@@ -22,13 +22,11 @@ use Rattle.reader_entries.specs.Entries.{no_key}
 use Rattle.reader_entries.specs.Back.{KeyFits, AllFit}
 use Rattle.reader_section.specs.declared.Kind.TheVariants.{Plain, Encrypted}
 use Rattle.reader_image.specs.declared.Fields.{Fields}
-use Rattle.reader_image.specs.declared.ImageRead.TheVariants as read
 use Rattle.reader_image.specs.Container.{keys_in, read_at}
 use Rattle.reader_image.specs.Form.{rewritten, form_of}
 use Rattle.reader_image.specs.Read.{KeysText, ImageText, plain_text, encrypted_text, image_text}
 use Rattle.reader_image.specs.FormLaws.{form_stands, form_encrypted, keys_of}
 use Rattle.buffer.specs.Puts.{splice, take-splice}
-use Rattle.writer_reply.specs.declared.Written.TheVariants as written
 use Rattle.writer_reply.specs.Reply.{left, sized}
 use Rattle.writer_again.specs.Rewrite.{rewrite_reply, rewrite_left}
 use Rattle.writer_again.specs.Sized.{record_sized, record_left_lem, image_small}
@@ -38,7 +36,7 @@ use Rattle.claims.specs.Reading.{sized_held, sized-fits}
 
 -- every accepted encrypted image is in the form
 pub encrypted_in_form :
-    (s : List ℕ) (all : AllBytes s) (f : Fields) → read_at s ≡ read.Record f → f.section.kind ≡ Encrypted → form_of s f ≡ true
+    (s : List ℕ) (all : AllBytes s) (f : Fields) → read_at s ≡ Ok f → f.section.kind ≡ Encrypted → form_of s f ≡ true
 encrypted_in_form s all f e kind = go (image_text s all f e)
   where
     go : ImageText s all f e → form_of s f ≡ true
@@ -208,7 +206,7 @@ slip_by s f i (OnCurve Ed25519) q zs z may w = absurd (eqb-false 0 (get_or zs i 
 slip_by s f i (OnCurve (Ecdsa k)) q zs z may w = slip_of s f i k q zs z (get_or zs i 0) refl (leading_zero (scalar_in s f i)) refl w
 slip_by s f i Rsa q zs z may w = absurd (eqb-false 0 (get_or zs i 0) w (sym may))
 
-module _ (s : List ℕ) (all : AllBytes s) (f : Fields) (e : read_at s ≡ read.Record f) (plain : f.section.kind ≡ Plain) where
+module _ (s : List ℕ) (all : AllBytes s) (f : Fields) (e : read_at s ≡ Ok f) (plain : f.section.kind ≡ Plain) where
   text : KeysText s f
   text = keys_of s all f e plain
 
@@ -255,7 +253,7 @@ module _ (s : List ℕ) (all : AllBytes s) (f : Fields) (e : read_at s ≡ read.
 
 -- an accepted image of RSA keys alone is always in the form
 pub rsa_in_form :
-    (s : List ℕ) → AllBytes s → (f : Fields) → read_at s ≡ read.Record f → ((i : ℕ) → i < f.header.count → (key_in s f i).algorithm ≡ Rsa) → form_of s f ≡ true
+    (s : List ℕ) → AllBytes s → (f : Fields) → read_at s ≡ Ok f → ((i : ℕ) → i < f.header.count → (key_in s f i).algorithm ≡ Rsa) → form_of s f ≡ true
 rsa_in_form s all f e rsa = go (image_text s all f e)
   where
     go : ImageText s all f e → form_of s f ≡ true
@@ -275,7 +273,7 @@ keys_form s f n zs keys plain checkint same fits text =
 
 -- ---- write after read
 
-module _ (s : List ℕ) (all : AllBytes s) (f : Fields) (e : read_at s ≡ read.Record f) where
+module _ (s : List ℕ) (all : AllBytes s) (f : Fields) (e : read_at s ≡ Ok f) where
   -- a rewrite is refused for size and room only
   pub rewrite_sized : (room : ℕ) → rewrite_reply s room ≡ sized (rewritten s f) room
   unfolding rewrite_reply
@@ -287,20 +285,20 @@ module _ (s : List ℕ) (all : AllBytes s) (f : Fields) (e : read_at s ≡ read.
 
   -- in the form, writing the record into a buffer with room gives the image
   pub rewrite_in_form :
-      (old : List ℕ) → form_of s f ≡ true → length s ≤ length old → (rewrite_reply s (length old) ≡ written.Length (length s)) × (take (length s) (rewrite_left s old) ≡ s)
+      (old : List ℕ) → form_of s f ≡ true → length s ≤ length old → (rewrite_reply s (length old) ≡ Ok (length s)) × (take (length s) (rewrite_left s old) ≡ s)
   unfolding form_of
   rewrite_in_form old form room =
       let same : rewritten s f ≡ s = same_true (rewritten s f) s form in
       let fit : 0 + length s ≤ length old = omega arith in
-      let answer : sized (rewritten s f) (length old) ≡ written.Length (length s) = rw same (sized-fits s (length old) (image_small s all f e) room) in
+      let answer : sized (rewritten s f) (length old) ≡ Ok (length s) = rw same (sized-fits s (length old) (image_small s all f e) room) in
       let end : length s ≡ 0 + length s = omega arith in
       (rewrite_sized (length old) ∙ answer, rw (rewrite_left_lem old, answer, same) (ap (λ (i : ℕ). take i (splice old 0 s)) end ∙ take-splice old 0 s fit))
 
   -- what a rewrite that is accepted writes
   pub rewrite_written :
-      (old : List ℕ) (k : ℕ) → rewrite_reply s (length old) ≡ written.Length k → (length (rewritten s f) ≤ 65535) × (take k (rewrite_left s old) ≡ rewritten s f)
+      (old : List ℕ) (k : ℕ) → rewrite_reply s (length old) ≡ Ok k → (length (rewritten s f) ≤ 65535) × (take k (rewrite_left s old) ≡ rewritten s f)
   rewrite_written old k w =
-      let answer : sized (rewritten s f) (length old) ≡ written.Length k = sym (rewrite_sized (length old)) ∙ w in
+      let answer : sized (rewritten s f) (length old) ≡ Ok k = sym (rewrite_sized (length old)) ∙ w in
       let h = sized_held (rewritten s f) (length old) k answer in
       let fit : 0 + length (rewritten s f) ≤ length old = omega (arith, h.1) in
       let end : k ≡ 0 + length (rewritten s f) = omega (arith, h.2) in
@@ -308,7 +306,7 @@ module _ (s : List ℕ) (all : AllBytes s) (f : Fields) (e : read_at s ≡ read.
 
   -- and where it gives the image, the image is in the form
   pub rewrite_gives :
-      (old : List ℕ) (k : ℕ) → rewrite_reply s (length old) ≡ written.Length k → take k (rewrite_left s old) ≡ s → form_of s f ≡ true
+      (old : List ℕ) (k : ℕ) → rewrite_reply s (length old) ≡ Ok k → take k (rewrite_left s old) ≡ s → form_of s f ≡ true
   unfolding form_of
   rewrite_gives old k w same =
       ap (λ (l : List ℕ). same_bytes (rewritten s f) l) (sym same ∙ (rewrite_written old k w).1) ∙ same_self (rewritten s f)

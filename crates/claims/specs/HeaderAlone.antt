@@ -1,6 +1,6 @@
 -- docs/RULES.md, 8.1: a header read never says more of the section than where it begins. If one image's header is accepted, and another of at most
 -- 65,535 bytes agrees with it up to the section's beginning, both get the same header.
-use Rattle.std.specs.Prelude.{ℕ, suc, ◌+◌, ◌-◌, ◌≤◌, ◌≡◌, List, [], ◌∷◌, ◌++◌, map, length, take, drop}
+use Rattle.std.specs.Prelude.{ℕ, suc, ◌+◌, ◌-◌, ◌≤◌, ◌≡◌, List, [], ◌∷◌, ◌++◌, map, length, take, drop, Ok}
 use Rattle.std.proofs.Common.{arith, sym, ◌∙◌, ap, ap₂, length-append, take-append-drop}
 use Rattle.std.proofs.Math.Seq.{take-append_seam, length-slice}
 use Rattle.fields.specs.Bytes.{join, AllBytes}
@@ -10,7 +10,6 @@ use Rattle.fields.specs.declared.Part.{Part}
 use Rattle.format.specs.Format.{key_of, key_blob, of_scalar, blob, blob_fields, header}
 use Rattle.key_public.specs.Keys.{public_bytes}
 use Rattle.reader_header.specs.declared.Header.{Header}
-use Rattle.reader_header.specs.declared.HeaderRead.TheVariants as header_read
 use Rattle.reader_blobs.specs.Blobs.{blob_bytes}
 use Rattle.reader_header.specs.Header.{header_at, second_blob}
 use Rattle.reader_header.specs.Place.{keys_some}
@@ -22,7 +21,7 @@ abbrev bytes : (s : List ℕ) → AllBytes s → Header → List ℕ
 bytes s all h =
     header h.cipher h.kdf (view_of s h.salt) h.rounds (blob h.algorithm (public_bytes s h.public) ∷ other_blobs s all h)
 
-module _ (s : List ℕ) (all : AllBytes s) (h : Header) (read : header_at s ≡ header_read.Header h) where
+module _ (s : List ℕ) (all : AllBytes s) (h : Header) (read : header_at s ≡ Ok h) where
   abbrev text : HeaderText s all h
   text = header-text s all h read
 
@@ -47,7 +46,7 @@ ends_same p q n size a b =
 
 -- two images whose headers say the same have the same header: names, rounds, and what salt, blob and public key hold
 same_header_lem :
-    (s t : List ℕ) (all : AllBytes s) (every : AllBytes t) (h k : Header) → header_at s ≡ header_read.Header h → header_at t ≡ header_read.Header k
+    (s t : List ℕ) (all : AllBytes s) (every : AllBytes t) (h k : Header) → header_at s ≡ Ok h → header_at t ≡ Ok k
     → h.cipher ≡ k.cipher → h.kdf ≡ k.kdf → view_of s h.salt ≡ view_of t k.salt → h.rounds ≡ k.rounds → h.count ≡ k.count
     → h.algorithm ≡ k.algorithm → view_of s h.blob ≡ view_of t k.blob → public_bytes s h.public ≡ public_bytes t k.public
     → other_blobs s all h ≡ other_blobs t every k → h ≡ k
@@ -66,8 +65,8 @@ same_header_lem s t all every h k p q cipher kdf salted rounds count algorithm b
     whole
 
 pub header_alone :
-    (s t : List ℕ) → AllBytes s → AllBytes t → (h : Header) → header_at s ≡ header_read.Header h → length t ≤ 65535
-    → take h.section s ≡ take h.section t → header_at t ≡ header_read.Header h
+    (s t : List ℕ) → AllBytes s → AllBytes t → (h : Header) → header_at s ≡ Ok h → length t ≤ 65535
+    → take h.section s ≡ take h.section t → header_at t ≡ Ok h
 header_alone s t all every h read small agree =
     let x = header-text s all h read in
     let split : t ≡ bytes s all h ++ drop h.section t =
@@ -87,4 +86,4 @@ header_alone s t all every h read small agree =
     let same : h ≡ k.fields =
     same_header_lem s t all every h k.fields read k.read (sym k.same_cipher) (sym k.same_kdf) (sym k.same_salt) (sym k.same_rounds)
     (count ∙ sym k.same_count) (sym k.same_algorithm) (x.content ∙ sym k.same_blob) (sym k.same_public) others in
-    k.read ∙ ap header_read.Header (sym same)
+    k.read ∙ ap Ok (sym same)

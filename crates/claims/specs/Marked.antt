@@ -1,7 +1,7 @@
 -- docs/RULES.md, 17: the marked examples, M1 to M16, as one table under one claim: `marked`, M14 as request Five has it. What is
 -- written, and what is read, in the form or not, or refused for its scalar, holds for every key, checkint, comment and buffer of the row's
 -- kind. M1 to M4 are one image each.
-use Rattle.std.specs.Prelude.{ℕ, zero, suc, ◌+◌, ◌-◌, ◌≤◌, ◌<◌, ◌^◌, ◌≡◌, refl, Bool, true, false, List, [], ◌∷◌, ◌++◌, length, get_or, replicate}
+use Rattle.std.specs.Prelude.{ℕ, zero, suc, ◌+◌, ◌-◌, ◌≤◌, ◌<◌, ◌^◌, ◌≡◌, refl, Bool, true, false, List, [], ◌∷◌, ◌++◌, length, get_or, replicate, Err}
 use Rattle.std.proofs.Common.{arith, sym, ◌∙◌, ap, eq-eqb, lt-ltb, leb-true}
 use Rattle.std.proofs.lemmas.List.{length-replicate}
 use Rattle.fields.specs.Bytes.{ascii, uint32, string, and_true}
@@ -21,7 +21,6 @@ use Rattle.key_pairs.specs.Pairs.{is_scalar}
 use Rattle.key_material.specs.Material.{derived_checkint}
 use Rattle.key_material.specs.Laws.{derived_m16}
 use Rattle.reader_header.specs.Header.{magic_at, cipher_at, header_at}
-use Rattle.reader_image.specs.declared.ImageRead.TheVariants as read
 use Rattle.reader_image.specs.Container.{read_at}
 use Rattle.claims.specs.Scalars.{stored_image, ReadAs, reads_stored, NoScalar, no_bytes, too_long, unlike, zeros_alone, no_zero-first}
 use Rattle.claims.specs.NoScalars.{scalar_field, refuses_stored}
@@ -32,7 +31,7 @@ use Rattle.claims.specs.Sizes.{Ed25519Takes, ed25519_takes, Ed25519TooLong, ed25
 -- the read of s is refused with this number and count, at this place
 pub record Refuses (s : List ℕ) (number count at : ℕ) : Type 0 where
   pub why : Refusal
-  pub read : read_at s ≡ read.Refused (fault why at)
+  pub read : read_at s ≡ Err (fault why at)
   pub number_is : number_of why ≡ number
   pub count_is : count_of why ≡ count
 
@@ -126,7 +125,7 @@ p256_refuses such number count off not_one n point stored comment fit long tag h
       why = w.0;
       read =
           refuses_stored Nistp256 point stored comment long tag [] n fit [] tt tt (omega arith) small w.0 off w.1
-          ∙ ap (λ (i : ℕ). read.Refused (fault w.0 (i + off))) place;
+          ∙ ap (λ (i : ℕ). Err (fault w.0 (i + off))) place;
       number_is = w.2;
       count_is = w.3;
     }

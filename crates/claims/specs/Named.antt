@@ -1,6 +1,6 @@
 -- docs/RULES.md, 16.2, the second demand, and 10.10: what the writer of a list accepts and stores is read back as exactly the keys that its text and
 -- its table name, in their order, over the promises of `writer_keys::write_keys` and of `saltorchard_write_keys`.
-use Rattle.std.specs.Prelude.{ℕ, zero, suc, ◌+◌, ◌/◌, ◌<◌, ◌^◌, ◌≡◌, refl, true, false, List, [], ◌∷◌, map, length, take}
+use Rattle.std.specs.Prelude.{ℕ, zero, suc, ◌+◌, ◌/◌, ◌<◌, ◌^◌, ◌≡◌, refl, true, false, List, [], ◌∷◌, map, length, take, Ok, Err, Option}
 use Rattle.std.proofs.Common.{arith, sym, ◌∙◌, ap, eq-eqb}
 use Rattle.std.proofs.lemmas.List.{length-map}
 use Rattle.fields.specs.Place.{clash}
@@ -9,16 +9,12 @@ use Rattle.fields.specs.declared.Refusal.TheVariants.{Length, AlgorithmUnknown}
 use Rattle.names.specs.declared.Algorithm.{Algorithm}
 use Rattle.names.specs.declared.Algorithm.TheVariants.{Elliptic as OnCurve, Rsa}
 use Rattle.format.specs.Format.{Key, filled_key, written_image}
-use Rattle.key_material.specs.declared.Checkint.{Checkint}
 use Rattle.key_material.specs.Material.{checkint_of}
 use Rattle.reader_section.specs.declared.Kind.TheVariants.{Plain}
 use Rattle.reader_image.specs.declared.Fields.{Fields}
-use Rattle.reader_image.specs.declared.ImageRead.TheVariants as read
 use Rattle.reader_image.specs.Container.{keys_in, read_at}
 use Rattle.reader_image.specs.Form.{form_of}
-use Rattle.writer_reply.specs.declared.Written.{Written}
-use Rattle.writer_reply.specs.declared.Written.TheVariants as written
-use Rattle.writer_reply.specs.Reply.{told, left}
+use Rattle.writer_reply.specs.Reply.{told, left, Written}
 use Rattle.writer_plain.specs.Plain.{keys_reply, keys_left}
 use Rattle.writer_table.specs.Table.{rows_from, rows, algorithm_at, public_at, private_at, key_at, keys_named, code_known, every, table_fits, table_checked}
 use Rattle.writer_keys.specs.Named.{named_reply, named_left, first_private}
@@ -33,7 +29,7 @@ use Rattle.claims.specs.Refusals.{write_keys, Promise, saltorchard_write_keys, P
 -- what is read: as many keys as the table has, these in their order, each scalar filled to SIZE bytes again, under that checkint and in the form
 pub record NamedRead (text table : List ℕ) (n : ℕ) (s : List ℕ) : Type 0 where
   pub fields : Fields
-  pub read : read_at s ≡ read.Record fields
+  pub read : read_at s ≡ Ok fields
   pub plain : fields.section.kind ≡ Plain
   pub checkint : fields.section.checkint ≡ n
   pub count : fields.header.count ≡ length table / 19
@@ -66,14 +62,14 @@ named_many text table = length-map (rows table) (key_at text table) ∙ rows_man
 
 -- ---- an accepted write is one of these keys
 
-named_keys_lem : (text table : List ℕ) (n room k : ℕ) → named_reply false text table n room ≡ written.Length k → keys_reply (keys_named text table) n room ≡ written.Length k
+named_keys_lem : (text table : List ℕ) (n room k : ℕ) → named_reply false text table n room ≡ Ok k → keys_reply (keys_named text table) n room ≡ Ok k
 unfolding named_reply table_checked
 named_keys_lem text table n room k e =
     let next = keys_reply (keys_named text table) n room in
     let fits = held (table_fits text table) Length _ k e in
     (held (every (code_known table) (rows table)) AlgorithmUnknown next k fits.1).1
 
-named_left_lem : (text table : List ℕ) (n : ℕ) (old : List ℕ) (k : ℕ) → named_reply false text table n (length old) ≡ written.Length k → named_left false text table n old ≡ keys_left (keys_named text table) n old
+named_left_lem : (text table : List ℕ) (n : ℕ) (old : List ℕ) (k : ℕ) → named_reply false text table n (length old) ≡ Ok k → named_left false text table n old ≡ keys_left (keys_named text table) n old
 unfolding named_left keys_left
 named_left_lem text table n old k e =
     ap (λ (w : Written). left w (written_image n (keys_named text table)) old) (e ∙ sym (named_keys_lem text table n (length old) k e))
@@ -81,8 +77,8 @@ named_left_lem text table n old k e =
 -- ---- read again
 
 keys_read :
-    (keys : List Key) (n : ℕ) (old : List ℕ) (k : ℕ) → n < 2 ^ 32 → AllOwn keys → keys_reply keys n (length old) ≡ written.Length k
-    → (f : Fields) × (read_at (take k (keys_left keys n old)) ≡ read.Record f) × (f.section.kind ≡ Plain) × (f.section.checkint ≡ n)
+    (keys : List Key) (n : ℕ) (old : List ℕ) (k : ℕ) → n < 2 ^ 32 → AllOwn keys → keys_reply keys n (length old) ≡ Ok k
+    → (f : Fields) × (read_at (take k (keys_left keys n old)) ≡ Ok f) × (f.section.kind ≡ Plain) × (f.section.checkint ≡ n)
     × (f.header.count ≡ length keys) × (keys_in (take k (keys_left keys n old)) f ≡ map trimmed_key keys)
 keys_read [] n old k small own e = absurd (omega (arith, (plain_accepted [] n (length old) k e).some))
 keys_read (x ∷ others) n old k small own e =
@@ -90,14 +86,14 @@ keys_read (x ∷ others) n old k small own e =
     (b.fields, b.read, b.plain, b.same_checkint, b.same_count ∙ ap suc (length-map others trimmed_key), b.same_keys)
 
 module _ (text table : List ℕ) (n : ℕ) (small : n < 2 ^ 32) (old : List ℕ) where
-  named_read : (k : ℕ) → named_reply false text table n (length old) ≡ written.Length k → NamedRead text table n (take k (named_left false text table n old))
+  named_read : (k : ℕ) → named_reply false text table n (length old) ≡ Ok k → NamedRead text table n (take k (named_left false text table n old))
   named_read k e =
       let keys = keys_named text table in
       let own = named_own text table in
       let reply = named_keys_lem text table n (length old) k e in
       let b = keys_read keys n old k small own reply in
-      let writes : Writes keys n old (written.Length k) (keys_left keys n old) = (sym reply, refl, ap told (sym reply)) in
-      let form = plain_in_form keys n old (written.Length k) (keys_left keys n old) k small own writes refl in
+      let writes : Writes keys n old (Ok k) (keys_left keys n old) = (sym reply, refl, ap told (sym reply)) in
+      let form = plain_in_form keys n old (Ok k) (keys_left keys n old) k small own writes refl in
       rw (named_left_lem text table n old k e)
       (record {
         fields = b.0;
@@ -113,8 +109,8 @@ module _ (text table : List ℕ) (n : ℕ) (small : n < 2 ^ 32) (old : List ℕ)
 
 -- the claim, of `writer_keys::write_keys`
 pub keys_read_back :
-    (text table : List ℕ) (given : Checkint) (old : List ℕ) (r : Written) (out : List ℕ) (k : ℕ) → checkint_of given (first_private text table) < 2 ^ 32
-    → Promise (write_keys text table given) old r out → r ≡ written.Length k → NamedRead text table (checkint_of given (first_private text table)) (take k out)
+    (text table : List ℕ) (given : Option ℕ) (old : List ℕ) (r : Written) (out : List ℕ) (k : ℕ) → checkint_of given (first_private text table) < 2 ^ 32
+    → Promise (write_keys text table given) old r out → r ≡ Ok k → NamedRead text table (checkint_of given (first_private text table)) (take k out)
 keys_read_back text table given old r out k small p answered =
     rw p.1 (named_read text table (checkint_of given (first_private text table)) small old k (sym p.0 ∙ answered))
 
@@ -123,9 +119,9 @@ by_reply :
     (text table : List ℕ) (n : ℕ) → n < 2 ^ 32 → (old : List ℕ) (w : Written) → named_reply false text table n (length old) ≡ w → (reply_of w).number ≡ 0
     → NamedRead text table n (take (reply_of w).length (named_left false text table n old))
 unfolding reply_of told
-by_reply text table n small old (written.Refused g) e accepted =
+by_reply text table n small old (Err g) e accepted =
     clash (let o : true ≡ false = sym (eq-eqb (number_of g.why) 0 accepted) ∙ never_zero g.why in cc)
-by_reply text table n small old (written.Length k) e accepted = named_read text table n small old k e
+by_reply text table n small old (Ok k) e accepted = named_read text table n small old k e
 
 pub keys_read_back_c :
     (text table : List ℕ) (derive checkint : ℕ) (old : List ℕ) (r : Reply) (out : List ℕ) → checkint_for derive checkint (first_private text table) < 2 ^ 32

@@ -1,7 +1,7 @@
 -- docs/RULES.md, 6.5: every plain image of 1 to 16 keys in which a string that isn't a scalar's stands as that of an ECDSA key, after keys that are
 -- read, is refused for it, at the scalar's field or at the first byte too many, whatever point, checkint and comment there are, and whatever the
 -- keys after it have beside their blobs; on every curve by one proof. `other_scalars` (Marked) has such images.
-use Rattle.std.specs.Prelude.{ℕ, suc, ◌+◌, ◌*◌, ◌-◌, ◌%◌, ◌≤◌, ◌<◌, ◌^◌, ◌≡◌, take, get_or}
+use Rattle.std.specs.Prelude.{ℕ, suc, ◌+◌, ◌*◌, ◌-◌, ◌%◌, ◌≤◌, ◌<◌, ◌^◌, ◌≡◌, take, get_or, Err}
 use native.Mathlib.Omega.{arith}
 use Rattle.std.proofs.Math.Path.{refl, sym, ap}
 use Rattle.std.proofs.Common.{◌∙◌, eq-eqb, length-append}
@@ -15,7 +15,6 @@ use Rattle.fields.specs.Rest.{rest, Good, rest-within, length-string}
 use Rattle.fields.specs.Back.{short_of, string_back}
 use Rattle.fields.specs.declared.Cursor.{Cursor}
 use Rattle.fields.specs.declared.Fault.{Fault}
-use Rattle.fields.specs.declared.Field.TheVariants as field
 use Rattle.fields.specs.declared.Refusal.{Refusal}
 use Rattle.names.specs.declared.Algorithm.{Algorithm}
 use Rattle.names.specs.declared.Algorithm.TheVariants.{Elliptic as OnCurve}
@@ -32,19 +31,15 @@ use Rattle.writer_curve.specs.Parts.{keypair_joined}
 use Rattle.key_public.specs.declared.Public.{Public}
 use Rattle.key_public.specs.Keys.{public_bytes}
 use Rattle.laws_keys.specs.Back.{ecdsa_public_back}
-use Rattle.key_pairs.specs.declared.Keypair.TheVariants as pair
 use Rattle.key_pairs.specs.Pairs.{scalar_at, ecdsa_pair_at, elliptic_pair_at, keypair_at}
 use Rattle.reader_blobs.specs.Back.{blob_field_back, AllPublic}
 use Rattle.reader_header.specs.Header.{second_blob}
 use Rattle.reader_header.specs.Place.{plain_allowed}
 use Rattle.reader_header.specs.Back.{header_back}
-use Rattle.reader_entries.specs.declared.Entry.TheVariants as entry
 use Rattle.reader_entries.specs.Entries.{Not, Keys-not, entry_at, next_at, more_at, keys_at}
 use Rattle.reader_entries.proofs.Back.{entry_back}
-use Rattle.reader_section.specs.declared.SectionRead.TheVariants as section_read
 use Rattle.reader_section.specs.Section.{closed_at, content_at, ended_at, plain_at}
 use Rattle.reader_section.specs.Back.{checkints_back}
-use Rattle.reader_image.specs.declared.ImageRead.TheVariants as read
 use Rattle.reader_image.specs.Container.{section_at, read_at}
 use Rattle.laws_fields.specs.Fields.{After}
 use Rattle.laws_fields.specs.Keys.{ecdsa_public_lies}
@@ -63,7 +58,7 @@ record Reached (s : List ℕ) (k : Curve) (stored t : List ℕ) (P : Fault → T
   pub good : Good s at
   pub end : at.end ≡ length s
   pub more : rest s at ≡ string stored ++ t
-  pub refused : (g : Fault) → scalar_at s at (size_of k) ≡ field.Refused g → P g
+  pub refused : (g : Fault) → scalar_at s at (size_of k) ≡ Err g → P g
 
 entries_split : (before more : List Key) → entries_length (map (standing_entry 0) (before ++ more)) ≡ entries_length (map (standing_entry 0) before) + entries_length (map (standing_entry 0) more)
 entries_split [] more = omega arith
@@ -87,7 +82,7 @@ module _
 
   pair_reached :
       (s : List ℕ) (c : Cursor) (t : List ℕ) → Good s c → c.end ≡ length s → rest s c ≡ keypair a 0 (of_point point) (of_scalar stored) ++ t
-      → Reached s k stored t (λ g. keypair_at s c ≡ pair.Refused g)
+      → Reached s k stored t (λ g. keypair_at s c ≡ Err g)
   unfolding keypair_at elliptic_pair_at ecdsa_pair_at
   pair_reached s c t good end e =
       let n = string_back s c good (algorithm_name a) (join (pair_fields a 0 (of_point point) (of_scalar stored)) ++ t) (algorithm_back a).1 (e ∙ keypair_then a 0 (of_point point) (of_scalar stored) t) in
@@ -104,7 +99,7 @@ module _
   -- whatever it is compared with
   entry_reached :
       (s : List ℕ) (c : Cursor) (t : List ℕ) → Good s c → c.end ≡ length s → rest s c ≡ (standing_entry 0 other).pair ++ t → (b : Algorithm) (q : Public)
-      → Reached s k stored t (λ g. entry_at s c b q ≡ entry.Refused g)
+      → Reached s k stored t (λ g. entry_at s c b q ≡ Err g)
   unfolding entry_at
   entry_reached s c t good end e b q =
       let p = pair_reached s c t good end e in
@@ -170,7 +165,7 @@ module _
     content_reached :
         (s : List ℕ) (c b : Cursor) → Good s c → c.end ≡ length s → Good s b → b.end ≡ length s → length s ≤ 65535 → (q : Public) (u : List ℕ)
         → public_bytes s q ≡ first.public → rest s c ≡ section n entries → rest s b ≡ join (blob_fields (map key_blob others)) ++ u
-        → Reached s k stored (follows padding) (λ g. content_at s c first.algorithm q b (length others) ≡ section_read.Refused g)
+        → Reached s k stored (follows padding) (λ g. content_at s c first.algorithm q b (length others) ≡ Err g)
     unfolding content_at closed_at section
     content_reached s c b good end goodb endb small q u same e eb =
         let size = length (content n entries) in
@@ -190,7 +185,7 @@ module _
     section_reached :
         (s : List ℕ) (c b : Cursor) → Good s c → c.end ≡ length s → Good s b → b.end ≡ length s → length s ≤ 65535 → (q : Public) (u : List ℕ)
         → public_bytes s q ≡ first.public → rest s c ≡ string (section n entries) → rest s b ≡ join (blob_fields (map key_blob others)) ++ u
-        → Reached s k stored (follows padding) (λ g. plain_at s c first.algorithm q b (length others) ≡ section_read.Refused g)
+        → Reached s k stored (follows padding) (λ g. plain_at s c first.algorithm q b (length others) ≡ Err g)
     unfolding plain_at ended_at
     section_reached s c b good end goodb endb small q u same e eb =
         let body = section n entries in
@@ -205,7 +200,7 @@ module _
     abbrev s : List ℕ
     s = stored_image n (first ∷ others)
 
-    image_reached : length s ≤ 65535 → Reached s k stored (follows padding) (λ g. read_at s ≡ read.Refused g)
+    image_reached : length s ≤ 65535 → Reached s k stored (follows padding) (λ g. read_at s ≡ Err g)
     unfolding read_at section_at plain_image
     image_reached small =
         let body = section n entries in
@@ -233,7 +228,7 @@ module _
     -- the keys are those before it, it and those after it
     reached_refused :
         (before : List Key) → first ∷ others ≡ before ++ other ∷ after → length s ≤ 65535 → (why : Refusal) (off : ℕ) → NoScalar (size_of k) stored why off
-        → read_at s ≡ read.Refused (fault why (scalar_field (first ∷ others) before k + off))
+        → read_at s ≡ Err (fault why (scalar_field (first ∷ others) before k + off))
     reached_refused before same small why off no' =
         let r = image_reached small in
         let t = follows padding in
@@ -248,13 +243,13 @@ module _
         ap (λ (l : List Key). entries_length (map (standing_entry 0) l)) same ∙ entries_split before (other ∷ after) in
         let place : r.at.at ≡ scalar_field (first ∷ others) before k =
         omega (arith, left, image, split, content-length n entries, pair_length_lem, r.end, r.good) in
-        r.refused (fault why (r.at.at + off)) refused ∙ ap (λ (i : ℕ). read.Refused (fault why (i + off))) place
+        r.refused (fault why (r.at.at + off)) refused ∙ ap (λ (i : ℕ). Err (fault why (i + off))) place
 
   -- the claim
   pub refuses_stored :
       (n : ℕ) → n < 2 ^ 32 → (before : List Key) → AllStored before → AllPublic after → length (before ++ other ∷ after) ≤ 16
       → length (stored_image n (before ++ other ∷ after)) ≤ 65535 → (why : Refusal) (off : ℕ) → NoScalar (size_of k) stored why off
-      → read_at (stored_image n (before ++ other ∷ after)) ≡ read.Refused (fault why (scalar_field (before ++ other ∷ after) before k + off))
+      → read_at (stored_image n (before ++ other ∷ after)) ≡ Err (fault why (scalar_field (before ++ other ∷ after) before k + off))
   refuses_stored n fit [] fits public few small why off no' =
       reached_refused n fit other after first_reached (public_fits, public) (omega arith) [] refl small why off no'
   refuses_stored n fit (x ∷ before) fits public few small why off no' =

@@ -1,6 +1,6 @@
 -- docs/RULES.md, 10.5 to 10.7, 10.11, 12.1, 12.4, 12.5, 14.2 and 14.3: the conditions of the writers, of the edits, of export and of import, as lists in the rules'
 -- order, each with its number. The reply is the first that holds, for every input; where none does it is 0 0 0 and the length.
-use Rattle.std.specs.Prelude.{ℕ, ◌%◌, ◌≤◌, ◌<◌, ◌≡◌, Bool, cond, ◌&&◌, ◌||◌, List, [], ◌∷◌, eqb, leb, length, take}
+use Rattle.std.specs.Prelude.{ℕ, ◌%◌, ◌≤◌, ◌<◌, ◌≡◌, Bool, cond, ◌&&◌, ◌||◌, List, [], ◌∷◌, eqb, leb, length, take, Result, Ok, Err}
 use Rattle.std.proofs.Common.{arith, sym, ◌∙◌, leb-true, leb-false, ltb-true, ltb-false, lt-ltb, le-ltb}
 use Rattle.std.proofs.Math.Path.{refl, ap}
 use Rattle.std.proofs.Math.Bool.{true, false, not}
@@ -21,27 +21,23 @@ use Rattle.names.specs.declared.Kdf.TheVariants as kdf
 use Rattle.utf8.specs.Utf8.{utf8}
 use Rattle.format.specs.Format.{PublicBytes, PrivateBytes, Key, public_length, private_length, point_tag, not_zero, written_image, encrypted_image, alone, key_of}
 use Rattle.key_public.specs.Keys.{on_blob, blob_at}
-use Rattle.key_public.specs.declared.Blob.{Blob}
-use Rattle.key_public.specs.declared.Blob.TheVariants as blob
 use Rattle.reader_section.specs.declared.Kind.{Kind}
 use Rattle.reader_section.specs.declared.Kind.TheVariants.{Plain, Encrypted as Sealed}
 use Rattle.reader_image.specs.declared.Fields.{Fields}
 use Rattle.reader_image.specs.Container.{keys_in, on_read, read_at}
 use Rattle.reader_image.specs.Form.{on_kind, form_of}
 use Rattle.reader_image.specs.FormLaws.{by_read}
-use Rattle.writer_reply.specs.declared.Written.{Written}
-use Rattle.writer_reply.specs.declared.Written.TheVariants as written
-use Rattle.writer_reply.specs.Reply.{Told, told, refused, unless, sized}
+use Rattle.writer_reply.specs.Reply.{Told, told, refused, unless, sized, Written}
 use Rattle.writer_plain.specs.Plain.{all_mpints, sizes_fit, key_checked, keys_checked, keys_reply, plain_reply}
 use Rattle.writer_encrypted.specs.Encrypted.{options_fit, encrypted_reply}
 use Rattle.edit_shells.specs.Keys.{keys_changed, keys_without, keys_with}
-use Rattle.edit_file.specs.declared.Editable.TheVariants as editable
 use Rattle.edit_file.specs.Edits.{on_editable, refused_whole, record_editable, editable_at, file_keys, has_key, comment_field, afresh_reply, change_reply, remove_reply, add_reply}
 use Rattle.edit_file.specs.Afresh.{change_sized, remove_sized, remove_only}
 use Rattle.key_add.specs.Add.{added_filled, too_many, add_reply_lem}
 use Rattle.claims.specs.Change.{may_edit}
 use Rattle.armour_text.specs.Text.{text, export_reply}
 use Rattle.armour_text.specs.Import.{carried, carries, import_reply}
+use Rattle.key_public.specs.declared.Public.{Public}
 
 -- a condition: whether it holds, and the reply that it gives
 pub record Condition : Type 0 where
@@ -199,7 +195,7 @@ above a b =
     (λ e. rw e (le-ltb a b (leb-true b a e)))
     (λ e. rw e (lt-ltb a b (leb-false b a e)))
 
-pub done_first : (n : ℕ) → told (written.Length n) ≡ first [] n
+pub done_first : (n : ℕ) → told (Ok n) ≡ first [] n
 unfolding told first
 done_first n = refl
 
@@ -207,7 +203,7 @@ sized-first : (image : List ℕ) (room : ℕ) → told (sized image room) ≡ fi
 unfolding sized
 sized-first image room =
     let fits = leb (length image) room in
-    let w = written.Length (length image) in
+    let w = Ok (length image) in
     then_first (ltb 65535 (length image)) (leb (length image) 65535) (above 65535 (length image)) Size refl (unless fits Room w)
     (says (ltb room (length image)) 9 ∷ []) (length image)
     (then_first (ltb room (length image)) fits (above room (length image)) Room refl w [] (length image) (done_first (length image)))
@@ -220,7 +216,7 @@ refused-first why more n = refl
 
 fault-first :
     (g : Fault) (more : List Condition) (n : ℕ)
-    → told (written.Refused g) ≡ first (record { holds = true; number = number_of g.why; count = count_of g.why; at = g.at } ∷ more) n
+    → told (Err g) ≡ first (record { holds = true; number = number_of g.why; count = count_of g.why; at = g.at } ∷ more) n
 unfolding told first
 fault-first g more n = refl
 
@@ -291,10 +287,10 @@ encrypted_first cipher k salt rounds key ciphertext tag room =
     listed = says (not (eqb (length ciphertext % block_size cipher) 0)) 3 ∷ says (not (eqb (length tag) (tag_length cipher))) 1 ∷ sizes image room
 
     by_blob :
-        (b : Blob)
+        (b : Result (Algorithm × Public) Fault)
         → told (on_blob b (λ f. refused f.why) (λ a point. wrapped)) ≡ first (on_blob b (λ f. blob_condition f ∷ []) (λ a point. listed)) (length image)
-    by_blob (blob.Refused f) = refused-first f.why [] (length image)
-    by_blob (blob.Key a point) =
+    by_blob (Err f) = refused-first f.why [] (length image)
+    by_blob (Ok (a, point)) =
         then_first (not (eqb (length ciphertext % block_size cipher) 0)) (eqb (length ciphertext % block_size cipher) 0) refl Crypto refl
         (unless (eqb (length tag) (tag_length cipher)) Length (sized image room)) (says (not (eqb (length tag) (tag_length cipher))) 1 ∷ sizes image room) (length image)
         (then_first (not (eqb (length tag) (tag_length cipher))) (eqb (length tag) (tag_length cipher)) refl Length refl (sized image room) (sizes image room) (length image)
@@ -326,7 +322,7 @@ keys_first keys checkint room =
 module _ (old : List ℕ) (n : ℕ) (reply : Fields → Written) (more : Fields → List Condition) (size : Fields → ℕ) where
   judged_first :
       (f : Fields) (k : Kind) (form : Bool) → (k ≡ Plain → form ≡ true → told (reply f) ≡ first (more f) (size f))
-      → told (on_editable (on_kind k (cond form (editable.Image f) (refused_whole Form)) (refused_whole Encrypted)) written.Refused reply)
+      → told (on_editable (on_kind k (cond form (Ok f) (refused_whole Form)) (refused_whole Encrypted)) Err reply)
       ≡ first (says (on_kind k false true) 8 ∷ says (not form) 10 ∷ more f) (size f)
   unfolding told first
   judged_first f Plain true h = h refl refl
@@ -334,8 +330,8 @@ module _ (old : List ℕ) (n : ℕ) (reply : Fields → Written) (more : Fields 
   judged_first f Sealed form h = refl
 
   edit_first :
-      ((f : Fields) → editable_at old n ≡ editable.Image f → told (reply f) ≡ first (more f) (size f))
-      → told (on_editable (editable_at old n) written.Refused reply) ≡ first (edit_conditions old n more) (on_read (read_at (take n old)) (λ g. 0) size)
+      ((f : Fields) → editable_at old n ≡ Ok f → told (reply f) ≡ first (more f) (size f))
+      → told (on_editable (editable_at old n) Err reply) ≡ first (edit_conditions old n more) (on_read (read_at (take n old)) (λ g. 0) size)
   unfolding editable_at record_editable told first
   edit_first h =
       by_bool (leb n 65535)
@@ -399,7 +395,7 @@ remove_first old n k all =
     (λ missing. rw missing (refused-first Length (says (not (ltb 1 f.header.count)) 1 ∷ rest) (length image))))
 
 added_first :
-    (old : List ℕ) (all : AllBytes old) (n : ℕ) (key : Key) (f : Fields) → editable_at old n ≡ editable.Image f
+    (old : List ℕ) (all : AllBytes old) (n : ℕ) (key : Key) (f : Fields) → editable_at old n ≡ Ok f
     → told (afresh_reply (more_keys old n key f) f old)
     ≡ first (says (not (ltb f.header.count 16)) 1 ∷ listed_conditions (alone key) (sizes (afresh f (more_keys old n key f)) (length old)))
     (length (afresh f (more_keys old n key f)))
@@ -431,7 +427,7 @@ pub export_first : (b : List ℕ) (room : ℕ) → told (export_reply b room) �
 unfolding export_reply
 export_first b room =
     let n = length (text b) in
-    let w = written.Length n in
+    let w = Ok n in
     then_first (ltb 65535 (length b)) (leb (length b) 65535) (above 65535 (length b)) Size refl (unless (leb n room) Room w) (says (ltb room n) 9 ∷ []) n
     (then_first (ltb room n) (leb n room) (above room n) Room refl w [] n (done_first n))
 

@@ -1,7 +1,7 @@
 -- docs/RULES.md, 7.3 to 7.5 and 18.8, of every entry that takes a lent buffer, and whatever answer meets its promise: a writer's refusal is at 0, and so
 -- are export's, import's and a setting's; a rewrite's and a comment change's is where the reader refused, a new comment's 7 is at the old comment's field, and what
 -- is about the whole image is at 0. An answer that refuses nothing gives 0 too.
-use Rattle.std.specs.Prelude.{ℕ, zero, suc, ◌+◌, ◌-◌, ◌%◌, ◌≤◌, ◌<◌, ◌≡◌, refl, Bool, true, false, cond, ◌&&◌, not, List, [], ◌∷◌, ◌++◌, map, eqb, leb, ltb, length, take}
+use Rattle.std.specs.Prelude.{ℕ, zero, suc, ◌+◌, ◌-◌, ◌%◌, ◌≤◌, ◌<◌, ◌≡◌, refl, Bool, true, false, cond, ◌&&◌, not, List, [], ◌∷◌, ◌++◌, map, eqb, leb, ltb, length, take, Result, Ok, Err, Option, Some, None}
 use Rattle.std.proofs.Common.{arith, ◌∙◌, ap, ne_eqb, leb-true, ltb-false, length-take-le}
 use Rattle.fields.specs.Bytes.{AllBytes, both_true}
 use Rattle.fields.specs.Fields.{whole}
@@ -14,8 +14,6 @@ use Rattle.names.specs.declared.Algorithm.TheVariants.{Elliptic as OnCurve, Rsa}
 use Rattle.names.specs.declared.Cipher.{Cipher}
 use Rattle.names.specs.declared.Kdf.{Kdf}
 use Rattle.names.specs.Ciphers.{is_none, block_size, tag_length}
-use Rattle.names.specs.declared.AlgorithmName.{AlgorithmName}
-use Rattle.names.specs.declared.AlgorithmName.TheVariants.{Known, Unknown}
 use Rattle.names_codes.specs.Codes.{algorithm_coded, cipher_coded, kdf_coded}
 use Rattle.utf8.specs.Utf8.{utf8}
 use Rattle.format.specs.Format.{PublicBytes, PrivateBytes, Key, filled_key, public_length, private_length, point_tag, not_zero, of_point, of_scalar, of_modulus, of_numbers, written_image, encrypted_image, alone, entry, key_of, Entry as FormatEntry, standing_entries, key_blob, section}
@@ -30,7 +28,6 @@ use Rattle.reader_blobs.specs.Read.{by_blob}
 use Rattle.reader_section.specs.declared.Kind.{Kind}
 use Rattle.reader_section.specs.declared.Kind.TheVariants.{Plain, Encrypted as Sealed}
 use Rattle.reader_image.specs.declared.Fields.{Fields}
-use Rattle.reader_image.specs.declared.ImageRead.TheVariants as read
 use Rattle.reader_image.specs.Container.{on_read, read_at, keys_in}
 use Rattle.reader_image.specs.Read.{KeysText, ImageText, plain_text, encrypted_text, image_text}
 use Rattle.reader_keys.specs.Keys.{key_numbered}
@@ -38,9 +35,7 @@ use Rattle.reader_keys.specs.Found.{key_lies}
 use Rattle.reader_image.specs.Form.{on_kind, form_of}
 use Rattle.reader_image.specs.FormLaws.{by_read}
 use Rattle.handed_record.specs.Judge.{is_read}
-use Rattle.writer_reply.specs.declared.Written.{Written}
-use Rattle.writer_reply.specs.declared.Written.TheVariants as written
-use Rattle.writer_reply.specs.Reply.{told, unless, sized, Answers}
+use Rattle.writer_reply.specs.Reply.{told, unless, sized, Answers, Written}
 use Rattle.buffer.specs.Puts.{fits}
 use Rattle.writer_plain.specs.Plain.{all_mpints, sizes_fit, key_checked, keys_checked, keys_reply, plain_reply, plain_alone}
 use Rattle.writer_encrypted.specs.Encrypted.{options_fit, encrypted_reply}
@@ -51,7 +46,6 @@ use Rattle.writer_listed.specs.Listed.{listed_keys}
 use Rattle.edit_shells.specs.Parts.{rises}
 use Rattle.edit_shells.specs.Edits.{changed_by_places, removed_by_places, added_by_places, edit_reply}
 use Rattle.edit_shells.specs.Keys.{keys_without, keys_with}
-use Rattle.edit_file.specs.declared.Editable.TheVariants as editable
 use Rattle.edit_file.specs.Edits.{on_editable, refused_whole, record_editable, editable_at, file_keys, has_key, comment_field, change_reply, remove_reply, add_reply}
 use Rattle.edit_file.specs.Afresh.{all_take, change_sized}
 use Rattle.report_parts.specs.Parts.{text_reply}
@@ -59,8 +53,6 @@ use Rattle.inspect_report.specs.Report.{report_of, report_reply}
 use Rattle.keys_report.specs.Lines.{keys_report}
 use Rattle.armour_text.specs.Text.{text, export_reply}
 use Rattle.armour_text.specs.Import.{carried, carries, import_reply}
-use Rattle.setting_record.specs.declared.Packed.{Packed}
-use Rattle.setting_record.specs.declared.Packed.TheVariants as packed
 use Rattle.setting_record.specs.Packing.{pack_of}
 use Rattle.setting_record.specs.Record.{packed_reply}
 use Rattle.setting_store.specs.Store.{has_place}
@@ -126,10 +118,10 @@ place_of (store_put device version kind ms) old number = 0
 place_of store_move old number = 0
 
 -- a code that names nothing is about no image
-abbrev pub coded_place : List ℕ → ℕ → AlgorithmName → ℕ → ℕ
-coded_place old n Unknown number = 0
-coded_place old n (Known (OnCurve e)) number = whole_place old n number
-coded_place old n (Known Rsa) number = 0
+abbrev pub coded_place : List ℕ → ℕ → Option Algorithm → ℕ → ℕ
+coded_place old n None number = 0
+coded_place old n (Some (OnCurve e)) number = whole_place old n number
+coded_place old n (Some Rsa) number = 0
 
 abbrev pub place_of_c : EntryC → List ℕ → ℕ → ℕ
 place_of_c (saltorchard_write_plain code public private derive checkint comment) old number = 0
@@ -152,8 +144,8 @@ place_of_c saltorchard_store_move old number = 0
 
 -- an answer's place is this, by its number
 abbrev At : (ℕ → ℕ) → Written → Type 0
-At place (written.Refused g) = g.at ≡ place (number_of g.why)
-At place (written.Length n) = 0 ≡ place 0
+At place (Err g) = g.at ≡ place (number_of g.why)
+At place (Ok n) = 0 ≡ place 0
 
 abbrev nowhere : ℕ → ℕ
 nowhere number = 0
@@ -166,8 +158,8 @@ unless_at place false why next none h = none
 sized_at : (place : ℕ → ℕ) (image : List ℕ) (room : ℕ) → 0 ≡ place 0 → 0 ≡ place 9 → 0 ≡ place 11 → At place (sized image room)
 unfolding sized
 sized_at place image room none nine eleven =
-    unless_at place (leb (length image) 65535) Size (unless (leb (length image) room) Room (written.Length (length image))) eleven
-    (unless_at place (leb (length image) room) Room (written.Length (length image)) nine none)
+    unless_at place (leb (length image) 65535) Size (unless (leb (length image) room) Room (Ok (length image))) eleven
+    (unless_at place (leb (length image) room) Room (Ok (length image)) nine none)
 
 key_at_lem :
     (place : ℕ → ℕ) (a : Algorithm) (key : PublicBytes) (x : PrivateBytes) (next : Written) → 0 ≡ place 1 → 0 ≡ place 2 → At place next
@@ -240,8 +232,8 @@ handed_at s f room = unless_at nowhere (is_read s f) Length (record_reply s f ro
 
 -- the same place, said otherwise
 at_same : (place other : ℕ → ℕ) (w : Written) → ((number : ℕ) → place number ≡ other number) → At place w → At other w
-at_same place other (written.Refused g) same h = h ∙ same (number_of g.why)
-at_same place other (written.Length n) same h = h ∙ same 0
+at_same place other (Err g) same h = h ∙ same (number_of g.why)
+at_same place other (Ok n) same h = h ∙ same 0
 
 -- ---- the edits
 
@@ -258,11 +250,11 @@ edit_reply_at places size n room =
     unless_at nowhere (leb n 65535) Size _ refl
     (unless_at nowhere (rises 0 (places ++ n ∷ room ∷ [])) Length _ refl
     (unless_at nowhere (leb size 65535) Size _ refl
-    (unless_at nowhere (leb size room) Room (written.Length size) refl refl)))
+    (unless_at nowhere (leb size room) Room (Ok size) refl refl)))
 
 judged_at :
     (place : ℕ → ℕ) (f : Fields) (k : Kind) (form : Bool) (answer : Fields → Written) → 0 ≡ place 8 → 0 ≡ place 10 → (k ≡ Plain → form ≡ true → At place (answer f))
-    → At place (on_editable (on_kind k (cond form (editable.Image f) (refused_whole Form)) (refused_whole Encrypted)) written.Refused answer)
+    → At place (on_editable (on_kind k (cond form (Ok f) (refused_whole Form)) (refused_whole Encrypted)) Err answer)
 judged_at place f Plain true answer eight ten h = h refl refl
 judged_at place f Plain false answer eight ten h = ten
 judged_at place f Sealed form answer eight ten h = eight
@@ -285,8 +277,8 @@ module _ (old : List ℕ) (n : ℕ) (accepted : Fields → ℕ → ℕ) where
 
   edit_at :
       (answer : Fields → Written) → ((f : Fields) → 0 ≡ accepted f 8) → ((f : Fields) → 0 ≡ accepted f 10)
-      → ((f : Fields) → editable_at old n ≡ editable.Image f → At (accepted f) (answer f))
-      → At (edit_place old n accepted) (on_editable (editable_at old n) written.Refused answer)
+      → ((f : Fields) → editable_at old n ≡ Ok f → At (accepted f) (answer f))
+      → At (edit_place old n accepted) (on_editable (editable_at old n) Err answer)
   unfolding editable_at record_editable
   edit_at answer eight ten h =
       by_bool (leb n 65535)
@@ -300,7 +292,7 @@ module _ (old : List ℕ) (n : ℕ) (accepted : Fields → ℕ → ℕ) where
       (λ f e.
       rw e
       (at_same (accepted f) (edit_place old n accepted)
-      (on_editable (on_kind f.section.kind (cond (form_of (take n old) f) (editable.Image f) (refused_whole Form)) (refused_whole Encrypted)) written.Refused answer)
+      (on_editable (on_kind f.section.kind (cond (form_of (take n old) f) (Ok f) (refused_whole Form)) (refused_whole Encrypted)) Err answer)
       (λ number. rw e at (place_reads number small inside))
       (judged_at (accepted f) f f.section.kind (form_of (take n old) f) answer (eight f) (ten f)
       (λ plain form. h f (may_edit old n f small inside e plain form)))))))
@@ -336,15 +328,15 @@ unfolding coded_add_reply
 coded_add_at old n code public private comment = by_name (algorithm_coded code)
   where
     by_name :
-        (name : AlgorithmName)
+        (name : Option Algorithm)
         → At (coded_place old n name)
         (on_algorithm_name name names_nothing (λ a. on_algorithm a (λ e. add_reply old n (curve_key e public private comment)) names_nothing))
-    by_name Unknown = refl
-    by_name (Known (OnCurve e)) = add_at old n (curve_key e public private comment)
-    by_name (Known Rsa) = refl
+    by_name None = refl
+    by_name (Some (OnCurve e)) = add_at old n (curve_key e public private comment)
+    by_name (Some Rsa) = refl
 
 text_at : (text old : List ℕ) → At nowhere (text_reply text old)
-text_at text old = unless_at nowhere (fits old 0 text) Room (written.Length (length text)) refl refl
+text_at text old = unless_at nowhere (fits old 0 text) Room (Ok (length text)) refl refl
 
 report_at : (s old : List ℕ) → At nowhere (report_reply s old)
 unfolding report_reply
@@ -354,8 +346,8 @@ export_at : (b : List ℕ) (room : ℕ) → At nowhere (export_reply b room)
 unfolding export_reply
 export_at b room =
     let fits = leb (length (text b)) room in
-    unless_at nowhere (leb (length b) 65535) Size (unless fits Room (written.Length (length (text b)))) refl
-    (unless_at nowhere fits Room (written.Length (length (text b))) refl refl)
+    unless_at nowhere (leb (length b) 65535) Size (unless fits Room (Ok (length (text b)))) refl
+    (unless_at nowhere fits Room (Ok (length (text b))) refl refl)
 
 import_at : (t : List ℕ) (room : ℕ) → At nowhere (import_reply t room)
 unfolding import_reply
@@ -364,16 +356,16 @@ import_at t room =
     (λ e. rw e (sized_at nowhere (carried t) room refl refl refl))
     (λ e. rw e refl)
 
-packed_at : (ok : Bool) (p : Packed) (size : ℕ) → At nowhere (packed_reply ok p size)
+packed_at : (ok : Bool) (p : Result ℕ Refusal) (size : ℕ) → At nowhere (packed_reply ok p size)
 unfolding packed_reply
 packed_at false p size = refl
-packed_at true (packed.Refused why) size = refl
-packed_at true (packed.Record n) size = refl
+packed_at true (Err why) size = refl
+packed_at true (Ok n) size = refl
 
 move_at : (s : List ℕ) → At nowhere (move_reply s)
 unfolding move_reply
 move_at s =
-    let done = written.Length 128 in
+    let done = Ok 128 in
     let fit = all_places fitting 32 s in
     let known = all_places known 32 s in
     unless_at nowhere (eqb (length s) 128) Length (unless known AlgorithmUnknown (unless fit Size done)) refl
@@ -412,8 +404,8 @@ coded_encrypted_at cipher k salt rounds blob ciphertext tag room =
 
 told_by : (place : ℕ → ℕ) (w r : Written) → At place w → r ≡ w → (told r).at ≡ place (told r).number
 unfolding told
-told_by place (written.Refused g) r h e = rw e h
-told_by place (written.Length n) r h e = rw e h
+told_by place (Err g) r h e = rw e h
+told_by place (Ok n) r h e = rw e h
 
 told_at : (place : ℕ → ℕ) (w r : Written) (after out : List ℕ) → At place w → Answers w after r out → (told r).at ≡ place (told r).number
 told_at place w r after out h p = told_by place w r h p.0
@@ -462,8 +454,8 @@ place_said store_move old all r out p = told_at nowhere _ r _ out (move_at old) 
 
 told_at_c : (place : ℕ → ℕ) (w : Written) (r : Reply) (after out : List ℕ) → At place w → AnswersC w after r out → r.at ≡ place r.number
 unfolding reply_of told
-told_at_c place (written.Refused g) r after out h p = rw p.0 h
-told_at_c place (written.Length n) r after out h p = rw p.0 h
+told_at_c place (Err g) r after out h p = rw p.0 h
+told_at_c place (Ok n) r after out h p = rw p.0 h
 
 pub place_said_c :
     (entry : EntryC) (old : List ℕ) → AllBytes old → (r : Reply) (out : List ℕ) → PromiseC entry old r out → r.at ≡ place_of_c entry old r.number
@@ -516,7 +508,7 @@ other_within s f p k some there =
     rw h.looked
     (omega (arith, h.lies.past_is, taken_less (suc (k - 1)) entries, long, from, section-length c entries, content-length c entries))
 
-comment_within : (s : List ℕ) → AllBytes s → (f : Fields) → read_at s ≡ read.Record f → (k : ℕ) → comment_field s f k ≤ length s
+comment_within : (s : List ℕ) → AllBytes s → (f : Fields) → read_at s ≡ Ok f → (k : ℕ) → comment_field s f k ≤ length s
 unfolding key_numbered
 comment_within s all f e zero = omega arith
 comment_within s all f e (suc zero) =

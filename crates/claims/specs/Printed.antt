@@ -4,7 +4,7 @@
 -- scalar has as many, or one fewer and then a first byte of 0x80 or more.) Of a refused image no more is said than `report_refused`: its
 -- count and place are what length fields say, and in a damaged image such a field may lie where a private byte was. 13.4: the lines of the keys hold
 -- of each key its number, its kind, the bits of its modulus and its comment's length.
-use Rattle.std.specs.Prelude.{ℕ, zero, suc, ◌+◌, ◌*◌, ◌-◌, ◌≤◌, ◌<◌, ◌^◌, ◌≡◌, refl, true, length, take, get_or}
+use Rattle.std.specs.Prelude.{ℕ, zero, suc, ◌+◌, ◌*◌, ◌-◌, ◌≤◌, ◌<◌, ◌^◌, ◌≡◌, refl, true, length, take, get_or, Ok, Err, Some}
 use Rattle.std.proofs.Common.{arith, sym, ◌∙◌, ap₂, length-append}
 use Rattle.std.proofs.Math.Path.{ap}
 use mathlib.Core.List.{List, [], ◌∷◌, map, append-nil}
@@ -38,7 +38,6 @@ use Rattle.reader_entries.specs.Entries.{no_key}
 use Rattle.reader_entries.specs.Back.{KeyFits, AllFit}
 use Rattle.reader_section.specs.declared.Kind.TheVariants as kind
 use Rattle.reader_image.specs.declared.Fields.{Fields}
-use Rattle.reader_image.specs.declared.ImageRead.TheVariants as read
 use Rattle.reader_image.specs.Container.{public_in, keys_in, read_at}
 use Rattle.reader_image.specs.Back.{SealFits, encrypted_image_back}
 use Rattle.reader_image.specs.Read.{ImageText, plain_text, encrypted_text, image_text}
@@ -49,7 +48,6 @@ use Rattle.report_parts.specs.Parts.{printed, refused_line}
 use Rattle.reader_entries.specs.declared.KeyFields.{KeyFields}
 use Rattle.reader_keys.specs.Keys.{first_fields, key_numbered}
 use Rattle.reader_keys.specs.Found.{Lies, key_lies}
-use Rattle.reader_keys.specs.declared.Looked.TheVariants as looked
 use Rattle.keys_report.specs.Lines.{last_word, key_line, line_of, lines_from, keys_report}
 use Rattle.claims.specs.Reading.{image_of, Within, plain_admitted}
 use Rattle.claims.specs.Form.{Stands, keys_form, stands_fit, stands_some}
@@ -272,7 +270,7 @@ report_encrypted c k salt rounds a key ciphertext tag fits limit =
 
 -- accepted, plain: the lengths of its keys' fields, and how many zeros stand before each scalar in the image, decide
 pub report_accepted :
-    (s : List ℕ) (all : AllBytes s) (f : Fields) → read_at s ≡ read.Record f → f.section.kind ≡ kind.Plain
+    (s : List ℕ) (all : AllBytes s) (f : Fields) → read_at s ≡ Ok f → f.section.kind ≡ kind.Plain
     → (zs : List ℕ) × Stands s f zs × (report_of s ≡ lines (shown zs (keys_in s f)))
 report_accepted s all f e plain =
     let p = keys_of s all f e plain in
@@ -295,7 +293,7 @@ report_accepted s all f e plain =
 
 -- accepted, encrypted
 pub report_accepted_encrypted :
-    (s : List ℕ) (all : AllBytes s) (f : Fields) → read_at s ≡ read.Record f → f.section.kind ≡ kind.Encrypted
+    (s : List ℕ) (all : AllBytes s) (f : Fields) → read_at s ≡ Ok f → f.section.kind ≡ kind.Encrypted
     → report_of s
     ≡ lines
     (Encrypted f.header.algorithm (bits (public_in s f).modulus) f.header.cipher f.header.kdf (length (view_of s f.section.ciphertext))
@@ -324,7 +322,7 @@ report_accepted_encrypted s all f e sealed = go (image_text s all f e)
         ∙ ap printed_as (sym (ap length joined))
 
 -- refused
-pub report_refused : (s : List ℕ) (g : Fault) → read_at s ≡ read.Refused g → report_of s ≡ lines (Refused (number_of g.why) (count_of g.why) g.at)
+pub report_refused : (s : List ℕ) (g : Fault) → read_at s ≡ Err g → report_of s ≡ lines (Refused (number_of g.why) (count_of g.why) g.at)
 unfolding report_of summary_of
 report_refused s g e = rw e
 
@@ -363,18 +361,18 @@ next_entry (z ∷ zs) (k ∷ keys) (suc i) fits h = omega (arith, next_entry zs 
 
 -- the line of a key that was looked up
 line_of_lem :
-    (s : List ℕ) (f : Fields) (k : ℕ) (key : KeyFields) (x : Key) → key_numbered s f k ≡ looked.Key key → f.section.kind ≡ kind.Plain → key.algorithm ≡ x.algorithm
+    (s : List ℕ) (f : Fields) (k : ℕ) (key : KeyFields) (x : Key) → key_numbered s f k ≡ Some key → f.section.kind ≡ kind.Plain → key.algorithm ≡ x.algorithm
     → key.public.bits ≡ bits x.public.modulus → key.comment.length ≡ length x.comment → line_of s f k ≡ key_shown k x
 unfolding line_of
 line_of_lem s f k key x found plain algorithm size long = rw (found, plain, algorithm, size, long)
 
 line_sealed :
-    (s : List ℕ) (f : Fields) (size : ℕ) → key_numbered s f 1 ≡ looked.Key (first_fields f) → f.section.kind ≡ kind.Encrypted → f.header.public.bits ≡ size
+    (s : List ℕ) (f : Fields) (size : ℕ) → key_numbered s f 1 ≡ Some (first_fields f) → f.section.kind ≡ kind.Encrypted → f.header.public.bits ≡ size
     → line_of s f 1 ≡ key_line 1 f.header.algorithm size kind.Encrypted 0
 unfolding line_of key_line last_word
 line_sealed s f size found sealed same = rw (found, sealed, same)
 
-module _ (s : List ℕ) (all : AllBytes s) (f : Fields) (e : read_at s ≡ read.Record f) where
+module _ (s : List ℕ) (all : AllBytes s) (f : Fields) (e : read_at s ≡ Ok f) where
   -- the line of the key that i others stand before
   line_is : (plain : f.section.kind ≡ kind.Plain) (i : ℕ) → i < length (keys_in s f) → line_of s f (1 + i) ≡ key_shown (1 + i) (get_or (keys_in s f) i no_key)
   line_is plain i h =
@@ -411,7 +409,7 @@ module _ (s : List ℕ) (all : AllBytes s) (f : Fields) (e : read_at s ≡ read.
       rw e (ap (λ (n : ℕ). join (lines_from s f 1 n)) (one_key sealed) ∙ append-nil (line_of s f 1) ∙ line)
 
 -- refused
-pub keys_refused : (s : List ℕ) (g : Fault) → read_at s ≡ read.Refused g → keys_report s ≡ refused_line (number_of g.why) (count_of g.why) g.at
+pub keys_refused : (s : List ℕ) (g : Fault) → read_at s ≡ Err g → keys_report s ≡ refused_line (number_of g.why) (count_of g.why) g.at
 unfolding keys_report
 keys_refused s g e = rw e
 
@@ -431,8 +429,8 @@ same_shown k (x ∷ keys) (y ∷ others) same = rw (same.0, same.1, same.2, same
 
 -- no byte of the file: two plain files whose keys are of the same kinds, bits and comments' lengths have the same lines, whatever their bytes are
 pub keys_no_byte :
-    (s : List ℕ) (all : AllBytes s) (f : Fields) (e : read_at s ≡ read.Record f) → f.section.kind ≡ kind.Plain
-    → (t : List ℕ) (all' : AllBytes t) (g : Fields) (e' : read_at t ≡ read.Record g) → g.section.kind ≡ kind.Plain
+    (s : List ℕ) (all : AllBytes s) (f : Fields) (e : read_at s ≡ Ok f) → f.section.kind ≡ kind.Plain
+    → (t : List ℕ) (all' : AllBytes t) (g : Fields) (e' : read_at t ≡ Ok g) → g.section.kind ≡ kind.Plain
     → SameShown (keys_in s f) (keys_in t g) → keys_report s ≡ keys_report t
 keys_no_byte s all f e plain t all' g e' plain' same =
     keys_printed s all f e plain ∙ ap join (same_shown 1 (keys_in s f) (keys_in t g) same) ∙ sym (keys_printed t all' g e' plain')

@@ -1,6 +1,6 @@
 -- docs/RULES.md, 16.2, the second demand, of plain images of 1 to 16 keys of all five kinds: read after write gives the record; what the definition of the format admits
 -- within the limits is not refused.
-use Rattle.std.specs.Prelude.{ℕ, suc, ◌+◌, ◌≤◌, ◌<◌, ◌^◌, ◌≡◌, refl, List, [], ◌∷◌, map, leb, take}
+use Rattle.std.specs.Prelude.{ℕ, suc, ◌+◌, ◌≤◌, ◌<◌, ◌^◌, ◌≡◌, refl, List, [], ◌∷◌, map, leb, take, Ok}
 use Rattle.std.proofs.Common.{arith, sym, ◌∙◌, ap, ap₂}
 use borrow.Author.Tests.{le-leb, leb-true}
 use Rattle.std.proofs.Math.ListN.{length}
@@ -13,24 +13,22 @@ use Rattle.reader_header.specs.Place.{plain_allowed}
 use Rattle.reader_entries.specs.Back.{KeyFits, AllFit}
 use Rattle.reader_image.specs.Back.{KeysImageBack, keys_image_back}
 use Rattle.buffer.specs.Puts.{take-splice}
-use Rattle.writer_reply.specs.declared.Written.{Written}
-use Rattle.writer_reply.specs.declared.Written.TheVariants as written
-use Rattle.writer_reply.specs.Reply.{sized, Answers}
+use Rattle.writer_reply.specs.Reply.{sized, Answers, Written}
 use Rattle.writer_plain.specs.Plain.{keys_checked, keys_reply, keys_left, IsPlain, plain_alone, left_alone}
 pub use Rattle.writer_plain.specs.Held.{held, Own, elliptic_held, key_held}
 
 -- ---- an accepted write meets every condition
 
 -- size and room
-pub sized_held : (image : List ℕ) (room k : ℕ) → sized image room ≡ written.Length k → (length image ≤ 65535) × (length image ≤ room) × (k ≡ length image)
+pub sized_held : (image : List ℕ) (room k : ℕ) → sized image room ≡ Ok k → (length image ≤ 65535) × (length image ≤ room) × (k ≡ length image)
 unfolding sized
 sized_held image room k e =
     let h₁ = held (leb (length image) 65535) _ _ k e in
     let h₂ = held (leb (length image) room) _ _ k h₁.1 in
-    let o : length image ≡ k = let q : written.Length (length image) ≡ written.Length k = h₂.1 in cc in
+    let o : length image ≡ k = let q : Ok (length image) ≡ Ok k = h₂.1 in cc in
     (leb-true _ _ h₁.0, leb-true _ _ h₂.0, sym o)
 
-pub sized-fits : (image : List ℕ) (room : ℕ) → length image ≤ 65535 → length image ≤ room → sized image room ≡ written.Length (length image)
+pub sized-fits : (image : List ℕ) (room : ℕ) → length image ≤ 65535 → length image ≤ room → sized image room ≡ Ok (length image)
 unfolding sized
 sized-fits image room h k = rw (le-leb _ _ h, le-leb _ _ k)
 
@@ -55,9 +53,9 @@ trimmed_key k = key_of k.algorithm k.public (trimmed k.algorithm k.private) k.co
 
 -- keys that passed their tests fit once their scalars are trimmed, and are filled again to what they were
 keys_held :
-    (keys : List Key) (next : Written) (k : ℕ) → keys_checked keys next ≡ written.Length k
+    (keys : List Key) (next : Written) (k : ℕ) → keys_checked keys next ≡ Ok k
     → (AllOwn keys → AllFit (map key_zeros (map trimmed_key keys)) (map trimmed_key keys) × (map filled_key (map trimmed_key keys) ≡ keys))
-    × (next ≡ written.Length k)
+    × (next ≡ Ok k)
 unfolding keys_checked
 keys_held [] next k e = (λ own. (tt, refl), e)
 keys_held (x ∷ keys) next k e =
@@ -103,7 +101,7 @@ module _ (keys : List Key) (n : ℕ) where
     pub room_enough : length (written_image n keys) ≤ room
     pub size : k ≡ length (written_image n keys)
 
-  pub plain_accepted : (room k : ℕ) → keys_reply keys n room ≡ written.Length k → PlainAccepted room k
+  pub plain_accepted : (room k : ℕ) → keys_reply keys n room ≡ Ok k → PlainAccepted room k
   unfolding keys_reply
   plain_accepted room k e =
       let h₁ = held _ _ _ k e in
@@ -121,7 +119,7 @@ module _ (keys : List Key) (n : ℕ) where
       }
 
   -- the first bytes of the buffer are then the image
-  pub plain_written : (old : List ℕ) (k : ℕ) → keys_reply keys n (length old) ≡ written.Length k → take k (keys_left keys n old) ≡ written_image n keys
+  pub plain_written : (old : List ℕ) (k : ℕ) → keys_reply keys n (length old) ≡ Ok k → take k (keys_left keys n old) ≡ written_image n keys
   unfolding keys_left
   plain_written old k e =
       let h = plain_accepted (length old) k e in
@@ -160,7 +158,7 @@ written_within keys n room k small own h =
 
 -- read after write gives the record, whose scalars have no leading zeros; filled to SIZE again, they are what was written (`material`)
 pub read_after_write :
-    (x : Key) (others : List Key) (n : ℕ) (old : List ℕ) (k : ℕ) → n < 2 ^ 32 → AllOwn (x ∷ others) → keys_reply (x ∷ others) n (length old) ≡ written.Length k
+    (x : Key) (others : List Key) (n : ℕ) (old : List ℕ) (k : ℕ) → n < 2 ^ 32 → AllOwn (x ∷ others) → keys_reply (x ∷ others) n (length old) ≡ Ok k
     → KeysImageBack (take k (keys_left (x ∷ others) n old)) n (trimmed_key x) (map trimmed_key others)
     (padding_length (length (content n (map written_entry (x ∷ others)))))
 read_after_write x others n old k small own e =

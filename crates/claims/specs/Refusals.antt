@@ -1,7 +1,8 @@
 -- docs/RULES.md, 16.1, the first demand: any input to any public entry that takes a lent buffer; a refused call changes no byte of it. The entries stand in one list,
 -- each with all that it is given beside the buffer, and with the promise that its contract cites.
-use Rattle.std.specs.Prelude.{ℕ, ◌*◌, ◌≡◌, refl, Bool, true, false, List, map, eqb, length}
+use Rattle.std.specs.Prelude.{ℕ, ◌*◌, ◌≡◌, refl, Bool, true, false, List, map, eqb, length, Result, Ok, Err, Option}
 use Rattle.std.proofs.Common.{sym, ◌∙◌, ap}
+use Rattle.fields.specs.declared.Refusal.{Refusal}
 use Rattle.fields.specs.Place.{clash, by_bool}
 use Rattle.fields.specs.declared.Fault.{Fault}
 use Rattle.names.specs.declared.Elliptic.{Elliptic}
@@ -13,7 +14,6 @@ use Rattle.names_codes.specs.Codes.{algorithm_coded, cipher_coded, kdf_coded}
 use Rattle.format.specs.Format.{PublicBytes, PrivateBytes, Key, key_of, filled_key, of_point, of_scalar, of_modulus, of_numbers}
 use Rattle.key_material.specs.Material.{public_of, private_of, checkint_of}
 use Rattle.key_material.specs.declared.Material.{Material}
-use Rattle.key_material.specs.declared.Checkint.{Checkint}
 use Rattle.key_public.specs.Keys.{on_algorithm}
 use Rattle.laws_keys.specs.Read.{by_algorithm}
 use Rattle.reader_header.specs.Place.{by_cipher_name, by_kdf_name}
@@ -23,9 +23,7 @@ use Rattle.reader_image.specs.declared.Fields.{Fields}
 use Rattle.reader_image.specs.Container.{keys_in, read_at}
 use Rattle.reader_image.specs.FormLaws.{by_read}
 use Rattle.handed_record.specs.Judge.{is_read}
-use Rattle.writer_reply.specs.Reply.{told, left, Answers}
-use Rattle.writer_reply.specs.declared.Written.{Written}
-use Rattle.writer_reply.specs.declared.Written.TheVariants as written
+use Rattle.writer_reply.specs.Reply.{told, left, Answers, Written}
 use Rattle.writer_plain.specs.Plain.{keys_reply, keys_left, plain_reply, plain_left, IsPlain}
 use Rattle.writer_encrypted.specs.Encrypted.{encrypted_reply, encrypted_left, IsEncrypted}
 use Rattle.writer_keys.specs.Named.{named_reply, named_left, IsNamed, first_private}
@@ -33,8 +31,6 @@ use Rattle.writer_listed.specs.Listed.{listed_keys, IsListed}
 use Rattle.writer_again.specs.Rewrite.{plain_again, plain_again_left, record_reply, record_left, rewrite_reply, rewrite_left, IsRewritten, handed_reply, handed_left, IsHanded, reply_plain, left_plain}
 use Rattle.armour_text.specs.Text.{export_reply, export_left}
 use Rattle.armour_text.specs.Import.{import_reply, import_left}
-use Rattle.setting_record.specs.declared.Packed.{Packed}
-use Rattle.setting_record.specs.declared.Packed.TheVariants as packed
 use Rattle.setting_record.specs.Packing.{pack_of}
 use Rattle.setting_record.specs.Record.{packed_reply, packed_left, write_reply, write_left}
 use Rattle.setting_store.specs.Store.{has_place, put_reply, put_left}
@@ -57,14 +53,14 @@ use Rattle.claims.specs.Change.{refused_stays}
 pub data Entry : Type 0 where
   write_parts : Elliptic → List ℕ → List ℕ → ℕ → List ℕ → Entry
   write_numbers : List ℕ → List ℕ → List ℕ → List ℕ → List ℕ → List ℕ → ℕ → List ℕ → Entry
-  write_rsa : List ℕ → List ℕ → List ℕ → List ℕ → List ℕ → List ℕ → Checkint → List ℕ → Entry
-  write_plain : Material → Checkint → List ℕ → Entry
+  write_rsa : List ℕ → List ℕ → List ℕ → List ℕ → List ℕ → List ℕ → Option ℕ → List ℕ → Entry
+  write_plain : Material → Option ℕ → List ℕ → Entry
   write_encrypted : Cipher → Kdf → List ℕ → ℕ → List ℕ → List ℕ → List ℕ → Entry
   rewrite : List ℕ → Entry
   rewrite_record : List ℕ → Fields → Entry
   recorded_rewrite : List ℕ → Fields → Entry
   write_listed : List ℕ → Fields → Entry
-  write_keys : List ℕ → List ℕ → Checkint → Entry
+  write_keys : List ℕ → List ℕ → Option ℕ → Entry
   write_named : List ℕ → List ℕ → ℕ → Entry
   change_comment : ℕ → List ℕ → Entry
   change_comment_of : ℕ → ℕ → List ℕ → Entry
@@ -172,13 +168,13 @@ PromiseC saltorchard_store_move old r out = AnswersC (move_reply old) (move_left
 
 plain_keeps :
     (a : Algorithm) (key : PublicBytes) (x : PrivateBytes) (checkint : ℕ) (comment old : List ℕ) (g : Fault)
-    → plain_reply a key x checkint comment (length old) ≡ written.Refused g → plain_left a key x checkint comment old ≡ old
+    → plain_reply a key x checkint comment (length old) ≡ Err g → plain_left a key x checkint comment old ≡ old
 unfolding plain_left
 plain_keeps a key x checkint comment old g e = rw e
 
 encrypted_keeps :
     (cipher : Cipher) (k : Kdf) (salt : List ℕ) (rounds : ℕ) (blob ciphertext tag old : List ℕ) (g : Fault)
-    → encrypted_reply cipher k salt rounds blob ciphertext tag (length old) ≡ written.Refused g
+    → encrypted_reply cipher k salt rounds blob ciphertext tag (length old) ≡ Err g
     → encrypted_left cipher k salt rounds blob ciphertext tag old ≡ old
 unfolding encrypted_left
 encrypted_keeps cipher k salt rounds blob ciphertext tag old g e = rw e
@@ -188,11 +184,11 @@ by_kind Plain plain encrypted = plain refl
 by_kind Encrypted plain encrypted = encrypted refl
 
 keys_keeps :
-    (keys : List Key) (checkint : ℕ) (old : List ℕ) (g : Fault) → keys_reply keys checkint (length old) ≡ written.Refused g → keys_left keys checkint old ≡ old
+    (keys : List Key) (checkint : ℕ) (old : List ℕ) (g : Fault) → keys_reply keys checkint (length old) ≡ Err g → keys_left keys checkint old ≡ old
 unfolding keys_left
 keys_keeps keys checkint old g e = rw e
 
-record_keeps : (s : List ℕ) (f : Fields) (old : List ℕ) (g : Fault) → record_reply s f (length old) ≡ written.Refused g → record_left s f old ≡ old
+record_keeps : (s : List ℕ) (f : Fields) (old : List ℕ) (g : Fault) → record_reply s f (length old) ≡ Err g → record_left s f old ≡ old
 unfolding record_reply record_left plain_again plain_again_left
 record_keeps s f old g e =
     by_kind f.section.kind
@@ -201,14 +197,14 @@ record_keeps s f old g e =
     ∙ keys_keeps (map filled_key (keys_in s f)) f.section.checkint old g (sym (reply_plain s f k (length old)) ∙ e))
     (λ k. rw k (encrypted_keeps _ _ _ _ _ _ _ old g (rw k at e)))
 
-rewrite_keeps : (s old : List ℕ) (g : Fault) → rewrite_reply s (length old) ≡ written.Refused g → rewrite_left s old ≡ old
+rewrite_keeps : (s old : List ℕ) (g : Fault) → rewrite_reply s (length old) ≡ Err g → rewrite_left s old ≡ old
 unfolding rewrite_reply rewrite_left
 rewrite_keeps s old g e =
     by_read (read_at s)
     (λ h w. rw w)
     (λ f w. rw w (record_keeps s f old g (rw w at e)))
 
-handed_keeps : (s : List ℕ) (f : Fields) (old : List ℕ) (g : Fault) → handed_reply s f (length old) ≡ written.Refused g → handed_left s f old ≡ old
+handed_keeps : (s : List ℕ) (f : Fields) (old : List ℕ) (g : Fault) → handed_reply s f (length old) ≡ Err g → handed_left s f old ≡ old
 unfolding handed_reply handed_left
 handed_keeps s f old g e =
     by_bool (is_read s f)
@@ -217,7 +213,7 @@ handed_keeps s f old g e =
 
 coded_plain_keeps :
     (code : ℕ) (public private : List ℕ) (checkint : ℕ) (comment old : List ℕ) (g : Fault)
-    → coded_plain_reply code public private checkint comment (length old) ≡ written.Refused g
+    → coded_plain_reply code public private checkint comment (length old) ≡ Err g
     → coded_plain_left code public private checkint comment old ≡ old
 unfolding coded_plain_reply coded_plain_left
 coded_plain_keeps code public private checkint comment old g e =
@@ -227,14 +223,14 @@ coded_plain_keeps code public private checkint comment old g e =
   where
     by_kind_of :
         (a : Algorithm)
-        → on_algorithm a (λ k. plain_reply (OnCurve k) (of_point public) (of_scalar private) checkint comment (length old)) names_nothing ≡ written.Refused g
+        → on_algorithm a (λ k. plain_reply (OnCurve k) (of_point public) (of_scalar private) checkint comment (length old)) names_nothing ≡ Err g
         → on_algorithm a (λ k. plain_left (OnCurve k) (of_point public) (of_scalar private) checkint comment old) old ≡ old
     by_kind_of (OnCurve k) f = plain_keeps (OnCurve k) (of_point public) (of_scalar private) checkint comment old g f
     by_kind_of Rsa f = refl
 
 coded_encrypted_keeps :
     (cipher k : ℕ) (salt : List ℕ) (rounds : ℕ) (blob ciphertext tag old : List ℕ) (g : Fault)
-    → coded_encrypted_reply cipher k salt rounds blob ciphertext tag (length old) ≡ written.Refused g
+    → coded_encrypted_reply cipher k salt rounds blob ciphertext tag (length old) ≡ Err g
     → coded_encrypted_left cipher k salt rounds blob ciphertext tag old ≡ old
 unfolding coded_encrypted_reply coded_encrypted_left
 coded_encrypted_keeps cipher k salt rounds blob ciphertext tag old g e =
@@ -248,29 +244,29 @@ coded_encrypted_keeps cipher k salt rounds blob ciphertext tag old g e =
     (λ d v. rw v (encrypted_keeps c d salt rounds blob ciphertext tag old g (rw v at e')))))
 
 named_keeps :
-    (filling : Bool) (text table : List ℕ) (checkint : ℕ) (old : List ℕ) (g : Fault) → named_reply filling text table checkint (length old) ≡ written.Refused g
+    (filling : Bool) (text table : List ℕ) (checkint : ℕ) (old : List ℕ) (g : Fault) → named_reply filling text table checkint (length old) ≡ Err g
     → named_left filling text table checkint old ≡ old
 unfolding named_left
 named_keeps filling text table checkint old g e = rw e
 
-change_keeps : (n k : ℕ) (comment old : List ℕ) (g : Fault) → change_reply old n k comment ≡ written.Refused g → change_left old n k comment ≡ old
+change_keeps : (n k : ℕ) (comment old : List ℕ) (g : Fault) → change_reply old n k comment ≡ Err g → change_left old n k comment ≡ old
 change_keeps n k comment old g e = refused_stays (change k comment) old n g e
 
-remove_keeps : (n k : ℕ) (old : List ℕ) (g : Fault) → remove_reply old n k ≡ written.Refused g → remove_left old n k ≡ old
+remove_keeps : (n k : ℕ) (old : List ℕ) (g : Fault) → remove_reply old n k ≡ Err g → remove_left old n k ≡ old
 remove_keeps n k old g e = refused_stays (remove k) old n g e
 
 curve_keeps :
-    (n : ℕ) (e : Elliptic) (public private comment old : List ℕ) (g : Fault) → add_reply old n (curve_key e public private comment) ≡ written.Refused g
+    (n : ℕ) (e : Elliptic) (public private comment old : List ℕ) (g : Fault) → add_reply old n (curve_key e public private comment) ≡ Err g
     → add_left old n (curve_key e public private comment) ≡ old
 curve_keeps n e public private comment old g w = refused_stays (add (curve_key e public private comment) (refl, refl)) old n g w
 
 rsa_keeps :
-    (n : ℕ) (m e d iqmp p q comment old : List ℕ) (g : Fault) → add_reply old n (rsa_key m e d iqmp p q comment) ≡ written.Refused g
+    (n : ℕ) (m e d iqmp p q comment old : List ℕ) (g : Fault) → add_reply old n (rsa_key m e d iqmp p q comment) ≡ Err g
     → add_left old n (rsa_key m e d iqmp p q comment) ≡ old
 rsa_keeps n m e d iqmp p q comment old g w = refused_stays (add (rsa_key m e d iqmp p q comment) (refl, refl)) old n g w
 
 coded_add_keeps :
-    (n code : ℕ) (public private comment old : List ℕ) (g : Fault) → coded_add_reply old n code public private comment ≡ written.Refused g
+    (n code : ℕ) (public private comment old : List ℕ) (g : Fault) → coded_add_reply old n code public private comment ≡ Err g
     → coded_add_left old n code public private comment ≡ old
 unfolding coded_add_reply coded_add_left
 coded_add_keeps n code public private comment old g w =
@@ -279,38 +275,38 @@ coded_add_keeps n code public private comment old g w =
     (λ a e. rw e (by_kind_of a (rw e at w)))
   where
     by_kind_of :
-        (a : Algorithm) → on_algorithm a (λ k. add_reply old n (curve_key k public private comment)) names_nothing ≡ written.Refused g
+        (a : Algorithm) → on_algorithm a (λ k. add_reply old n (curve_key k public private comment)) names_nothing ≡ Err g
         → on_algorithm a (λ k. add_left old n (curve_key k public private comment)) old ≡ old
     by_kind_of (OnCurve k) f = curve_keeps n k public private comment old g f
     by_kind_of Rsa f = refl
 
-text_keeps : (text old : List ℕ) (g : Fault) → text_reply text old ≡ written.Refused g → placed old 0 text ≡ old
+text_keeps : (text old : List ℕ) (g : Fault) → text_reply text old ≡ Err g → placed old 0 text ≡ old
 unfolding placed
 text_keeps text old g e =
     by_bool (fits old 0 text)
-    (λ b. let d : written.Length (length text) ≡ written.Refused g = rw b at e in clash cc)
+    (λ b. let d : Ok (length text) ≡ Err g = rw b at e in clash cc)
     (λ b. rw b)
 
-report_keeps : (s old : List ℕ) (g : Fault) → report_reply s old ≡ written.Refused g → placed old 0 (report_of s) ≡ old
+report_keeps : (s old : List ℕ) (g : Fault) → report_reply s old ≡ Err g → placed old 0 (report_of s) ≡ old
 unfolding report_reply
 report_keeps s old g e = text_keeps (report_of s) old g e
 
-export_keeps : (b old : List ℕ) (g : Fault) → export_reply b (length old) ≡ written.Refused g → export_left b old ≡ old
+export_keeps : (b old : List ℕ) (g : Fault) → export_reply b (length old) ≡ Err g → export_left b old ≡ old
 unfolding export_left
 export_keeps b old g e = rw e
 
-import_keeps : (t old : List ℕ) (g : Fault) → import_reply t (length old) ≡ written.Refused g → import_left t old ≡ old
+import_keeps : (t old : List ℕ) (g : Fault) → import_reply t (length old) ≡ Err g → import_left t old ≡ old
 unfolding import_left
 import_keeps t old g e = rw e
 
 packed_keeps :
-    (ok : Bool) (p : Packed) (size at : ℕ) (old : List ℕ) (g : Fault) → packed_reply ok p size ≡ written.Refused g → packed_left ok p at old ≡ old
+    (ok : Bool) (p : Result ℕ Refusal) (size at : ℕ) (old : List ℕ) (g : Fault) → packed_reply ok p size ≡ Err g → packed_left ok p at old ≡ old
 unfolding packed_reply packed_left
 packed_keeps false p size at old g e = refl
-packed_keeps true (packed.Refused why) size at old g e = refl
-packed_keeps true (packed.Record n) size at old g e = clash cc
+packed_keeps true (Err why) size at old g e = refl
+packed_keeps true (Ok n) size at old g e = clash cc
 
-move_keeps : (old : List ℕ) (g : Fault) → move_reply old ≡ written.Refused g → move_left old ≡ old
+move_keeps : (old : List ℕ) (g : Fault) → move_reply old ≡ Err g → move_left old ≡ old
 unfolding move_left
 move_keeps old g e = rw e
 
@@ -318,12 +314,12 @@ move_keeps old g e = rw e
 
 -- a promise whose answer is refused, of one that keeps the buffer where it refuses
 kept :
-    (w r : Written) (after out old : List ℕ) (g : Fault) → ((h : Fault) → w ≡ written.Refused h → after ≡ old) → Answers w after r out
-    → r ≡ written.Refused g → out ≡ old
+    (w r : Written) (after out old : List ℕ) (g : Fault) → ((h : Fault) → w ≡ Err h → after ≡ old) → Answers w after r out
+    → r ≡ Err g → out ≡ old
 kept w r after out old g keeps p e = p.1 ∙ keeps g (sym p.0 ∙ e)
 
 -- a refused call of any entry leaves every byte
-pub refused_keeps : (entry : Entry) (old : List ℕ) (r : Written) (out : List ℕ) (g : Fault) → Promise entry old r out → r ≡ written.Refused g → out ≡ old
+pub refused_keeps : (entry : Entry) (old : List ℕ) (r : Written) (out : List ℕ) (g : Fault) → Promise entry old r out → r ≡ Err g → out ≡ old
 refused_keeps (write_parts e point scalar checkint comment) old r out g promise q =
     kept _ r _ out old g (plain_keeps (OnCurve e) (of_point point) (of_scalar scalar) checkint comment old) promise q
 refused_keeps (write_numbers n e d iqmp p q checkint comment) old r out g promise w =
@@ -366,11 +362,11 @@ refused_keeps store_move old r out g p e = kept _ r _ out old g (move_keeps old)
 
 -- over C a refusal is a number that isn't 0
 kept_c :
-    (w : Written) (r : Reply) (after out old : List ℕ) → ((h : Fault) → w ≡ written.Refused h → after ≡ old) → AnswersC w after r out
+    (w : Written) (r : Reply) (after out old : List ℕ) → ((h : Fault) → w ≡ Err h → after ≡ old) → AnswersC w after r out
     → (r.number ≡ 0 → ⊥) → out ≡ old
 unfolding reply_of told
-kept_c (written.Refused g) r after out old keeps p refused = p.1 ∙ keeps g refl
-kept_c (written.Length n) r after out old keeps p refused = absurd (refused (ap (λ (x : Reply). x.number) p.0))
+kept_c (Err g) r after out old keeps p refused = p.1 ∙ keeps g refl
+kept_c (Ok n) r after out old keeps p refused = absurd (refused (ap (λ (x : Reply). x.number) p.0))
 
 pub refused_keeps_c : (entry : EntryC) (old : List ℕ) (r : Reply) (out : List ℕ) → PromiseC entry old r out → (r.number ≡ 0 → ⊥) → out ≡ old
 refused_keeps_c (saltorchard_write_plain code public private derive checkint comment) old r out p refused =

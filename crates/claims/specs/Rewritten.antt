@@ -1,7 +1,7 @@
 -- docs/RULES.md, 11, and 16.2, the second demand: what the plain writer writes is in the form. So is what a rewrite writes of an accepted image, and it is read as the same
 -- record, with the same keys in their order, each scalar in its form. It does write: `rewrite_sized` (Form) says that a rewrite of an accepted image is refused for size and room
 -- only.
-use Rattle.std.specs.Prelude.{ℕ, suc, ◌-◌, ◌%◌, ◌≤◌, ◌<◌, ◌^◌, ◌≡◌, refl, eqb, take}
+use Rattle.std.specs.Prelude.{ℕ, suc, ◌-◌, ◌%◌, ◌≤◌, ◌<◌, ◌^◌, ◌≡◌, refl, eqb, take, Result, Ok, Err}
 use Rattle.std.proofs.Common.{arith, ◌∙◌}
 use Rattle.std.proofs.Math.Path.{sym, ap}
 use Rattle.std.proofs.Math.Bool.{true}
@@ -9,7 +9,7 @@ use mathlib.Core.List.{List, [], ◌∷◌, map}
 use Rattle.std.proofs.Math.ListN.{length}
 use Rattle.fields.specs.Bytes.{AllBytes, same_true, same_self}
 use Rattle.fields.specs.Fields.{fault, absent, within, bytes_at, string_at, end_at, view_of}
-use Rattle.fields.specs.Place.{clash, by_bool, by_field, by_uint32, by_ending}
+use Rattle.fields.specs.Place.{clash, by_bool, by_read, by_tested}
 use Rattle.fields.specs.Rest.{view_absent}
 use Rattle.fields.specs.declared.Cursor.{Cursor}
 use Rattle.fields.specs.declared.Refusal.TheVariants.{Crypto}
@@ -26,33 +26,31 @@ use Rattle.reader_section.specs.declared.Kind.TheVariants.{Plain, Encrypted}
 use Rattle.reader_header.specs.declared.Header.{Header}
 use Rattle.reader_header.specs.Header.{on_kdf, keys_allowed, second_blob}
 use Rattle.reader_header.specs.Place.{keys_sealed, one_allowed}
-use Rattle.reader_section.specs.declared.SectionRead.{SectionRead}
-use Rattle.reader_section.specs.declared.SectionRead.TheVariants as section_read
 use Rattle.reader_entries.specs.Entries.{keys_at, key_read_of}
 use Rattle.reader_entries.proofs.Read.{by_keys}
 use Rattle.reader_section.specs.Section.{checkints_at, padding_at, closed_at, content_at, ended_at, plain_at, encrypted_at}
 use Rattle.reader_entries.specs.Back.{KeyFits, AllFit}
 use Rattle.reader_section.specs.Read.{by_section}
 use Rattle.reader_image.specs.declared.Fields.{Fields}
-use Rattle.reader_image.specs.declared.ImageRead.TheVariants as read
 use Rattle.reader_image.specs.Container.{public_in, private_in, first_in, other_places, keys_in, kdf_name_place, section_at, read_at}
 use Rattle.reader_image.specs.Form.{rewritten, form_of}
 use Rattle.reader_image.specs.Read.{halves, KeysText, ImageText, plain_text, encrypted_text, image_text}
 use Rattle.reader_image.specs.FormLaws.{fit_private, rewritten_plain, form_encrypted}
 use Rattle.reader_image.specs.Back.{keys_image_back}
-use Rattle.writer_reply.specs.declared.Written.{Written}
-use Rattle.writer_reply.specs.declared.Written.TheVariants as written
 use Rattle.writer_plain.specs.Plain.{keys_left}
 use Rattle.writer_again.specs.Rewrite.{IsRewritten}
 use Rattle.claims.specs.Reading.{AllOwn, Writes, trimmed_key, plain_accepted, plain_written, written_stands, read_after_write}
 use Rattle.claims.specs.Form.{keys_form, rewrite_written}
 use Rattle.claims.specs.Change.{one_record}
+use Rattle.fields.specs.declared.Fault.{Fault}
+use Rattle.reader_section.specs.declared.Section.{Section}
+use Rattle.writer_reply.specs.Reply.{Written}
 
 -- ---- what the plain writer writes
 
 pub plain_in_form :
-    (keys : List Key) (n : ℕ) (old : List ℕ) (r : Written) (out : List ℕ) (k : ℕ) → n < 2 ^ 32 → AllOwn keys → Writes keys n old r out → r ≡ written.Length k
-    → (f : Fields) × (read_at (take k out) ≡ read.Record f) × (form_of (take k out) f ≡ true)
+    (keys : List Key) (n : ℕ) (old : List ℕ) (r : Written) (out : List ℕ) (k : ℕ) → n < 2 ^ 32 → AllOwn keys → Writes keys n old r out → r ≡ Ok k
+    → (f : Fields) × (read_at (take k out) ≡ Ok f) × (form_of (take k out) f ≡ true)
 plain_in_form [] n old r out k small own meets answered =
     absurd (omega (arith, (plain_accepted [] n (length old) k (sym meets.0 ∙ answered)).some))
 plain_in_form (x ∷ others) n old r out k small own meets answered =
@@ -91,7 +89,7 @@ pub record SameRecord (s : List ℕ) (f : Fields) (t : List ℕ) (g : Fields) : 
 -- what is written of the record f of s
 pub record Rewritten (s : List ℕ) (f : Fields) (t : List ℕ) : Type 0 where
   pub fields : Fields
-  pub read : read_at t ≡ read.Record fields
+  pub read : read_at t ≡ Ok fields
   pub form : form_of t fields ≡ true
   pub same : SameRecord s f t fields
   -- before each scalar of a plain image stand the zeros that the writer's rule asks for
@@ -101,9 +99,9 @@ pub record Rewritten (s : List ℕ) (f : Fields) (t : List ℕ) : Type 0 where
 
 -- ---- a plain section has neither ciphertext nor tag
 
-abbrev Open : SectionRead → Type 0
-Open (section_read.Refused g) = Unit {0}
-Open (section_read.Section x) = x.kind ≡ Plain → (x.ciphertext ≡ absent) × (x.tag ≡ absent)
+abbrev Open : Result Section Fault → Type 0
+Open (Err g) = Unit {0}
+Open (Ok x) = x.kind ≡ Plain → (x.ciphertext ≡ absent) × (x.tag ≡ absent)
 
 content_open : (s : List ℕ) (c : Cursor) (a : Algorithm) (q : Public) (o : Cursor) (more : ℕ) → Open (content_at s c a q o more)
 unfolding content_at closed_at
@@ -111,7 +109,7 @@ content_open s c a q o more =
     by_bool (eqb ((c.end - c.at) % 8) 0)
     (λ w.
     rw w
-    (by_uint32 (checkints_at s c)
+    (by_read (checkints_at s c)
     (λ g v. rw v tt)
     (λ n d v.
     rw v
@@ -119,7 +117,7 @@ content_open s c a q o more =
     (λ g u. rw u tt)
     (λ y m places b u.
     rw u
-    (by_ending (padding_at s b)
+    (by_tested (padding_at s b)
     (λ g t. rw t tt)
     (λ t. rw t (λ plain. (refl, refl)))))))))
     (λ w. rw w tt)
@@ -127,7 +125,7 @@ content_open s c a q o more =
 plain_open : (s : List ℕ) (c : Cursor) (a : Algorithm) (q : Public) (o : Cursor) (more : ℕ) → Open (plain_at s c a q o more)
 unfolding plain_at ended_at
 plain_open s c a q o more =
-    by_field (string_at s c)
+    by_read (string_at s c)
     (λ g w. rw w tt)
     (λ p d w.
     rw w
@@ -135,25 +133,25 @@ plain_open s c a q o more =
     (λ g v. rw v tt)
     (λ x v.
     rw v
-    (by_ending (end_at d)
+    (by_tested (end_at d)
     (λ g u. rw u tt)
     (λ u. rw u (rw v at (content_open s (within p) a q o more)))))))
 
 encrypted_open : (s : List ℕ) (c : Cursor) (k : Cipher) → Open (encrypted_at s c k)
 unfolding encrypted_at
 encrypted_open s c k =
-    by_field (string_at s c)
+    by_read (string_at s c)
     (λ g w. rw w tt)
     (λ p d w.
     rw w
     (by_bool (eqb (p.length % block_size k) 0)
     (λ v.
     rw v
-    (by_field (bytes_at s d (tag_length k))
+    (by_read (bytes_at s d (tag_length k))
     (λ g u. rw u tt)
     (λ m b u.
     rw u
-    (by_ending (end_at b)
+    (by_tested (end_at b)
     (λ g t. rw t tt)
     (λ t. rw t (λ plain. clash cc))))))
     (λ v. rw v tt)))
@@ -167,12 +165,12 @@ section_open s h =
     (λ w. rw w (encrypted_open s c h.cipher))
   where
     by_kdf : (k : Kdf) → Open (plain_at s (record { at = h.section; end = length s }) h.algorithm h.public (second_blob s h) (h.count - 1))
-        → Open (on_kdf k (plain_at s (record { at = h.section; end = length s }) h.algorithm h.public (second_blob s h) (h.count - 1)) (section_read.Refused (fault Crypto kdf_name_place)))
+        → Open (on_kdf k (plain_at s (record { at = h.section; end = length s }) h.algorithm h.public (second_blob s h) (h.count - 1)) (Err (fault Crypto kdf_name_place)))
     by_kdf kdf.None h₁ = h₁
     by_kdf kdf.Bcrypt h₁ = tt
 
 no_seal :
-    (s : List ℕ) (f : Fields) → read_at s ≡ read.Record f → f.section.kind ≡ Plain
+    (s : List ℕ) (f : Fields) → read_at s ≡ Ok f → f.section.kind ≡ Plain
     → (view_of s f.section.ciphertext ≡ []) × (view_of s f.section.tag ≡ [])
 no_seal s f e plain =
     let none = rw (halves s f e).1 at (section_open s f.header) in
@@ -201,7 +199,7 @@ rule_fit (z ∷ zs) (k ∷ keys) fits =
 count_plain : (c : Cipher) (n : ℕ) → keys_allowed c n ≡ true → keys_allowed cipher.None n ≡ true
 count_plain c n e = by_bool (is_none c) (λ w. rw w at e) (λ w. rw (keys_sealed c n w e) (one_allowed cipher.None))
 
-module _ (s : List ℕ) (all : AllBytes s) (f : Fields) (e : read_at s ≡ read.Record f) where
+module _ (s : List ℕ) (all : AllBytes s) (f : Fields) (e : read_at s ≡ Ok f) where
   -- a plain record is written with the zeros that the rule asks for
   plain_read : f.section.kind ≡ Plain → KeysText s f → length (rewritten s f) ≤ 65535 → Rewritten s f (rewritten s f)
   unfolding keys_in
@@ -282,7 +280,7 @@ module _ (s : List ℕ) (all : AllBytes s) (f : Fields) (e : read_at s ≡ read.
 
   -- whatever meets the contract of a rewrite, and answers a length
   pub rewrite_read :
-      (old : List ℕ) (r : Written) (out : List ℕ) (k : ℕ) → IsRewritten s old r out → r ≡ written.Length k → Rewritten s f (take k out)
+      (old : List ℕ) (r : Written) (out : List ℕ) (k : ℕ) → IsRewritten s old r out → r ≡ Ok k → Rewritten s f (take k out)
   unfolding form_of
   rewrite_read old r out k meets answered =
       let h = rewrite_written s all f e old k (sym meets.0 ∙ answered) in

@@ -1,6 +1,6 @@
 -- docs/RULES.md, 6.7 and 6.8: the bits that a record tells of a key are those of its modulus, which of an RSA key in an accepted image has 1,024 to 8,192. They are the
 -- number's own: it is below 2 to the power of its bits, and not below half of that.
-use Rattle.std.specs.Prelude.{ℕ, ◌+◌, ◌-◌, ◌≤◌, ◌<◌, ◌^◌, ◌≡◌, refl, List, eqb, leb, ltb, length, get_or}
+use Rattle.std.specs.Prelude.{ℕ, ◌+◌, ◌-◌, ◌≤◌, ◌<◌, ◌^◌, ◌≡◌, refl, List, eqb, leb, ltb, length, get_or, Ok, Some, None}
 use Rattle.std.proofs.Common.{arith, sym, ◌∙◌, ap, leb-true, leb-false, ltb-true, ltb-false, le-ltb}
 use Rattle.std.specs.Int.Count.{count_leading_zeros}
 use Rattle.std.proofs.Math.ListN.{get_or-eq_default}
@@ -26,10 +26,8 @@ use Rattle.reader_entries.specs.declared.KeyFields.{KeyFields}
 use Rattle.reader_entries.specs.Entries.{entry_at, on_key_read, key_placed}
 use Rattle.reader_entries.proofs.Read.{by_entry}
 use Rattle.reader_image.specs.declared.Fields.{Fields}
-use Rattle.reader_image.specs.declared.ImageRead.TheVariants as read
 use Rattle.reader_image.specs.Container.{read_at}
 use Rattle.reader_image.specs.Read.{halves}
-use Rattle.reader_keys.specs.declared.Looked.TheVariants as looked
 use Rattle.reader_keys.specs.Keys.{place_of, first_fields, other_key, key_numbered}
 
 -- a part of bytes is bytes
@@ -59,7 +57,7 @@ pub record PublicTold (s : List ℕ) (key : KeyFields) : Type 0 where
   pub lies : key.public ≡ public_place end key.algorithm (public_bytes s key.public)
 
 -- of a key that its blob's place gives
-placed_told : (s : List ℕ) → AllBytes s → (b : Cursor) (at : ℕ) (key : KeyFields) → on_key_read (key_placed s b at) looked.Nothing (λ k d. looked.Key k) ≡ looked.Key key → PublicTold s key
+placed_told : (s : List ℕ) → AllBytes s → (b : Cursor) (at : ℕ) (key : KeyFields) → on_key_read (key_placed s b at) None (λ k d. Some k) ≡ Some key → PublicTold s key
 unfolding key_placed
 placed_told s all b at key e =
     by_blob_field (blob_field_at s b)
@@ -69,12 +67,12 @@ placed_told s all b at key e =
     by_entry (entry_at s (record { at = at; end = length s }) a public)
     (λ f v. let h = rw v at g in clash cc)
     (λ private comment c v.
-    let h : looked.Key (record { algorithm = a; blob = p; public = public; begins = at; private = private; comment = comment }) ≡ looked.Key key = rw v at g in
+    let h : Some (record { algorithm = a; blob = p; public = public; begins = at; private = private; comment = comment }) ≡ Some key = rw v at g in
     let same : record { algorithm = a; blob = p; public = public; begins = at; private = private; comment = comment } ≡ key = cc in
     let t = blob-text s all b a p public d w in
     rw (← same) (record { fits = t.fits; end = d.at; lies = t.lies })))
 
-other_told : (s : List ℕ) → AllBytes s → (first : Part) (between at : ℕ) (key : KeyFields) → other_key s first between at ≡ looked.Key key → PublicTold s key
+other_told : (s : List ℕ) → AllBytes s → (first : Part) (between at : ℕ) (key : KeyFields) → other_key s first between at ≡ Some key → PublicTold s key
 unfolding other_key
 other_told s all first between at key e =
     by_bool (leb (first.start + first.length) (length s))
@@ -85,21 +83,21 @@ other_told s all first between at key e =
     (λ b v. placed_told s all b at key (rw v at g)))
     (λ w. let g = rw w at e in clash cc)
 
-module _ (s : List ℕ) (all : AllBytes s) (f : Fields) (e : read_at s ≡ read.Record f) where
+module _ (s : List ℕ) (all : AllBytes s) (f : Fields) (e : read_at s ≡ Ok f) where
   first_told : PublicTold s (first_fields f)
   first_told =
       let h = header-text s all f.header (halves s f e).0 in
       record { fits = h.public_fits; end = f.header.blob.start + f.header.blob.length; lies = h.public_lies }
 
   -- the first key is found, by the record's own fields
-  pub first_found : key_numbered s f 1 ≡ looked.Key (first_fields f)
+  pub first_found : key_numbered s f 1 ≡ Some (first_fields f)
   unfolding key_numbered
   first_found =
       let h = header-text s all f.header (halves s f e).0 in
       rw (le-ltb f.header.count 1 (keys_some f.header.cipher f.header.count h.allowed))
 
   -- key k of the record
-  module _ (k : ℕ) (key : KeyFields) (found : key_numbered s f k ≡ looked.Key key) where
+  module _ (k : ℕ) (key : KeyFields) (found : key_numbered s f k ≡ Some key) where
     told : PublicTold s key
     unfolding key_numbered
     told =
@@ -113,7 +111,7 @@ module _ (s : List ℕ) (all : AllBytes s) (f : Fields) (e : read_at s ≡ read.
         let h = rw v at g in
         by_bool (eqb k 1)
         (λ u.
-        let i : looked.Key (first_fields f) ≡ looked.Key key = rw u at h in
+        let i : Some (first_fields f) ≡ Some key = rw u at h in
         let same : first_fields f ≡ key = cc in
         rw (← same) first_told)
         (λ u. other_told s all f.header.blob (k - 2) (place_of f k) key (rw u at h))))

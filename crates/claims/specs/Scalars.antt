@@ -1,7 +1,7 @@
 -- docs/RULES.md, 6.5 and 10.2: short scalars, on every curve by one proof for any SIZE, of every key of a file of 1 to 16. Which bytes may be a
 -- scalar's string, what is read of them and which are in the form; what the writer makes of scalars; that keys as the old writer wrote them, with
 -- leading zeros kept, are read.
-use Rattle.std.specs.Prelude.{ℕ, zero, suc, ◌+◌, ◌-◌, ◌≤◌, ◌<◌, ◌^◌, ◌≡◌, refl, Bool, true, false, ◌&&◌, List, [], ◌∷◌, map, eqb, ltb, leb, length, get_or}
+use Rattle.std.specs.Prelude.{ℕ, zero, suc, ◌+◌, ◌-◌, ◌≤◌, ◌<◌, ◌^◌, ◌≡◌, refl, Bool, true, false, ◌&&◌, List, [], ◌∷◌, map, eqb, ltb, leb, length, get_or, Ok, Err}
 use Rattle.std.proofs.Common.{arith, sym, ◌∙◌, ap, ap₂, eq-eqb, ne_eqb, eqb-true, lt-ltb, le-ltb, le-leb, leb-true, ltb-true, ltb-false, get_or-drop}
 use Rattle.std.proofs.lemmas.Bool.{eqb-false, lt-leb}
 use Rattle.std.proofs.lemmas.List.{length-map}
@@ -11,7 +11,6 @@ use Rattle.fields.specs.Place.{clash, by_bool, string_place}
 use Rattle.fields.specs.Rest.{view_length}
 use Rattle.fields.specs.declared.Cursor.{Cursor}
 use Rattle.fields.specs.declared.Part.{Part}
-use Rattle.fields.specs.declared.Field.TheVariants as field
 use Rattle.fields.specs.declared.Refusal.{Refusal}
 use Rattle.fields.specs.declared.Refusal.TheVariants.{Length, FormatEncoding, TrailingData, CharacterEncoding}
 use Rattle.names.specs.declared.Elliptic.TheVariants.{Ed25519, Ecdsa}
@@ -30,12 +29,9 @@ use Rattle.reader_entries.specs.Entries.{no_key}
 use Rattle.reader_entries.specs.Back.{KeyFits, AllFit}
 use Rattle.reader_section.specs.declared.Kind.TheVariants.{Plain}
 use Rattle.reader_image.specs.declared.Fields.{Fields}
-use Rattle.reader_image.specs.declared.ImageRead.TheVariants as read
 use Rattle.reader_image.specs.Container.{keys_in, read_at}
 use Rattle.reader_image.specs.Form.{form_of}
-use Rattle.writer_reply.specs.declared.Written.{Written}
-use Rattle.writer_reply.specs.declared.Written.TheVariants as written
-use Rattle.writer_reply.specs.Reply.{sized}
+use Rattle.writer_reply.specs.Reply.{sized, Written}
 use Rattle.writer_plain.specs.Plain.{key_checked, keys_checked, keys_reply}
 use Rattle.claims.specs.Reading.{held, elliptic_held, key_held, trimmed_key, blobs_trimmed, image_of, Within, plain_admitted}
 use Rattle.claims.specs.Form.{key_in, scalar_in, Stands, is_minimal, all_minimal, fit_at, ecdsa_there, ecdsa_fits, ecdsa_may, keys_minimal, keys_form, stands_fit, stands_some}
@@ -65,7 +61,7 @@ stored_minimal (k ∷ keys) = is_minimal k.algorithm 0 k.private && stored_minim
 -- such an image is read, each scalar without its leading zeros, and is in the form or not
 pub record ReadAs (s : List ℕ) (n : ℕ) (keys : List Key) (form : Bool) : Type 0 where
   pub fields : Fields
-  pub read : read_at s ≡ read.Record fields
+  pub read : read_at s ≡ Ok fields
   pub plain : fields.section.kind ≡ Plain
   pub checkint : fields.section.checkint ≡ n
   pub same_keys : keys_in s fields ≡ map trimmed_key keys
@@ -172,7 +168,7 @@ pub record ScalarTold (s : List ℕ) (f : Fields) (i : ℕ) (k : Curve) : Type 0
   pub number : value (standing (get_or zeros i 0) (scalar_in s f i)) ≡ value (scalar_in s f i)
 
 pub scalar_told :
-    (s : List ℕ) (all : AllBytes s) (f : Fields) → read_at s ≡ read.Record f → f.section.kind ≡ Plain → (i : ℕ) (k : Curve)
+    (s : List ℕ) (all : AllBytes s) (f : Fields) → read_at s ≡ Ok f → f.section.kind ≡ Plain → (i : ℕ) (k : Curve)
     → (key_in s f i).algorithm ≡ OnCurve (Ecdsa k) → ScalarTold s f i k
 scalar_told s all f e plain i k q =
     let z = stands_some s all f e plain in
@@ -217,8 +213,8 @@ scalar_or_not size stored yes' no' =
 
 -- a field with such a string is refused so
 pub scalar_refused :
-    (s : List ℕ) (c : Cursor) (size : ℕ) (p : Part) (d : Cursor) → string_at s c ≡ field.Part p d → (why : Refusal) (off : ℕ)
-    → NoScalar size (view_of s p) why off → scalar_at s c size ≡ field.Refused (fault why (c.at + off))
+    (s : List ℕ) (c : Cursor) (size : ℕ) (p : Part) (d : Cursor) → string_at s c ≡ Ok (p, d) → (why : Refusal) (off : ℕ)
+    → NoScalar size (view_of s p) why off → scalar_at s c size ≡ Err (fault why (c.at + off))
 unfolding scalar_at
 scalar_refused s c size p d e why off no' =
     let place = string_place s c p d e in
@@ -227,15 +223,15 @@ scalar_refused s c size p d e why off no' =
   where
     by_why :
         (because : Refusal) (by : ℕ) → NoScalar size (view_of s p) because by → length (view_of s p) ≡ p.length
-        → scalar_at s c size ≡ field.Refused (fault because (c.at + by))
+        → scalar_at s c size ≡ Err (fault because (c.at + by))
     by_why _ _ (no_bytes none) is =
-        rw (e, eq-eqb p.length 0 (sym is ∙ none)) (ap (λ (i : ℕ). field.Refused (fault Length i)) (omega arith))
+        rw (e, eq-eqb p.length 0 (sym is ∙ none)) (ap (λ (i : ℕ). Err (fault Length i)) (omega arith))
     by_why _ _ (too_long more) is =
         let at-is : c.at + 4 + size ≡ c.at + (4 + size) = omega arith in
         rw (e, ne_eqb p.length 0 (λ z. omega (arith, is, more, z)), lt-ltb (size + 1) p.length (omega (arith, is, more)), is, at-is)
     by_why _ _ (unlike some short not_one) is =
         rw (e, ne_eqb p.length 0 (λ z. omega (arith, is, some, z)), le-ltb (size + 1) p.length (omega (arith, is, short)), not_one)
-        (ap (λ (i : ℕ). field.Refused (fault FormatEncoding i)) (omega arith))
+        (ap (λ (i : ℕ). Err (fault FormatEncoding i)) (omega arith))
 
 -- zeros alone aren't a scalar's
 pub zeros_alone : (size : ℕ) (stored : List ℕ) → zeros_before stored ≡ length stored → is_scalar size stored ≡ false
@@ -312,13 +308,13 @@ AllScalars (k ∷ keys) = AllBytes k.private.scalar × AllScalars keys
 
 key_minimal :
     (a : Algorithm) (key : PublicBytes) (x : PrivateBytes) (next : Written) (size : ℕ) (k : Curve) → a ≡ OnCurve (Ecdsa k) → AllBytes x.scalar
-    → key_checked a key x next ≡ written.Length size → MinimalOf x.scalar
+    → key_checked a key x next ≡ Ok size → MinimalOf x.scalar
 key_minimal a key x next size k q all e =
-    let w : key_checked (OnCurve (Ecdsa k)) key x next ≡ written.Length size = rw q at e in
+    let w : key_checked (OnCurve (Ecdsa k)) key x next ≡ Ok size = rw q at e in
     minimal_of x.scalar all (ltb-true (zeros_before x.scalar) (length x.scalar) (elliptic_held (Ecdsa k) key x next size w).some)
 
 each_minimal :
-    (keys : List Key) (next : Written) (size : ℕ) → AllScalars keys → keys_checked keys next ≡ written.Length size → (i : ℕ) (k : Curve)
+    (keys : List Key) (next : Written) (size : ℕ) → AllScalars keys → keys_checked keys next ≡ Ok size → (i : ℕ) (k : Curve)
     → (get_or keys i no_key).algorithm ≡ OnCurve (Ecdsa k) → MinimalOf (get_or keys i no_key).private.scalar
 unfolding keys_checked
 each_minimal [] next size all e i k q = clash (let o : OnCurve Ed25519 ≡ OnCurve (Ecdsa k) = q in cc)
@@ -329,7 +325,7 @@ each_minimal (x ∷ keys) next size all e (suc i) k q =
     each_minimal keys next size all.1 h₂.1 i k q
 
 pub written_minimal :
-    (keys : List Key) (n room size : ℕ) → AllScalars keys → keys_reply keys n room ≡ written.Length size → Minimal n keys
+    (keys : List Key) (n room size : ℕ) → AllScalars keys → keys_reply keys n room ≡ Ok size → Minimal n keys
 unfolding keys_reply written_image
 written_minimal keys n room size all e =
     let few = leb 1 (length keys) && leb (length keys) 16 in

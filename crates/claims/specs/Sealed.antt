@@ -1,5 +1,5 @@
 -- docs/RULES.md, 16.2, the second demand, of encrypted images: read after write gives the record; what the format admits within the limits is not refused.
-use Rattle.std.specs.Prelude.{ℕ, ◌+◌, ◌%◌, ◌≤◌, ◌<◌, ◌^◌, ◌≡◌, true, false, not, List, eqb, take}
+use Rattle.std.specs.Prelude.{ℕ, ◌+◌, ◌%◌, ◌≤◌, ◌<◌, ◌^◌, ◌≡◌, true, false, not, List, eqb, take, Result, Ok, Err}
 use Rattle.std.proofs.Common.{arith, sym, ◌∙◌, ap, eqb-true}
 use Rattle.std.proofs.Math.Path.{refl}
 use Rattle.std.proofs.lemmas.Bool.{not-true}
@@ -16,27 +16,24 @@ use Rattle.names.specs.declared.Kdf.TheVariants as kdf
 use Rattle.names.specs.Ciphers.{is_none, block_size, tag_length}
 use Rattle.format.specs.Format.{PublicBytes, OptionsFit, blob, encrypted_image}
 use Rattle.key_public.specs.declared.Public.{Public}
-use Rattle.key_public.specs.declared.Blob.{Blob}
-use Rattle.key_public.specs.declared.Blob.TheVariants as answer
 use Rattle.key_public.specs.Keys.{public_bytes, on_blob, blob_at}
 use Rattle.laws_keys.specs.Read.{blob_read}
 use Rattle.reader_image.specs.Back.{SealFits, EncryptedImageBack, encrypted_image_back}
 use Rattle.buffer.specs.Puts.{take-splice}
-use Rattle.writer_reply.specs.declared.Written.{Written}
-use Rattle.writer_reply.specs.declared.Written.TheVariants as written
-use Rattle.writer_reply.specs.Reply.{refused, unless, sized}
+use Rattle.writer_reply.specs.Reply.{refused, unless, sized, Written}
 use Rattle.writer_encrypted.specs.Encrypted.{options_fit, encrypted_reply, encrypted_left}
 use Rattle.claims.specs.Reading.{held, sized_held}
+use Rattle.fields.specs.declared.Fault.{Fault}
 
 -- a blob of an accepted write is read
 data BlobHeld (key : List ℕ) (P : Algorithm → Public → Written) (k : ℕ) : Type 0 where
-  blob_held : (a : Algorithm) (p : Public) → blob_at key (whole key) ≡ answer.Key a p → P a p ≡ written.Length k → BlobHeld key P k
+  blob_held : (a : Algorithm) (p : Public) → blob_at key (whole key) ≡ Ok (a, p) → P a p ≡ Ok k → BlobHeld key P k
 
 by_blob :
-    (key : List ℕ) (w : Blob) (P : Algorithm → Public → Written) (k : ℕ) → blob_at key (whole key) ≡ w
-    → on_blob w (λ f. refused f.why) P ≡ written.Length k → BlobHeld key P k
-by_blob key (answer.Refused f) P k w e = clash cc
-by_blob key (answer.Key a p) P k w e = blob_held a p w e
+    (key : List ℕ) (w : Result (Algorithm × Public) Fault) (P : Algorithm → Public → Written) (k : ℕ) → blob_at key (whole key) ≡ w
+    → on_blob w (λ f. refused f.why) P ≡ Ok k → BlobHeld key P k
+by_blob key (Err f) P k w e = clash cc
+by_blob key (Ok (a, p)) P k w e = blob_held a p w e
 
 options_hold : (k : Kdf) (salt : List ℕ) (rounds : ℕ) → rounds < 2 ^ 32 → options_fit k salt rounds ≡ true → OptionsFit k salt rounds
 options_hold kdf.None salt rounds small e =
@@ -86,7 +83,7 @@ module _ (c : Cipher) (k : Kdf) (salt : List ℕ) (rounds : ℕ) (key ciphertext
       }
 
   pub encrypted_accepted :
-      (room m : ℕ) → AllBytes key → rounds < 2 ^ 32 → encrypted_reply c k salt rounds key ciphertext tag room ≡ written.Length m → EncryptedAccepted room m
+      (room m : ℕ) → AllBytes key → rounds < 2 ^ 32 → encrypted_reply c k salt rounds key ciphertext tag room ≡ Ok m → EncryptedAccepted room m
   unfolding encrypted_reply
   encrypted_accepted room m all small e =
       let h₁ = held (not (is_none c)) _ _ m e in
@@ -96,7 +93,7 @@ module _ (c : Cipher) (k : Kdf) (salt : List ℕ) (rounds : ℕ) (key ciphertext
 
   -- the first bytes of the buffer are then the image
   pub encrypted_written :
-      (old : List ℕ) (m : ℕ) → AllBytes key → rounds < 2 ^ 32 → encrypted_reply c k salt rounds key ciphertext tag (length old) ≡ written.Length m
+      (old : List ℕ) (m : ℕ) → AllBytes key → rounds < 2 ^ 32 → encrypted_reply c k salt rounds key ciphertext tag (length old) ≡ Ok m
       → take m (encrypted_left c k salt rounds key ciphertext tag old) ≡ encrypted_image c k salt rounds key ciphertext tag
   unfolding encrypted_left
   encrypted_written old m all small e =
@@ -114,7 +111,7 @@ module _ (c : Cipher) (k : Kdf) (salt : List ℕ) (rounds : ℕ) (key ciphertext
     pub back : EncryptedImageBack (take m (encrypted_left c k salt rounds key ciphertext tag old)) c k salt rounds algorithm parts ciphertext tag
 
   pub read_after_encrypted_write :
-      (old : List ℕ) (m : ℕ) → AllBytes key → rounds < 2 ^ 32 → encrypted_reply c k salt rounds key ciphertext tag (length old) ≡ written.Length m
+      (old : List ℕ) (m : ℕ) → AllBytes key → rounds < 2 ^ 32 → encrypted_reply c k salt rounds key ciphertext tag (length old) ≡ Ok m
       → ReadAfterWrite old m
   read_after_encrypted_write old m all small e =
       let h = encrypted_accepted (length old) m all small e in

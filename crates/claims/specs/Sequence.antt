@@ -2,22 +2,19 @@
 -- last answered length, are the image written afresh from the keys now in the file, in order, each with its own last accepted comment, or the one
 -- that it came with, under the first image's checkint; those between that end and the furthest that was reached are zero; bytes past every end
 -- reached stay. A buffer whose first n bytes may not be edited stays as it is.
-use Rattle.std.specs.Prelude.{ℕ, ◌-◌, ◌≡◌, refl, take}
+use Rattle.std.specs.Prelude.{ℕ, ◌-◌, ◌≡◌, refl, take, Result, Ok, Err}
 use Rattle.std.proofs.Common.{arith, ◌∙◌, ap}
 use mathlib.Core.List.{List, [], ◌∷◌, map}
 use Rattle.fields.specs.Bytes.{AllBytes}
 use Rattle.fields.specs.declared.Fault.{Fault}
 use Rattle.format.specs.Format.{Key, filled_key}
-use Rattle.writer_reply.specs.declared.Written.{Written}
-use Rattle.writer_reply.specs.declared.Written.TheVariants as written
-use Rattle.writer_reply.specs.Reply.{on_written}
+use Rattle.writer_reply.specs.Reply.{on_written, Written}
 use Rattle.edit_shells.specs.Sequence.{Holds, further}
-use Rattle.edit_file.specs.declared.Editable.{Editable}
-use Rattle.edit_file.specs.declared.Editable.TheVariants as editable
 use Rattle.edit_file.specs.Edits.{editable_at, file_keys}
 use Rattle.laws_edits.specs.File.{File}
 use Rattle.claims.specs.Change.{by_editable}
 use Rattle.laws_edits.specs.Steps.{Edit, made, reply, leaves, not_editable, step_refused, step_becomes, step_holds, first_file, first_holds}
+use Rattle.reader_image.specs.declared.Fields.{Fields}
 
 -- a buffer, and the length that the last accepted edit answered, the first image's until one was
 pub record State : Type 0 where
@@ -50,18 +47,18 @@ record Kept (c : ℕ) (old : List ℕ) (keys : List Key) (far : ℕ) (s : State)
   file : File c own
   holds : Holds c old keys s.n far s.buf
 
-by_written : {P : Type 0} (w : Written) → ((g : Fault) → w ≡ written.Refused g → P) → ((m : ℕ) → w ≡ written.Length m → P) → P
-by_written (written.Refused g) refused accepted = refused g refl
-by_written (written.Length m) refused accepted = accepted m refl
+by_written : {P : Type 0} (w : Written) → ((g : Fault) → w ≡ Err g → P) → ((m : ℕ) → w ≡ Ok m → P) → P
+by_written (Err g) refused accepted = refused g refl
+by_written (Ok m) refused accepted = accepted m refl
 
-after_refused : (e : Edit) (s : State) (g : Fault) → reply e s.buf s.n ≡ written.Refused g → leaves e s.buf s.n ≡ s.buf → after e s ≡ s
+after_refused : (e : Edit) (s : State) (g : Fault) → reply e s.buf s.n ≡ Err g → leaves e s.buf s.n ≡ s.buf → after e s ≡ s
 unfolding after
 after_refused e s g a left =
     let end = ap (λ (w : Written). on_written w (λ (h : Fault). s.n) (λ (m : ℕ). m)) a in
     λ i. record { buf = left i; n = end i }
 
 after_accepted :
-    (e : Edit) (s : State) (m : ℕ) → reply e s.buf s.n ≡ written.Length m → after e s ≡ record { buf = leaves e s.buf s.n; n = m }
+    (e : Edit) (s : State) (m : ℕ) → reply e s.buf s.n ≡ Ok m → after e s ≡ record { buf = leaves e s.buf s.n; n = m }
 unfolding after
 after_accepted e s m a =
     let end = ap (λ (w : Written). on_written w (λ (h : Fault). s.n) (λ (i : ℕ). i)) a in
@@ -94,12 +91,12 @@ module _ (c : ℕ) (old : List ℕ) where
 -- ---- the theorem
 
 -- by whether the first image may be edited: its keys and the edits tell what the buffer holds; or nothing was changed
-abbrev pub Ends : Editable → List Edit → State → State → Type 0
-Ends (editable.Refused g) es s t = t ≡ s
-Ends (editable.Image f) es s t =
+abbrev pub Ends : Result Fields Fault → List Edit → State → State → Type 0
+Ends (Err g) es s t = t ≡ s
+Ends (Ok f) es s t =
     Holds f.section.checkint s.buf (keys_now es s (file_keys (take s.n s.buf) f)) t.n (furthest es s s.n) t.buf
 
-all_refused : (s : State) (g : Fault) → editable_at s.buf s.n ≡ editable.Refused g → (es : List Edit) → edits es s ≡ s
+all_refused : (s : State) (g : Fault) → editable_at s.buf s.n ≡ Err g → (es : List Edit) → edits es s ≡ s
 unfolding edits
 all_refused s g w [] = refl
 all_refused s g w (e ∷ es) =

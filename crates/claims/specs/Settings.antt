@@ -1,9 +1,10 @@
 -- docs/RULES.md, 16.8, of a setting's record by itself, and of whatever meets the promise of its write (Refusals; of the function itself Entries). A
 -- read's contract is `read_reply`. A delay is written exactly if it is a whole number of the version's unit that fits 24 bits; what is written is
 -- read back as the same kind and milliseconds; two records of one version that say the same are the same bytes.
-use Rattle.std.specs.Prelude.{ℕ, zero, suc, ◌*◌, ◌/◌, ◌≤◌, ◌<◌, ◌^◌, ◌≡◌, refl, Bool, true, false, List, eqb, length}
+use Rattle.std.specs.Prelude.{ℕ, zero, suc, ◌*◌, ◌/◌, ◌≤◌, ◌<◌, ◌^◌, ◌≡◌, refl, Bool, true, false, List, eqb, length, Result, Ok, Err, Option, Some}
 use Rattle.std.proofs.Common.{mul-one, arith, sym, ◌∙◌, ap, eq-eqb, eqb-true, le-leb, leb-true}
 use Rattle.std.proofs.Math.Seq.{slice}
+use Rattle.fields.specs.declared.Refusal.{Refusal}
 use Rattle.fields.specs.Bytes.{AllBytes, uint32}
 use Rattle.fields.specs.Place.{clash, by_bool}
 use Rattle.fields.specs.Rest.{rest-whole, length-uint32}
@@ -14,14 +15,8 @@ use Rattle.names.specs.declared.Algorithm.TheVariants.{Elliptic as OnCurve, Rsa}
 use Rattle.names.specs.declared.Curve.TheVariants.{Nistp256, Nistp384, Nistp521}
 use Rattle.names.specs.declared.Elliptic.TheVariants.{Ed25519, Ecdsa}
 use Rattle.buffer.specs.Puts.{splice, splice-length}
-use Rattle.writer_reply.specs.Reply.{refused}
-use Rattle.writer_reply.specs.declared.Written.{Written}
-use Rattle.writer_reply.specs.declared.Written.TheVariants as written
+use Rattle.writer_reply.specs.Reply.{refused, Written}
 use Rattle.setting_record.specs.declared.Setting.{Setting}
-use Rattle.setting_record.specs.declared.Answer.{Answer}
-use Rattle.setting_record.specs.declared.Answer.TheVariants as answer
-use Rattle.setting_record.specs.declared.Packed.{Packed}
-use Rattle.setting_record.specs.declared.Packed.TheVariants as packed
 use Rattle.setting_record.specs.Bits.{version_in, is_version, is_kind, unit, setting, answer_of}
 use Rattle.setting_record.specs.Packing.{writable, pack_of, on_packed}
 use Rattle.setting_record.specs.Record.{record_at, read_reply, packed_reply, packed_left, write_reply}
@@ -76,30 +71,30 @@ pub record Put (ok : Bool) (v k ms at : ℕ) (old out : List ℕ) : Type 0 where
 
 pub accepted :
     (ok : Bool) (v k ms size at : ℕ) (old : List ℕ) (r : Written) (out : List ℕ) (n : ℕ)
-    → (r ≡ packed_reply ok (pack_of v k ms) size) × (out ≡ packed_left ok (pack_of v k ms) at old) → r ≡ written.Length n → Put ok v k ms at old out
+    → (r ≡ packed_reply ok (pack_of v k ms) size) × (out ≡ packed_left ok (pack_of v k ms) at old) → r ≡ Ok n → Put ok v k ms at old out
 unfolding packed_reply packed_left
-accepted false v k ms size at old r out n p e = let q : refused Length ≡ written.Length n = sym p.0 ∙ e in clash cc
+accepted false v k ms size at old r out n p e = let q : refused Length ≡ Ok n = sym p.0 ∙ e in clash cc
 accepted true v k ms size at old r out n p e = go (pack_of v k ms) refl p.0 p.1
   where
     go :
-        (w : Packed) → pack_of v k ms ≡ w → r ≡ on_packed w refused (λ m. written.Length size) → out ≡ on_packed w (λ why. old) (λ m. splice old at (uint32 m))
+        (w : Result ℕ Refusal) → pack_of v k ms ≡ w → r ≡ on_packed w refused (λ m. Ok size) → out ≡ on_packed w (λ why. old) (λ m. splice old at (uint32 m))
         → Put true v k ms at old out
-    go (packed.Refused why) f x y = let q : refused why ≡ written.Length n = sym x ∙ e in clash cc
-    go (packed.Record m) f x y = record { fits = refl; number = m; packed = packed_as v k ms m f; left = y }
+    go (Err why) f x y = let q : refused why ≡ Ok n = sym x ∙ e in clash cc
+    go (Ok m) f x y = record { fits = refl; number = m; packed = packed_as v k ms m f; left = y }
 
 pub accepts :
     (ok : Bool) (v k ms size : ℕ) → ok ≡ true → is_version v ≡ true → is_kind k ≡ true → writable v ms ≡ true
-    → packed_reply ok (pack_of v k ms) size ≡ written.Length size
+    → packed_reply ok (pack_of v k ms) size ≡ Ok size
 unfolding packed_reply
 accepts ok v k ms size e a b c = rw (e, pack_as v k ms a b c)
 
 -- ---- a record by itself
 
 module _ (v k ms : ℕ) (old : List ℕ) (r : Written) (out : List ℕ) (p : Promise (write_setting v k ms) old r out) where
-  whole_written : is_version v ≡ true → length old ≡ 4 → k ≤ 4 → Whole (unit v) ms → r ≡ written.Length 4
+  whole_written : is_version v ≡ true → length old ≡ 4 → k ≤ 4 → Whole (unit v) ms → r ≡ Ok 4
   whole_written a l h w = p.0 ∙ accepts (eqb (length old) 4) v k ms 4 (eq-eqb _ _ l) a (le-leb _ _ h) (is_whole v ms w)
 
-  module _ (n : ℕ) (e : r ≡ written.Length n) where
+  module _ (n : ℕ) (e : r ≡ Ok n) where
     wrote : Put (eqb (length old) 4) v k ms 0 old out
     wrote = accepted (eqb (length old) 4) v k ms 4 0 old r out n (p.0, p.1) e
 
@@ -116,7 +111,7 @@ module _ (v k ms : ℕ) (old : List ℕ) (r : Written) (out : List ℕ) (p : Pro
     written_whole = (four_bytes, leb-true k 4 wrote.packed.kind, whole_is v ms wrote.packed.delay)
 
     -- what was written is read back, as the version that it was written in
-    pub written_read : (t : Answer) → t ≡ read_reply out → t ≡ answer.Setting (setting k ms)
+    pub written_read : (t : Result (Option Setting) Refusal) → t ≡ read_reply out → t ≡ Ok (Some (setting k ms))
     unfolding read_reply
     written_read t f = f ∙ rw (eq-eqb _ _ as_long, there) (packed_says v k ms _ wrote.packed)
 
@@ -127,18 +122,18 @@ module _ (v k ms : ℕ) (old : List ℕ) (r : Written) (out : List ℕ) (p : Pro
 
 module _ (k ms : ℕ) (old : List ℕ) (r : Written) (out : List ℕ) where
   -- version 1: a whole number of seconds that fits 24 bits
-  pub seconds_written : Promise (write_setting 1 k ms) old r out → length old ≡ 4 → k ≤ 4 → Whole 1000 ms → r ≡ written.Length 4
+  pub seconds_written : Promise (write_setting 1 k ms) old r out → length old ≡ 4 → k ≤ 4 → Whole 1000 ms → r ≡ Ok 4
   seconds_written p l h w = whole_written 1 k ms old r out p version_one.1 l h (rw version_one.0 w)
 
-  pub written_seconds : Promise (write_setting 1 k ms) old r out → (n : ℕ) → r ≡ written.Length n → (length old ≡ 4) × (k ≤ 4) × Whole 1000 ms
+  pub written_seconds : Promise (write_setting 1 k ms) old r out → (n : ℕ) → r ≡ Ok n → (length old ≡ 4) × (k ≤ 4) × Whole 1000 ms
   written_seconds p n e = rw version_one.0 at (written_whole 1 k ms old r out p n e)
 
   -- version 2: what fits 24 bits
-  pub milliseconds_written : Promise (write_setting 2 k ms) old r out → length old ≡ 4 → k ≤ 4 → ms < 2 ^ 24 → r ≡ written.Length 4
+  pub milliseconds_written : Promise (write_setting 2 k ms) old r out → length old ≡ 4 → k ≤ 4 → ms < 2 ^ 24 → r ≡ Ok 4
   milliseconds_written p l h w =
       whole_written 2 k ms old r out p version_two.1 l h (rw version_two.0 (record { delay = ms; is = sym (mul-one ms); fits = w }))
 
-  pub written_milliseconds : Promise (write_setting 2 k ms) old r out → (n : ℕ) → r ≡ written.Length n → (length old ≡ 4) × (k ≤ 4) × (ms < 2 ^ 24)
+  pub written_milliseconds : Promise (write_setting 2 k ms) old r out → (n : ℕ) → r ≡ Ok n → (length old ≡ 4) × (k ≤ 4) × (ms < 2 ^ 24)
   written_milliseconds p n e =
       let w = written_whole 2 k ms old r out p n e in
       let one = rw version_two.0 at w.2 in
@@ -146,12 +141,12 @@ module _ (k ms : ℕ) (old : List ℕ) (r : Written) (out : List ℕ) where
 
 -- ---- the same bytes
 
-read_record : (s : List ℕ) (x : Setting) → read_reply s ≡ answer.Setting x → (length s ≡ 4) × (answer_of (record_at s 0) ≡ answer.Setting x)
+read_record : (s : List ℕ) (x : Setting) → read_reply s ≡ Ok (Some x) → (length s ≡ 4) × (answer_of (record_at s 0) ≡ Ok (Some x))
 unfolding read_reply
 read_record s x e =
     by_bool (eqb (length s) 4)
     (λ l. (eqb-true _ _ l, rw l at e))
-    (λ l. let q : answer.Refused Length ≡ answer.Setting x = rw l at e in clash cc)
+    (λ l. let q : Err Length ≡ Ok (Some x) = rw l at e in clash cc)
 
 record_is : (s : List ℕ) → AllBytes s → length s ≡ 4 → s ≡ uint32 (record_at s 0)
 record_is s all l = sym (rest-whole s) ∙ ap (λ (e : ℕ). slice 0 e s) l ∙ record_bytes s all 0 (omega arith)
@@ -159,7 +154,7 @@ record_is s all l = sym (rest-whole s) ∙ ap (λ (e : ℕ). slice 0 e s) l ∙ 
 -- two records of one version that are read as the same are the same bytes
 pub same_bytes :
     (s t : List ℕ) (x : Setting) → AllBytes s → AllBytes t → version_in (record_at s 0) ≡ version_in (record_at t 0)
-    → read_reply s ≡ answer.Setting x → read_reply t ≡ answer.Setting x → s ≡ t
+    → read_reply s ≡ Ok (Some x) → read_reply t ≡ Ok (Some x) → s ≡ t
 same_bytes s t x all-s all-t v e f =
     let a = read_record s x e in
     let b = read_record t x f in

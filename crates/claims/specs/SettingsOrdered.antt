@@ -1,10 +1,9 @@
 -- docs/RULES.md, 18.2, 18.3 and 18.5 to 18.7: the conditions of what reads, writes and moves settings, as lists in the rules' order, each with its
 -- number. The reply is the first that holds, for every input; where none does it is 0, and the length.
-use Rattle.std.specs.Prelude.{ℕ, ◌≡◌, refl, Bool, cond, not, ◌&&◌, ◌||◌, List, [], ◌∷◌, eqb, leb, ltb, length}
+use Rattle.std.specs.Prelude.{ℕ, ◌≡◌, refl, Bool, cond, not, ◌&&◌, ◌||◌, List, [], ◌∷◌, eqb, leb, ltb, length, Ok}
 use Rattle.fields.specs.Place.{by_bool}
 use Rattle.fields.specs.declared.Refusal.TheVariants.{Length, AlgorithmUnknown, Size}
 use Rattle.writer_reply.specs.Reply.{told, refused, unless}
-use Rattle.writer_reply.specs.declared.Written.TheVariants as written
 use Rattle.setting_record.specs.Bits.{version_in, kind_in, is_version, is_kind, is_known, answer_of, told_setting}
 use Rattle.setting_record.specs.Packing.{writable, pack_of, on_packed}
 use Rattle.setting_record.specs.Record.{record_at, read_reply, packed_reply, write_reply}
@@ -48,7 +47,7 @@ store_move_conditions s =
 
 -- ---- the claims
 
-pack_first : (v k ms size : ℕ) → told (on_packed (pack_of v k ms) refused (λ n. written.Length size)) ≡ first (pack_conditions v k ms) size
+pack_first : (v k ms size : ℕ) → told (on_packed (pack_of v k ms) refused (λ n. Ok size)) ≡ first (pack_conditions v k ms) size
 unfolding pack_of told first
 pack_first v k ms size =
     rw (above 4 k)
@@ -79,7 +78,7 @@ store_move_first s =
     let a = all_places known 32 s in
     let b = all_places fitting 32 s in
     let last = says (not b) 11 ∷ [] in
-    let done = written.Length 128 in
+    let done = Ok 128 in
     then_first (not l) l refl Length refl (unless a AlgorithmUnknown (unless b Size done)) (says (not a) 4 ∷ last) 128
     (then_first (not a) a refl AlgorithmUnknown refl (unless b Size done) last 128
     (then_first (not b) b refl Size refl done [] 128 (done_first 128)))

@@ -1,7 +1,7 @@
 -- What the contracts shut out: no program that meets its contract refuses everything, replies the same always, stores nothing, gives
 -- one count for every refusal with number 6, or changes the first comment and only says so for later ones. A program here is any function of
 -- what it is given, which is bytes, however many, a checkint of 32 bits and a length of 64; of anything else nothing is asked.
-use Rattle.std.specs.Prelude.{ℕ, zero, suc, ◌≤◌, ◌<◌, ◌^◌, refl, Bool, true, ◌&&◌, ltb, length, replicate}
+use Rattle.std.specs.Prelude.{ℕ, zero, suc, ◌≤◌, ◌<◌, ◌^◌, refl, Bool, true, ◌&&◌, ltb, length, replicate, Result, Ok, Err}
 use native.Mathlib.Omega.{arith}
 use Rattle.std.proofs.Math.Path.{◌≡◌, sym, ap}
 use Rattle.std.proofs.Common.{◌∙◌, ltb-true}
@@ -19,13 +19,9 @@ use Rattle.names.specs.declared.Elliptic.TheVariants.{Ed25519}
 use Rattle.utf8.specs.Utf8.{utf8}
 use Rattle.format.specs.Format.{PublicBytes, PrivateBytes, Key, key_of, filled_key, of_point, of_scalar, magic, blob, keypair, header, padding_length, standing_entries, content, section, plain_image, written_image, alone}
 use Rattle.format.specs.Scalars.{key_zeros}
-use Rattle.reader_image.specs.declared.ImageRead.{ImageRead}
-use Rattle.reader_image.specs.declared.ImageRead.TheVariants as read
 use Rattle.reader_image.specs.Container.{AnswersRead}
 use Rattle.reader_image.specs.Back.{KeysImageBack}
 use Rattle.reader_image.specs.Form.{form_of}
-use Rattle.writer_reply.specs.declared.Written.{Written}
-use Rattle.writer_reply.specs.declared.Written.TheVariants as written
 use Rattle.writer_plain.specs.Plain.{plain_reply, plain_left, IsPlain, plain_alone, left_alone}
 use Rattle.edit_shells.specs.Keys.{keys_changed}
 use Rattle.edit_file.specs.Edits.{file_keys, change_reply, change_left, IsChange}
@@ -34,6 +30,8 @@ use Rattle.claims.specs.Form.{keys_form}
 use Rattle.claims.specs.Demand.{Asked, demand_three}
 use Rattle.claims.specs.Sizes.{Key as KeyParts, Ascii, ed25519_takes}
 use Rattle.claims.specs.Marked.{p256_image, other_scalars, marked}
+use Rattle.reader_image.specs.declared.Fields.{Fields}
+use Rattle.writer_reply.specs.Reply.{Written}
 
 -- ---- plain writers
 
@@ -79,10 +77,10 @@ letters (suc c) zero h = omega arith
 letters (suc c) (suc k) h = letters c k (omega arith)
 
 -- without a comment it takes 234 bytes (M5), with one of 6 bytes 242 (M7)
-takes_234 : plain_reply ed25519 public32 private32 7 [] 300 ≡ written.Length 234
+takes_234 : plain_reply ed25519 public32 private32 7 [] 300 ≡ Ok 234
 takes_234 = (marked.m5 bytes32 bytes32 7 [] parts (letters 0) refl).answer 300 (omega arith)
 
-takes_242 : plain_reply ed25519 public32 private32 7 (replicate 6 97) 300 ≡ written.Length 242
+takes_242 : plain_reply ed25519 public32 private32 7 (replicate 6 97) 300 ≡ Ok 242
 takes_242 = (marked.m7 bytes32 bytes32 7 (replicate 6 97) parts (letters 6) refl).answer 300 (omega arith)
 
 -- a buffer with room for both
@@ -123,11 +121,11 @@ module _ (w : Writer) (meets : MeetsPlain w) where
   -- no writer that meets the contract refuses everything: an Ed25519 key is written
   pub refuses_all :
       ((a : Algorithm) (key : PublicBytes) (x : PrivateBytes) (n : ℕ) (comment old : List ℕ) → Given key x n comment old
-      → (g : Fault) × (w.reply a key x n comment old ≡ written.Refused g))
+      → (g : Fault) × (w.reply a key x n comment old ≡ Err g))
       → ⊥
   refuses_all refuses =
       let r = refuses ed25519 public32 private32 7 [] buffer given_none in
-      let e : written.Refused r.0 ≡ written.Length 234 = sym r.1 ∙ (meets ed25519 public32 private32 7 [] buffer given_none).0 ∙ takes_234 in
+      let e : ◌≡◌ {A = Written} (Err r.0) (Ok 234) = sym r.1 ∙ (meets ed25519 public32 private32 7 [] buffer given_none).0 ∙ takes_234 in
       clash cc
 
   -- none replies the same always: M5 and M7 have different lengths
@@ -136,8 +134,8 @@ module _ (w : Writer) (meets : MeetsPlain w) where
       → ((a : Algorithm) (key : PublicBytes) (x : PrivateBytes) (n : ℕ) (comment old : List ℕ) → Given key x n comment old → w.reply a key x n comment old ≡ r)
       → ⊥
   replies_same r same =
-      let e₁ : r ≡ written.Length 234 = sym (same ed25519 public32 private32 7 [] buffer given_none) ∙ (meets ed25519 public32 private32 7 [] buffer given_none).0 ∙ takes_234 in
-      let e₂ : r ≡ written.Length 242 =
+      let e₁ : r ≡ Ok 234 = sym (same ed25519 public32 private32 7 [] buffer given_none) ∙ (meets ed25519 public32 private32 7 [] buffer given_none).0 ∙ takes_234 in
+      let e₂ : r ≡ Ok 242 =
       sym (same ed25519 public32 private32 7 (replicate 6 97) buffer given_six) ∙ (meets ed25519 public32 private32 7 (replicate 6 97) buffer given_six).0 ∙ takes_242 in
       let e : ◌≡◌ {A = ℕ} 234 242 = cc in
       omega arith
@@ -160,8 +158,8 @@ module _ (w : Writer) (meets : MeetsPlain w) where
 -- no reader that meets the contract makes up the count, one for all refusals with number 6: a scalar field of 34 bytes has 2 too
 -- many (M13), one of 35 bytes 3
 pub made_up_count :
-    (reader : List ℕ → ImageRead) → ((s : List ℕ) → AllBytes s → AnswersRead s (reader s))
-    → (count : ℕ) → ((s : List ℕ) (g : Fault) → AllBytes s → reader s ≡ read.Refused g → number_of g.why ≡ 6 → count_of g.why ≡ count) → ⊥
+    (reader : List ℕ → Result Fields Fault) → ((s : List ℕ) → AllBytes s → AnswersRead s (reader s))
+    → (count : ℕ) → ((s : List ℕ) (g : Fault) → AllBytes s → reader s ≡ Err g → number_of g.why ≡ 6 → count_of g.why ≡ count) → ⊥
 unfolding below p256_image plain_image header section content blob keypair string uint32 magic
 made_up_count reader meets count same =
     let two = other_scalars.1 in
@@ -241,12 +239,12 @@ module _ (n : ℕ) (fit : n < 2 ^ 32) (x : Key) (others : List Key) (own : AllOw
         fits = rw afresh_is (omega (arith, will.room_enough, was.size));
       }
 
-  changes_to : AllBytes s → (change_reply s k j comment ≡ written.Length k) × (change_left s k j comment ≡ written_image n (keys_changed j comment keys))
+  changes_to : AllBytes s → (change_reply s k j comment ≡ Ok k) × (change_left s k j comment ≡ written_image n (keys_changed j comment keys))
   changes_to bytes =
       let d = demand_three s k back.fields j comment (asked bytes) (change_reply s k j comment) (change_left s k j comment) (refl, refl, refl) in
       let size : length afresh ≡ k = ap length afresh_is ∙ sym will.size in
       let long : length (change_left s k j comment) ≡ k = d.same_length ∙ sym was.size in (
-        d.answered ∙ ap written.Length size,
+        d.answered ∙ ap Ok size,
         sym (take-length (change_left s k j comment)) ∙ ap (λ (i : ℕ). take i (change_left s k j comment)) (long ∙ sym size) ∙ d.image ∙ afresh_is,
       )
 
@@ -270,7 +268,7 @@ takes_letter letter h =
 -- one letter changed to another
 relettered :
     (x y : ℕ) → x < 0x80 → y < 0x80 → AllBytes (lettered x)
-    → (change_reply (lettered x) 234 1 (y ∷ []) ≡ written.Length 234) × (change_left (lettered x) 234 1 (y ∷ []) ≡ lettered y)
+    → (change_reply (lettered x) 234 1 (y ∷ []) ≡ Ok 234) × (change_left (lettered x) 234 1 (y ∷ []) ≡ lettered y)
 unfolding keys_changed
 relettered x y hx hy bytes =
     let own : AllOwn (alone (letter_key y)) = ((refl, refl), tt) in
@@ -296,7 +294,7 @@ letter_bytes = (all_below (98 ∷ []) refl, all_below (99 ∷ []) refl)
 pub first_only :
     (w : Changer) → MeetsChange w
     → ((old : List ℕ) (n : ℕ) (first second : List ℕ) (k m : ℕ) → AllBytes old → n < 2 ^ 64 → AllBytes first → AllBytes second
-    → w.reply old n 1 first ≡ written.Length k → w.reply (w.leaves old n 1 first) k 1 second ≡ written.Length m
+    → w.reply old n 1 first ≡ Ok k → w.reply (w.leaves old n 1 first) k 1 second ≡ Ok m
     → w.leaves (w.leaves old n 1 first) k 1 second ≡ w.leaves old n 1 first)
     → ⊥
 first_only w meets stays =

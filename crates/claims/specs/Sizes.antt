@@ -1,6 +1,6 @@
 -- How long an image the plain writer makes of a key and an ASCII comment, and with how much padding: by the lengths and a scalar's bytes without leading
 -- zeros, for every key, checkint and comment of that length.
-use Rattle.std.specs.Prelude.{ℕ, ◌+◌, ◌≤◌, ◌<◌, ◌^◌, ◌≡◌, refl, true, List, [], leb, get_or}
+use Rattle.std.specs.Prelude.{ℕ, ◌+◌, ◌≤◌, ◌<◌, ◌^◌, ◌≡◌, refl, true, List, [], leb, get_or, Ok}
 use Rattle.std.proofs.Common.{arith, ◌∙◌, ap}
 use borrow.Author.Tests.{eq-eqb, le-leb, lt-leb}
 use Rattle.std.proofs.Math.ListN.{length}
@@ -16,7 +16,6 @@ use Rattle.format.specs.Lengths.{point_blob_length, content_length}
 use Rattle.format.proofs.Lengths.{written_content-length, written_length}
 use Rattle.reader_entries.specs.Back.{KeyFits}
 use Rattle.reader_image.specs.Back.{PlainImageBack, plain_image_back}
-use Rattle.writer_reply.specs.declared.Written.TheVariants as written
 use Rattle.writer_reply.specs.Reply.{refused, sized}
 use Rattle.writer_plain.specs.Plain.{key_checked, plain_reply}
 
@@ -41,7 +40,7 @@ image_length a scalar c = 47 + point_blob_length a + (body_length a scalar c + p
 module _ (a : Elliptic) (point scalar : List ℕ) (n : ℕ) (comment : List ℕ) where
   -- the writer answers this length where there is room for it, and the image is read with this padding
   pub record Takes (size padding : ℕ) : Type 0 where
-    pub answer : (room : ℕ) → size ≤ room → plain_reply (OnCurve a) (of_point point) (of_scalar scalar) n comment room ≡ written.Length size
+    pub answer : (room : ℕ) → size ≤ room → plain_reply (OnCurve a) (of_point point) (of_scalar scalar) n comment room ≡ Ok size
     pub pads : n < 2 ^ 32 → PlainImageBack (written_image n (alone (key_of (OnCurve a) (of_point point) (of_scalar scalar) comment))) n (OnCurve a) (of_point point) (of_scalar (scalar_bytes a scalar)) comment padding
 
   -- a key with an ASCII comment is refused for its size or for want of room only

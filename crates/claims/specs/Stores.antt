@@ -2,8 +2,9 @@
 -- Entries). A get's contract is `get_reply`. A device that was put has what was put, and every other what it had. A move changes no answer for any
 -- device and leaves every used place in version 2, or changes nothing; a second move changes nothing more. Unused is a place whose number is 0,
 -- which is four zero bytes (`unused_zeros`, `zeros_unused`, setting_record/Places).
-use Rattle.std.specs.Prelude.{ℕ, ◌+◌, ◌*◌, ◌≤◌, ◌<◌, ◌≡◌, refl, true, false, List, [], eqb, leb, ltb, length, get_or}
+use Rattle.std.specs.Prelude.{ℕ, ◌+◌, ◌*◌, ◌≤◌, ◌<◌, ◌≡◌, refl, true, false, List, [], eqb, leb, ltb, length, get_or, Result, Ok, Err, Option, Some}
 use Rattle.std.proofs.Common.{arith, sym, ◌∙◌, ap, append-nil, eq-eqb, eqb-true, le-leb, leb-true, ltb-true, ltb-false}
+use Rattle.fields.specs.declared.Refusal.{Refusal}
 use Rattle.fields.specs.Bytes.{both_true}
 use Rattle.fields.specs.Place.{clash, by_bool}
 use Rattle.fields.specs.Refusals.{never_zero}
@@ -11,11 +12,7 @@ use Rattle.fields.specs.Rest.{length-uint32}
 use Rattle.fields.specs.declared.Fault.{Fault}
 use Rattle.fields.specs.declared.Refusal.TheVariants.{Length, AlgorithmUnknown, Size}
 use Rattle.buffer.specs.Puts.{splice-length}
-use Rattle.writer_reply.specs.Reply.{told}
-use Rattle.writer_reply.specs.declared.Written.{Written}
-use Rattle.writer_reply.specs.declared.Written.TheVariants as written
-use Rattle.setting_record.specs.declared.Answer.{Answer}
-use Rattle.setting_record.specs.declared.Answer.TheVariants as answer
+use Rattle.writer_reply.specs.Reply.{told, Written}
 use Rattle.setting_record.specs.Bits.{version_in, is_version, unit, setting, told_setting}
 use Rattle.setting_record.specs.Record.{record_at}
 use Rattle.setting_record.specs.Laws.{packed_fits, packed_used, packed_says}
@@ -31,11 +28,12 @@ use Rattle.c_settings.specs.Settings.{setting_of}
 use Rattle.claims.specs.Reading.{held}
 use Rattle.claims.specs.Refusals.{store_put, store_move, Promise, refused_keeps, saltorchard_store_put, saltorchard_store_move, PromiseC}
 use Rattle.claims.specs.Settings.{Put, Whole, accepted, accepts, is_whole}
+use Rattle.setting_record.specs.declared.Setting.{Setting}
 
 -- by what was answered, with the equation in hand
-by_written : {P : Type 0} (w : Written) → ((g : Fault) → w ≡ written.Refused g → P) → ((n : ℕ) → w ≡ written.Length n → P) → P
-by_written (written.Refused g) refused done = refused g refl
-by_written (written.Length n) refused done = done n refl
+by_written : {P : Type 0} (w : Written) → ((g : Fault) → w ≡ Err g → P) → ((n : ℕ) → w ≡ Ok n → P) → P
+by_written (Err g) refused done = refused g refl
+by_written (Ok n) refused done = done n refl
 
 -- ---- what get answers of two stores of the right length
 
@@ -56,12 +54,12 @@ get_same s t d ls lt same =
 
 module _ (s : List ℕ) (d v k ms : ℕ) (r : Written) (out : List ℕ) (p : Promise (store_put d v k ms) s r out) where
   -- a device that there is, a version and a kind that there are, and a delay that is whole and fits are put
-  pub put_accepts : length s ≡ 128 → d ≤ 31 → is_version v ≡ true → k ≤ 4 → Whole (unit v) ms → r ≡ written.Length 128
+  pub put_accepts : length s ≡ 128 → d ≤ 31 → is_version v ≡ true → k ≤ 4 → Whole (unit v) ms → r ≡ Ok 128
   put_accepts l h a b w =
       let place : has_place s d ≡ true = rw (le-leb _ _ h, eq-eqb _ _ l) in
       p.0 ∙ accepts (has_place s d) v k ms 128 place a (le-leb _ _ b) (is_whole v ms w)
 
-  module _ (n : ℕ) (e : r ≡ written.Length n) where
+  module _ (n : ℕ) (e : r ≡ Ok n) where
     put : Put (has_place s d) v k ms (4 * d) s out
     put = accepted (has_place s d) v k ms 128 (4 * d) s r out n (p.0, p.1) e
 
@@ -81,7 +79,7 @@ module _ (s : List ℕ) (d v k ms : ℕ) (r : Written) (out : List ℕ) (p : Pro
     there = ap (λ (x : List ℕ). record_at x d) put.left ∙ record_put s d put.number inside (packed_fits v k ms _ put.packed)
 
     -- the device has what was put
-    pub got_put : (t : Answer) → t ≡ get_reply out d → t ≡ answer.Setting (setting k ms)
+    pub got_put : (t : Result (Option Setting) Refusal) → t ≡ get_reply out d → t ≡ Ok (Some (setting k ms))
     got_put t f =
         let used : put.number ≡ 0 → ⊥ = λ z. absurd (omega (arith, z, packed_used v k ms _ put.packed)) in
         f ∙ get_at out d as_long device ∙ ap place_answer there ∙ used_says put.number used ∙ packed_says v k ms _ put.packed
@@ -104,7 +102,7 @@ module _ (s : List ℕ) (d v k ms : ℕ) (r : Written) (out : List ℕ) (p : Pro
         (λ h. ap place_answer (ap (λ (x : List ℕ). record_at x e) put.left ∙ record_other s d put.number inside e apart (omega (arith, whole))))
 
   -- every other device has what it had, whether the put is accepted or not
-  pub got_other : (e : ℕ) → (e ≡ d → ⊥) → (t u : Answer) → t ≡ get_reply s e → u ≡ get_reply out e → u ≡ t
+  pub got_other : (e : ℕ) → (e ≡ d → ⊥) → (t u : Result (Option Setting) Refusal) → t ≡ get_reply s e → u ≡ get_reply out e → u ≡ t
   got_other e apart t u before after =
       by_written r
       (λ g w. after ∙ ap (λ (x : List ℕ). get_reply x e) (refused_keeps (store_put d v k ms) s r out g p w) ∙ sym before)
@@ -114,7 +112,7 @@ module _ (s : List ℕ) (d v k ms : ℕ) (r : Written) (out : List ℕ) (p : Pro
 
 -- an accepted one: the store has its length, and every place passes both tests
 passed :
-    (s : List ℕ) (n : ℕ) → move_reply s ≡ written.Length n
+    (s : List ℕ) (n : ℕ) → move_reply s ≡ Ok n
     → (length s ≡ 128) × (all_places known 32 s ≡ true) × (all_places fitting 32 s ≡ true)
 unfolding move_reply
 passed s n e =
@@ -125,12 +123,12 @@ passed s n e =
 
 passes_all :
     (s : List ℕ) → length s ≡ 128 → all_places known 32 s ≡ true → all_places fitting 32 s ≡ true
-    → (move_reply s ≡ written.Length 128) × (move_left s ≡ moved_places 32 s)
+    → (move_reply s ≡ Ok 128) × (move_left s ≡ moved_places 32 s)
 unfolding move_reply move_left
 passes_all s l k f = rw (eq-eqb _ _ l, k, f) (refl, refl)
 
 module _ (s : List ℕ) (r : Written) (out : List ℕ) (p : Promise store_move s r out) where
-  module _ (n : ℕ) (e : r ≡ written.Length n) where
+  module _ (n : ℕ) (e : r ≡ Ok n) where
     q : (length s ≡ 128) × (all_places known 32 s ≡ true) × (all_places fitting 32 s ≡ true)
     q = passed s n (sym p.0 ∙ e)
 
@@ -159,7 +157,7 @@ module _ (s : List ℕ) (r : Written) (out : List ℕ) (p : Promise store_move s
     moved_unused d h z = (to d (omega arith)).unused z
 
     -- a second move is accepted, and changes nothing more
-    pub moved_twice : (r₂ : Written) (out₂ : List ℕ) → Promise store_move out r₂ out₂ → (r₂ ≡ written.Length 128) × (out₂ ≡ out)
+    pub moved_twice : (r₂ : Written) (out₂ : List ℕ) → Promise store_move out r₂ out₂ → (r₂ ≡ Ok 128) × (out₂ ≡ out)
     moved_twice r₂ out₂ p₂ =
         let again = passes_all out as_long_moved
         (all_places_lem known 32 out (λ d h. (to d h).still_known))
@@ -168,7 +166,7 @@ module _ (s : List ℕ) (r : Written) (out : List ℕ) (p : Promise store_move s
         (p₂.0 ∙ again.0, p₂.1 ∙ again.1 ∙ same ∙ sym left)
 
   -- no answer changes, for any device number, whether the move is accepted or not
-  pub moved_answers : (d : ℕ) (t u : Answer) → t ≡ get_reply s d → u ≡ get_reply out d → u ≡ t
+  pub moved_answers : (d : ℕ) (t u : Result (Option Setting) Refusal) → t ≡ get_reply s d → u ≡ get_reply out d → u ≡ t
   moved_answers d t u before after =
       by_written r
       (λ g w. after ∙ ap (λ (x : List ℕ). get_reply x d) (refused_keeps store_move s r out g p w) ∙ sym before)
@@ -193,10 +191,10 @@ pub moved_answers_c :
 moved_answers_c s r out p d = let c = store_move_c s r out p in ap setting_of (moved_answers s c.0 out c.2 d _ _ refl refl)
 
 -- and those of a device that was put are what was put
-accepted_c : (w : Written) → (reply_of w).number ≡ 0 → (n : ℕ) × (w ≡ written.Length n)
+accepted_c : (w : Written) → (reply_of w).number ≡ 0 → (n : ℕ) × (w ≡ Ok n)
 unfolding reply_of told
-accepted_c (written.Refused g) e = let q : true ≡ false = sym (eq-eqb _ _ e) ∙ never_zero g.why in clash cc
-accepted_c (written.Length n) e = (n, refl)
+accepted_c (Err g) e = let q : true ≡ false = sym (eq-eqb _ _ e) ∙ never_zero g.why in clash cc
+accepted_c (Ok n) e = (n, refl)
 
 pub got_put_c :
     (s : List ℕ) (d v k ms : ℕ) (r : Reply) (out : List ℕ) → PromiseC (saltorchard_store_put d v k ms) s r out → r.number ≡ 0

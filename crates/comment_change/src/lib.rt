@@ -3,14 +3,11 @@
 #![tactic(auto)]
 
 ghost use Rattle.std.specs.Prelude.{◌≡◌, ◌+◌, ◌≤◌};
-ghost use Rattle.edit_file.specs.declared.Editable.TheVariants as editable;
 ghost use Rattle.edit_file.specs.Edits.{editable_at, IsChange};
 ghost use Rattle.comment_change.specs.At.{IsChangeAt};
 
-use edit_file::Editable;
-use fields::{Fault, Part, Refusal};
+use fields::{Part, Refusal};
 use reader_image::Fields;
-use reader_keys::Looked;
 use writer_reply::Written;
 
 // Puts a comment where one stands. The section's length field is at `section`, and the padding begins at `end`.
@@ -27,10 +24,7 @@ fn change_at(
 {
     let field = old.start - 4;
     if !utf8::is_utf8(comment) {
-        return Written::Refused(Fault {
-            why: Refusal::CharacterEncoding,
-            at: field,
-        });
+        return Err(Refusal::CharacterEncoding.at(field));
     }
     let past = old.start + old.length;
     edit_change::change(lent, n, section, field, past, end, comment)
@@ -39,23 +33,18 @@ fn change_at(
 // The change in an image that may be edited, the first n bytes, whose record is f. The first key's comment stands in the
 // record, so that nothing is read again for it.
 fn change_key(lent: &mut [u8], n: usize, f: Fields, k: usize, comment: &[u8]) -> Written
-    requires { editable_at lent.old n ≡ editable.Image f }
+    requires { editable_at lent.old n ≡ Ok f }
     ensures { IsChange lent.old n k comment.now result lent.new }
 {
-    let header = f.header;
-    let section = f.section;
-    let first = section.comment;
+    let Fields { header, section } = f;
     let end = n - section.padding;
     if k == 1 {
-        return change_at(lent, n, header.section, first, end, comment);
+        return change_at(lent, n, header.section, section.comment, end, comment);
     }
-    match reader_keys::key_of(&lent[..n], f, k) {
-        Looked::Nothing => writer_reply::refused(Refusal::Length),
-        Looked::Key(key) => {
-            let old = key.comment;
-            change_at(lent, n, header.section, old, end, comment)
-        }
-    }
+    let Some(key) = reader_keys::key_of(&lent[..n], f, k) else {
+        return writer_reply::refused(Refusal::Length);
+    };
+    change_at(lent, n, header.section, key.comment, end, comment)
 }
 
 // Changes the comment of key k of the image that the first n bytes of a lent buffer are, and answers the new
@@ -63,10 +52,8 @@ fn change_key(lent: &mut [u8], n: usize, f: Fields, k: usize, comment: &[u8]) ->
 pub fn change_comment_of(lent: &mut [u8], n: usize, k: usize, comment: &[u8]) -> Written
     ensures { IsChange lent.old n k comment.now result lent.new }
 {
-    match edit_file::read_to_edit(lent, n) {
-        Editable::Refused(f) => Written::Refused(f),
-        Editable::Image(f) => change_key(lent, n, f, k, comment),
-    }
+    let fields = edit_file::read_to_edit(lent, n)?;
+    change_key(lent, n, fields, k, comment)
 }
 
 // The same of the first key.

@@ -5,7 +5,7 @@
 
 ghost use Rattle.std.specs.Prelude.{◌≡◌, length};
 
-use fields::{Fault, Refusal};
+use fields::Refusal;
 use std::io;
 
 // The `ensures` gives only the length, which is all that lending it needs.
@@ -27,13 +27,7 @@ fn main(rt: HostRuntime) -> io::Result<()> {
         return Ok(());
     };
     if n == 1048576 {
-        return standard_streams::tell_refused(
-            &mut rt.stderr(),
-            Fault {
-                why: Refusal::Size,
-                at: 0,
-            },
-        );
+        return standard_streams::tell_refused(&mut rt.stderr(), Refusal::Size.at(0));
     }
     let mut bytes = [0u8; 65535];
     let written = armour_import::import(&text[..n], &mut bytes);

@@ -1,6 +1,6 @@
 -- docs/RULES.md, 12: at the places of an image that the writer makes of a list of keys, making room for a key and then putting it keeps the promise
 -- of an edit that makes the list with that key at its end. Rests on the laws of Fill and on the places' being in order.
-use Rattle.std.specs.Prelude.{ℕ, ◌+◌, ◌-◌, ◌≤◌, ◌≡◌, List, [], ◌∷◌, ◌++◌, map, length, take, drop}
+use Rattle.std.specs.Prelude.{ℕ, ◌+◌, ◌-◌, ◌≤◌, ◌≡◌, List, [], ◌∷◌, ◌++◌, map, length, take, drop, Ok, Err}
 use Rattle.std.proofs.Common.{arith, sym, ◌∙◌, ap}
 use Rattle.fields.specs.Bytes.{string}
 use Rattle.fields.specs.declared.Fault.{Fault}
@@ -9,8 +9,6 @@ use Rattle.format.proofs.Laws.{section-length}
 use Rattle.format.specs.Lengths.{entries_length}
 use Rattle.format.proofs.Lengths.{content-length, plain_length}
 use Rattle.buffer.specs.Runs.{IsRun}
-use Rattle.writer_reply.specs.declared.Written.{Written}
-use Rattle.writer_reply.specs.declared.Written.TheVariants as written
 use Rattle.edit_shells.specs.Parts.{Rises, true-rises}
 use Rattle.edit_shells.specs.Shells.{added_at, opened_at, opened_size}
 use Rattle.edit_shells.specs.Edits.{added_by_places, IsOpened, IsRoomMade, IsRenewed}
@@ -19,6 +17,7 @@ use Rattle.edit_shells.specs.Keys.{section_place, end_place, keys_with, add_writ
 use Rattle.edit_shells.proofs.Within.{begins, as_long, add_order}
 use Rattle.edit_add.specs.Open.{Ordered, rises_ordered}
 use Rattle.edit_add.specs.Fill.{blob_takes, entry_takes, added_size, add_refused, add_filled}
+use Rattle.writer_reply.specs.Reply.{Written}
 
 -- more bytes, padded, are no fewer
 grown :
@@ -83,19 +82,19 @@ module _
         opened_room (opened_size section end blob own) (opened_at old count section end blob own) n old (added_by_places section end) r out small order p
 
     pub add_key_refused :
-        (f : Fault) (out : List ℕ) → IsOpenedFor (written.Refused f) out → IsRenewed (written_image c (keys_with key keys)) n old (written.Refused f) out
+        (f : Fault) (out : List ℕ) → IsOpenedFor (Err f) out → IsRenewed (written_image c (keys_with key keys)) n old (Err f) out
     add_key_refused f out p =
-        sized-renewed (written_image c (keys_with key keys)) n old (written.Refused f) out longer
+        sized-renewed (written_image c (keys_with key keys)) n old (Err f) out longer
         (rw (← image_is)
-        (add_refused old count section end (key_blob key) (written_entry key).pair key.comment ordered f out (made (written.Refused f) out p)))
+        (add_refused old count section end (key_blob key) (written_entry key).pair key.comment ordered f out (made (Err f) out p)))
 
     -- the last three arguments are what the puts of the blob, of the keypair and of the comment ensure
     pub add_key :
-        (k r₁ r₂ r₃ : ℕ) (out o₁ o₂ o₃ : List ℕ) → IsOpenedFor (written.Length k) out → IsRun out section (string (key_blob key)) r₁ o₁
+        (k r₁ r₂ r₃ : ℕ) (out o₁ o₂ o₃ : List ℕ) → IsOpenedFor (Ok k) out → IsRun out section (string (key_blob key)) r₁ o₁
         → IsRun o₁ (end + blob) (written_entry key).pair r₂ o₂ → IsRun o₂ r₂ (string key.comment) r₃ o₃
-        → IsRenewed (written_image c (keys_with key keys)) n old (written.Length k) o₃
+        → IsRenewed (written_image c (keys_with key keys)) n old (Ok k) o₃
     add_key k r₁ r₂ r₃ out o₁ o₂ o₃ p run₁ run₂ run₃ =
-        sized-renewed (written_image c (keys_with key keys)) n old (written.Length k) o₃ longer
+        sized-renewed (written_image c (keys_with key keys)) n old (Ok k) o₃ longer
         (rw (← image_is)
         (add_filled old count section end (key_blob key) (written_entry key).pair key.comment ordered k r₁ r₂ r₃ out o₁ o₂ o₃
-        (made (written.Length k) out p) run₁ run₂ run₃))
+        (made (Ok k) out p) run₁ run₂ run₃))

@@ -1,6 +1,6 @@
 -- Where room was made for a key, the puts of its blob, its keypair and its comment make the image with it; refused, the addition is. Rests on
 -- the contract of `edit_add::open` and on a buffer in parts.
-use Rattle.std.specs.Prelude.{ℕ, ◌+◌, ◌-◌, ◌≤◌, ◌≡◌, refl, drop}
+use Rattle.std.specs.Prelude.{ℕ, ◌+◌, ◌-◌, ◌≤◌, ◌≡◌, refl, drop, Ok, Err}
 use Rattle.std.proofs.Common.{arith, sym, ◌∙◌, ap}
 use mathlib.Core.List.{List, [], ◌∷◌, ◌++◌, append_assoc}
 use Rattle.std.proofs.Math.ListN.{length, take}
@@ -11,9 +11,7 @@ use Rattle.fields.specs.declared.Fault.{Fault}
 use Rattle.format.specs.Format.{padding_length, padding_bytes}
 use Rattle.buffer.specs.Puts.{splice}
 use Rattle.buffer.specs.Runs.{IsRun}
-use Rattle.writer_reply.specs.declared.Written.{Written}
-use Rattle.writer_reply.specs.declared.Written.TheVariants as written
-use Rattle.writer_reply.specs.Reply.{left, sized_by, sized, IsSized}
+use Rattle.writer_reply.specs.Reply.{left, sized_by, sized, IsSized, Written}
 use Rattle.edit_shells.specs.Parts.{lengths, join-length, join_more, part_length, slice_cut, run_part}
 use Rattle.edit_shells.specs.Shells.{closed_is, closed-length, added_at, opened_at, opened_size}
 use Rattle.edit_shells.specs.Edits.{IsRoomMade}
@@ -57,8 +55,8 @@ module _ (old : List ℕ) (count section end : ℕ) (blob pair comment : List �
   pub add_refused :
       (f : Fault) (out : List ℕ)
       → IsRoomMade (opened_size section end (blob_takes blob) (entry_takes pair comment))
-      (opened_at old count section end (blob_takes blob) (entry_takes pair comment)) old (written.Refused f) out
-      → IsSized (added_at old count section end blob pair comment) old (written.Refused f) out
+      (opened_at old count section end (blob_takes blob) (entry_takes pair comment)) old (Err f) out
+      → IsSized (added_at old count section end blob pair comment) old (Err f) out
   add_refused f out p =
       let e = p.0 ∙ reply_same in
       let image = added_at old count section end blob pair comment in
@@ -88,9 +86,9 @@ module _ (old : List ℕ) (count section end : ℕ) (blob pair comment : List �
   pub add_filled :
       (k r₁ r₂ r₃ : ℕ) (out o₁ o₂ o₃ : List ℕ)
       → IsRoomMade (opened_size section end (blob_takes blob) (entry_takes pair comment))
-      (opened_at old count section end (blob_takes blob) (entry_takes pair comment)) old (written.Length k) out
+      (opened_at old count section end (blob_takes blob) (entry_takes pair comment)) old (Ok k) out
       → IsRun out section (string blob) r₁ o₁ → IsRun o₁ (end + blob_takes blob) pair r₂ o₂ → IsRun o₂ r₂ (string comment) r₃ o₃
-      → IsSized (added_at old count section end blob pair comment) old (written.Length k) o₃
+      → IsSized (added_at old count section end blob pair comment) old (Ok k) o₃
   add_filled k r₁ r₂ r₃ out o₁ o₂ o₃ p run₁ run₂ run₃ =
       let kept = end - (section + 4) in
       let b = blob_takes blob in

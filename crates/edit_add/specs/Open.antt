@@ -1,5 +1,5 @@
 -- The move and the puts that make room for a key, and then the puts of the key, make the image with it. Rests on a buffer in parts.
-use Rattle.std.specs.Prelude.{ℕ, ◌+◌, ◌-◌, ◌≤◌, ◌<◌, ◌≡◌, true, false, drop}
+use Rattle.std.specs.Prelude.{ℕ, ◌+◌, ◌-◌, ◌≤◌, ◌<◌, ◌≡◌, true, false, drop, Ok}
 use native.Mathlib.Omega.{arith}
 use Rattle.std.proofs.Math.Path.{refl}
 use Rattle.std.proofs.Common.{sym, ◌∙◌, ap, ap₂}
@@ -12,7 +12,6 @@ use Rattle.format.specs.Format.{padding_length, padding_bytes}
 use Rattle.format.proofs.Laws.{padding_length_lem}
 use Rattle.buffer.specs.Puts.{splice, IsPut}
 use Rattle.buffer_moves.specs.Moves.{moved, moved_fits}
-use Rattle.writer_reply.specs.declared.Written.TheVariants as written
 use Rattle.edit_shells.specs.Parts.{rises, rises-true, not_rises, join-length, join_more, cut, cut_whole, part_length, splice_part, put_part}
 use Rattle.edit_shells.specs.Shells.{closed_is, closed-length, opened_at, opened_size}
 use Rattle.edit_shells.specs.Edits.{added_by_places, IsRoomMade}
@@ -155,7 +154,7 @@ module _ (old : List ℕ) (count section end : ℕ) (o : Ordered old section end
       → o₁ ≡ moved old (section + 4) (section + blob + 4) (end - (section + 4)) → IsPut o₁ 35 (uint32 count) r₁ o₂
       → IsPut o₂ (section + blob) (uint32 (end - (section + 4) + own + padding)) r₂ o₃
       → IsPut o₃ (section + blob + 4 + (end - (section + 4) + own)) (take padding padding_bytes) r₃ o₄
-      → IsRoomMade (opened_size section end blob own) (opened_at old count section end blob own) old (written.Length (opened_size section end blob own)) o₄
+      → IsRoomMade (opened_size section end blob own) (opened_at old count section end blob own) old (Ok (opened_size section end blob own)) o₄
   open_puts blob own padding r₁ r₂ r₃ o₁ o₂ o₃ o₄ ep small room move put₁ put₂ put₃ =
       let kept = end - (section + 4) in
       let stop = section + blob + 4 + kept in

@@ -21,10 +21,7 @@ fn open_within(
     requires { Ordered lent.old section end }
     ensures { IsRoomMade (opened_size section end blob own) (opened_at lent.old count section end blob own) lent.old result lent.new }
 {
-    if 65535 < blob {
-        return writer_reply::refused(Refusal::Size);
-    }
-    if 65535 < own {
+    if 65535 < blob || 65535 < own {
         return writer_reply::refused(Refusal::Size);
     }
     let field = section + blob;
@@ -42,7 +39,7 @@ fn open_within(
     buffer::put_uint32(lent, 35, count);
     buffer::put_uint32(lent, field, content + padding);
     buffer::put_padding(lent, field + 4 + content, padding);
-    Written::Length(size)
+    Ok(size)
 }
 
 // Makes the image that the first n bytes are one of `count` keys, one more than it has, but for that key's

@@ -1,5 +1,5 @@
 -- The puts of a comment change make the image with the new comment. Rests on a buffer in parts.
-use Rattle.std.specs.Prelude.{ℕ, ◌+◌, ◌-◌, ◌≤◌, ◌<◌, ◌≡◌, refl, true, false, take, drop}
+use Rattle.std.specs.Prelude.{ℕ, ◌+◌, ◌-◌, ◌≤◌, ◌<◌, ◌≡◌, refl, true, false, take, drop, Ok}
 use Rattle.std.proofs.Common.{arith, sym, ◌∙◌}
 use Rattle.std.proofs.Math.Path.{ap}
 use mathlib.Core.List.{List, [], ◌∷◌, ◌++◌, append-nil}
@@ -11,7 +11,6 @@ use Rattle.format.specs.Format.{padding_length, padding_bytes}
 use Rattle.format.proofs.Laws.{padding_length_lem}
 use Rattle.buffer.specs.Puts.{splice, IsPut, zeros}
 use Rattle.buffer_moves.specs.Moves.{moved, moved_fits}
-use Rattle.writer_reply.specs.declared.Written.TheVariants as written
 use Rattle.edit_shells.specs.Parts.{rises, Rises, rises-true, not_rises, lengths, cut, cut_whole, part_length, splice_part, put_part, join-length}
 use Rattle.edit_shells.specs.Shells.{closed, closed_is, closed-length, changed_at}
 use Rattle.edit_shells.specs.Edits.{changed_by_places, IsEnding, IsRenewed}
@@ -142,7 +141,7 @@ module _ (old : List ℕ) (n section field past end : ℕ) (comment : List ℕ) 
       → padding ≡ padding_length content → whole ≡ content + padding → follows ≡ end - past → to ≡ field + (4 + length comment) → stop ≡ to + follows
       → length (changed_at old section field past end comment) ≤ 65535 → length (changed_at old section field past end comment) ≤ length old
       → o₁ ≡ moved old past to follows → IsPut o₁ section (uint32 whole) r₁ o₂ → IsPut o₂ field (string comment) r₂ o₃
-      → IsEnding o₃ stop padding n k o₄ → IsRenewed (changed_at old section field past end comment) n old (written.Length k) o₄
+      → IsEnding o₃ stop padding n k o₄ → IsRenewed (changed_at old section field past end comment) n old (Ok k) o₄
   change_puts content padding whole follows to stop r₁ r₂ k o₁ o₂ o₃ o₄ ec ep ew ef et es small room move put₁ put₂ ends =
       let mid = field - (section + 4) in
       let size = stop + padding in

@@ -39,7 +39,7 @@ fn change_within(
     buffer_moves::move_bytes(lent, past, to, follows);
     buffer::put_uint32(lent, section, content + padding);
     buffer::put_string(lent, field, comment);
-    Written::Length(edit_shells::put_ending(lent, to + follows, padding, n))
+    Ok(edit_shells::put_ending(lent, to + follows, padding, n))
 }
 
 // Puts another comment into the image that the first n bytes are. The section's length field is at

@@ -1,6 +1,6 @@
 -- The keys then in the file are written afresh: a list of keys that fit, with comments that are UTF-8, passes every test of the writer but those of
 -- size and room. So what leaves the image of the edited list, as `IsRenewed` says, is the edit.
-use Rattle.std.specs.Prelude.{ℕ, zero, suc, ◌-◌, ◌≤◌, ◌<◌, ◌≡◌, refl, Bool, true, false, ltb, take, get_or}
+use Rattle.std.specs.Prelude.{ℕ, zero, suc, ◌-◌, ◌≤◌, ◌<◌, ◌≡◌, refl, Bool, true, false, ltb, take, get_or, Ok, Err}
 use Rattle.std.proofs.Common.{arith, ◌∙◌, ap, length-take, get_or-take}
 use Rattle.std.proofs.Math.Path.{sym}
 use mathlib.Core.List.{List, [], ◌∷◌, map}
@@ -17,14 +17,11 @@ use Rattle.reader_image.specs.declared.Fields.{Fields}
 use Rattle.reader_image.specs.Container.{keys_in}
 use Rattle.reader_image.specs.Read.{KeysText}
 use Rattle.reader_image.specs.FormLaws.{keys_of}
-use Rattle.writer_reply.specs.declared.Written.{Written}
-use Rattle.writer_reply.specs.declared.Written.TheVariants as written
-use Rattle.writer_reply.specs.Reply.{refused, left, sized}
+use Rattle.writer_reply.specs.Reply.{refused, left, sized, Written}
 use Rattle.writer_plain.specs.Plain.{keys_reply, keys_left}
 use Rattle.writer_plain.specs.Fits.{AllFit, keys_pass}
 use Rattle.edit_shells.specs.Edits.{renewed, IsRenewed}
 use Rattle.edit_shells.specs.Keys.{change_at, remove_at, with_comment, keys_changed, keys_without, map_change, map_remove, change_length, remove_length}
-use Rattle.edit_file.specs.declared.Editable.TheVariants as editable
 use Rattle.edit_file.specs.Edits.{editable_at, file_keys, has_key, afresh_reply, afresh_left, change_reply, change_left, remove_reply, remove_left}
 use Rattle.edit_file.specs.Stand.{Edited, edited}
 
@@ -50,8 +47,8 @@ fit_removed (suc i) (k ∷ keys) fits = (fits.0, fits.1, fits.2, fit_removed i k
 
 module _ (keys : List Key) (f : Fields) (n : ℕ) (old image : List ℕ) where
   by_answer : (w : Written) → keys_left keys f.section.checkint old ≡ left w image old → afresh_left w keys f n old ≡ renewed w image n old
-  by_answer (written.Refused g) e = refl
-  by_answer (written.Length k) e = rw e
+  by_answer (Err g) e = refl
+  by_answer (Ok k) e = rw e
 
   pub passed_renewed :
       (r : Written) (out : List ℕ) → keys_reply keys f.section.checkint (length old) ≡ sized image (length old)
@@ -102,7 +99,7 @@ all_take n l all i = go (ltb i n) refl
         let past : length (take n l) ≤ i = omega (arith, ltb-false i n e, length-take n l) in
         rw (get_or-eq_default (take n l) 0 past) (omega arith)
 
-module _ (old : List ℕ) (all : AllBytes old) (n : ℕ) (f : Fields) (e : editable_at old n ≡ editable.Image f) where
+module _ (old : List ℕ) (all : AllBytes old) (n : ℕ) (f : Fields) (e : editable_at old n ≡ Ok f) where
   pub told : Edited old n f
   told = edited old n f e
 

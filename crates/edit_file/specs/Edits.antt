@@ -3,7 +3,7 @@
 -- is missing, for the only key removed and for a 17th added; then the new comment's 7, at that key's old comment, or the new key's own refusals;
 -- size 11; room 9. What is left is what the writer, given the keys that are then in the file and the image's own checkint, leaves there, and zeros
 -- from its end to the old image's.
-use Rattle.std.specs.Prelude.{ℕ, ◌-◌, Bool, cond, ◌&&◌, List, map, leb, length, take}
+use Rattle.std.specs.Prelude.{ℕ, ◌-◌, Bool, cond, ◌&&◌, List, map, leb, length, take, Result, Ok, Err}
 use Rattle.fields.specs.Fields.{fault}
 use Rattle.fields.specs.declared.Fault.{Fault}
 use Rattle.fields.specs.declared.Refusal.{Refusal}
@@ -15,36 +15,32 @@ use Rattle.reader_image.specs.declared.Fields.{Fields}
 use Rattle.reader_image.specs.Container.{keys_in, on_read, read_at}
 use Rattle.reader_image.specs.Form.{on_kind, form_of}
 use Rattle.reader_keys.specs.Keys.{on_looked, key_numbered}
-use Rattle.writer_reply.specs.declared.Written.{Written}
-use Rattle.writer_reply.specs.declared.Written.TheVariants as written
-use Rattle.writer_reply.specs.Reply.{unless, Answers}
+use Rattle.writer_reply.specs.Reply.{unless, Answers, Written}
 use Rattle.writer_plain.specs.Plain.{keys_reply, keys_left}
 use Rattle.edit_shells.specs.Keys.{keys_changed, keys_without, keys_with}
-use Rattle.edit_file.specs.declared.Editable.{Editable}
-use Rattle.edit_file.specs.declared.Editable.TheVariants as editable
 
 -- ---- the image that an edit is given
 
-abbrev pub on_editable : {R : Type 0} → Editable → (Fault → R) → (Fields → R) → R
-on_editable (editable.Refused f) refused image = refused f
-on_editable (editable.Image x) refused image = image x
+abbrev pub on_editable : {R : Type 0} → Result Fields Fault → (Fault → R) → (Fields → R) → R
+on_editable (Err f) refused image = refused f
+on_editable (Ok x) refused image = image x
 
 -- a refusal that belongs to the whole image
-abbrev pub refused_whole : Refusal → Editable
-refused_whole why = editable.Refused (fault why 0)
+abbrev pub refused_whole : Refusal → Result Fields Fault
+refused_whole why = Err (fault why 0)
 
 -- an accepted image that is plain and in the form
-unfoldable pub record_editable : List ℕ → Fields → Editable
+unfoldable pub record_editable : List ℕ → Fields → Result Fields Fault
 record_editable s f =
     on_kind f.section.kind
-    (cond (form_of s f) (editable.Image f) (refused_whole Form))
+    (cond (form_of s f) (Ok f) (refused_whole Form))
     (refused_whole Encrypted)
 
-unfoldable pub editable_at : List ℕ → ℕ → Editable
+unfoldable pub editable_at : List ℕ → ℕ → Result Fields Fault
 editable_at old n =
     cond (leb n 65535)
     (cond (leb n (length old))
-    (on_read (read_at (take n old)) editable.Refused (λ f. record_editable (take n old) f))
+    (on_read (read_at (take n old)) Err (λ f. record_editable (take n old) f))
     (refused_whole Length))
     (refused_whole Size)
 
@@ -67,18 +63,18 @@ abbrev pub afresh_reply : List Key → Fields → List ℕ → Written
 afresh_reply keys f old = keys_reply keys f.section.checkint (length old)
 
 abbrev pub afresh_left : Written → List Key → Fields → ℕ → List ℕ → List ℕ
-afresh_left (written.Refused g) keys f n old = old
-afresh_left (written.Length k) keys f n old = splice (keys_left keys f.section.checkint old) k (zeros (n - k))
+afresh_left (Err g) keys f n old = old
+afresh_left (Ok k) keys f n old = splice (keys_left keys f.section.checkint old) k (zeros (n - k))
 
 -- ---- the comment of key k changed
 
 unfoldable pub change_reply : List ℕ → ℕ → ℕ → List ℕ → Written
 change_reply old n k comment =
-    on_editable (editable_at old n) written.Refused (λ f.
+    on_editable (editable_at old n) Err (λ f.
     unless (has_key f k) Length
     (cond (utf8 comment)
     (afresh_reply (keys_changed k comment (file_keys (take n old) f)) f old)
-    (written.Refused (fault CharacterEncoding (comment_field (take n old) f k)))))
+    (Err (fault CharacterEncoding (comment_field (take n old) f k)))))
 
 unfoldable pub change_left : List ℕ → ℕ → ℕ → List ℕ → List ℕ
 change_left old n k comment =
@@ -89,7 +85,7 @@ change_left old n k comment =
 
 unfoldable pub remove_reply : List ℕ → ℕ → ℕ → Written
 remove_reply old n k =
-    on_editable (editable_at old n) written.Refused (λ f.
+    on_editable (editable_at old n) Err (λ f.
     unless (has_key f k) Length
     (afresh_reply (keys_without k (file_keys (take n old) f)) f old))
 
@@ -102,7 +98,7 @@ remove_left old n k =
 
 unfoldable pub add_reply : List ℕ → ℕ → Key → Written
 add_reply old n key =
-    on_editable (editable_at old n) written.Refused (λ f.
+    on_editable (editable_at old n) Err (λ f.
     afresh_reply (keys_with key (file_keys (take n old) f)) f old)
 
 unfoldable pub add_left : List ℕ → ℕ → Key → List ℕ

@@ -1,6 +1,6 @@
 -- Where the parts of an image that may be edited stand, by the keys that are in it. Rests on `key_lies`: where key k of an accepted image stands, and
 -- on `form_stands`: in the form each scalar stands as the writer writes it.
-use Rattle.std.specs.Prelude.{ℕ, suc, ◌+◌, ◌-◌, ◌≤◌, ◌<◌, ◌≡◌, refl, Bool, true, false, cond, leb, take}
+use Rattle.std.specs.Prelude.{ℕ, suc, ◌+◌, ◌-◌, ◌≤◌, ◌<◌, ◌≡◌, refl, Bool, true, false, cond, leb, take, Ok, Err}
 use Rattle.std.proofs.Common.{arith, sym, ◌∙◌, leb-true}
 use Rattle.std.proofs.Math.Path.{ap, ap₂}
 use mathlib.Core.List.{List, ◌∷◌, map}
@@ -16,7 +16,6 @@ use Rattle.format.specs.Scalars.{key_zeros, written_entries}
 use Rattle.reader_section.specs.declared.Kind.{Kind}
 use Rattle.reader_section.specs.declared.Kind.TheVariants.{Plain, Encrypted as Sealed}
 use Rattle.reader_image.specs.declared.Fields.{Fields}
-use Rattle.reader_image.specs.declared.ImageRead.TheVariants as read
 use Rattle.reader_image.specs.Container.{keys_in, read_at}
 use Rattle.reader_image.specs.Form.{on_kind, form_of}
 use Rattle.reader_image.specs.Read.{KeysText}
@@ -24,29 +23,28 @@ use Rattle.reader_image.specs.FormLaws.{by_read, form_stands, fit_private}
 use Rattle.reader_keys.specs.Found.{KeyLies, key_lies}
 use Rattle.edit_shells.specs.Keys.{section_place, end_place, entry_at}
 use Rattle.edit_shells.specs.Within.{KeyPlaces}
-use Rattle.edit_file.specs.declared.Editable.TheVariants as editable
 use Rattle.edit_file.specs.Edits.{record_editable, editable_at, refused_whole}
 
 -- what is known of an image that may be edited
 pub record Edited (old : List ℕ) (n : ℕ) (f : Fields) : Type 0 where
   pub small : n ≤ 65535
   pub inside : n ≤ length old
-  pub was_read : read_at (take n old) ≡ read.Record f
+  pub was_read : read_at (take n old) ≡ Ok f
   pub plain : f.section.kind ≡ Plain
   pub form : form_of (take n old) f ≡ true
 
 by_tests :
-    (k : Kind) (form : Bool) (f g : Fields) → on_kind k (cond form (editable.Image f) (refused_whole Form)) (refused_whole Encrypted) ≡ editable.Image g
+    (k : Kind) (form : Bool) (f g : Fields) → on_kind k (cond form (Ok f) (refused_whole Form)) (refused_whole Encrypted) ≡ Ok g
     → (f ≡ g) × (k ≡ Plain) × (form ≡ true)
 by_tests Plain true f g e = (cc, refl, refl)
 by_tests Plain false f g e = clash cc
 by_tests Sealed form f g e = clash cc
 
-record_edited : (s : List ℕ) (f g : Fields) → record_editable s f ≡ editable.Image g → (f ≡ g) × (f.section.kind ≡ Plain) × (form_of s f ≡ true)
+record_edited : (s : List ℕ) (f g : Fields) → record_editable s f ≡ Ok g → (f ≡ g) × (f.section.kind ≡ Plain) × (form_of s f ≡ true)
 unfolding record_editable
 record_edited s f g e = by_tests f.section.kind (form_of s f) f g e
 
-pub edited : (old : List ℕ) (n : ℕ) (f : Fields) → editable_at old n ≡ editable.Image f → Edited old n f
+pub edited : (old : List ℕ) (n : ℕ) (f : Fields) → editable_at old n ≡ Ok f → Edited old n f
 unfolding editable_at
 edited old n f e =
     by_bool (leb n 65535)
@@ -56,14 +54,14 @@ edited old n f e =
     (λ inside.
     let e₂ = rw inside at e₁ in
     by_read (read_at (take n old))
-    (λ g w. let h : editable.Refused g ≡ editable.Image f = rw w at e₂ in clash cc)
+    (λ g w. let h : Err g ≡ Ok f = rw w at e₂ in clash cc)
     (λ g w.
     let h = record_edited (take n old) g f (rw w at e₂) in
     let same : g ≡ f = h.0 in
     record {
       small = leb-true n 65535 small;
       inside = leb-true n (length old) inside;
-      was_read = w ∙ ap read.Record same;
+      was_read = w ∙ ap Ok same;
       plain = rw same at h.1;
       form = rw same at h.2;
     }))

@@ -5,73 +5,49 @@
 ghost use Rattle.std.specs.Prelude.{◌≡◌};
 ghost use Rattle.reader_image.specs.Container.{read_at};
 ghost use Rattle.reader_image.specs.Form.{form_of};
-ghost use Rattle.reader_image.specs.declared.ImageRead.TheVariants as read;
-ghost use Rattle.edit_file.specs.Edits.{refused_whole, editable_at};
+ghost use Rattle.edit_file.specs.Edits.{editable_at};
 
 use fields::{Fault, Refusal};
-use reader_image::{Fields, ImageRead};
+use reader_image::Fields;
 use reader_section::Kind;
-
-#[derive(Clone, Copy)]
-pub enum Editable {
-    Image(Fields),
-    Refused(Fault),
-}
-
-fn refused(why: Refusal) -> Editable
-    ensures { result ≡ refused_whole why }
-{
-    Editable::Refused(Fault { why: why, at: 0 })
-}
 
 // Whether an accepted image is in the writer's form, by its record.
 fn in_form(image: &[u8], f: Fields) -> bool
-    requires { read_at image.now ≡ read.Record f }
+    requires { read_at image.now ≡ Ok f }
     ensures { result ≡ form_of image.now f }
 {
-    let header = f.header;
-    let section = f.section;
-    let private = section.private;
-    let kind = section.kind;
-    let algorithm = header.algorithm;
-    let first = header.blob;
-    let places = section.places;
-    let second = first.start + first.length;
+    let Fields { header, section } = f;
     reader_image::scalars_in_form(
         image,
-        kind,
-        algorithm,
-        private.scalar,
-        second,
+        section.kind,
+        header.algorithm,
+        section.private.scalar,
+        header.blob.start + header.blob.length,
         header.count,
-        places,
+        section.places,
     )
 }
 
 // The record of the image that the first n bytes of a buffer are, if it may be edited.
-pub fn read_to_edit(lent: &[u8], n: usize) -> Editable
+#[tactic(auto, unfolding(crate::specs::Edits::editable_at, crate::specs::Edits::record_editable))]
+pub fn read_to_edit(lent: &[u8], n: usize) -> Result<Fields, Fault>
     ensures { result ≡ editable_at lent.now n }
 {
     if 65535 < n {
-        return refused(Refusal::Size);
+        return Err(Refusal::Size.at(0));
     }
     if lent.len() < n {
-        return refused(Refusal::Length);
+        return Err(Refusal::Length.at(0));
     }
-    match reader_image::read(&lent[..n]) {
-        ImageRead::Refused(f) => Editable::Refused(f),
-        ImageRead::Record(f) => {
-            let section = f.section;
-            let kind = section.kind;
-            match kind {
-                Kind::Encrypted => refused(Refusal::Encrypted),
-                Kind::Plain => {
-                    if in_form(&lent[..n], f) {
-                        return Editable::Image(f);
-                    }
-                    refused(Refusal::Form)
-                }
+    let image = &lent[..n];
+    let fields = reader_image::read(image)?;
+    match fields.section.kind {
+        Kind::Encrypted => Err(Refusal::Encrypted.at(0)),
+        Kind::Plain => {
+            if in_form(image, fields) {
+                return Ok(fields);
             }
+            Err(Refusal::Form.at(0))
         }
     }
 }

@@ -1,5 +1,5 @@
 -- The moves and puts of a removal make the image without the key. Rests on a buffer in parts.
-use Rattle.std.specs.Prelude.{ℕ, ◌+◌, ◌-◌, ◌≤◌, ◌<◌, ◌≡◌, refl, true, false, drop}
+use Rattle.std.specs.Prelude.{ℕ, ◌+◌, ◌-◌, ◌≤◌, ◌<◌, ◌≡◌, refl, true, false, drop, Ok}
 use Rattle.std.proofs.Common.{arith, ◌∙◌, ap, length-take-le}
 use Rattle.std.proofs.Math.Path.{sym}
 use mathlib.Core.List.{List, [], ◌∷◌, ◌++◌, append-nil}
@@ -11,7 +11,6 @@ use Rattle.format.specs.Format.{padding_length, padding_bytes}
 use Rattle.format.proofs.Laws.{padding_length_lem}
 use Rattle.buffer.specs.Puts.{splice, IsPut, zeros, splice-length}
 use Rattle.buffer_moves.specs.Moves.{moved, moved_fits}
-use Rattle.writer_reply.specs.declared.Written.TheVariants as written
 use Rattle.edit_shells.specs.Parts.{rises, Rises, rises-true, not_rises, lengths, join-length, cut, cut_whole, part_length, slice_cut, splice_part, splice_over_parts, put_part, slice_past}
 use Rattle.edit_shells.specs.Shells.{closed_is, closed-length, removed_at}
 use Rattle.edit_shells.specs.Edits.{removed_by_places, IsEnding, IsRenewed}
@@ -211,7 +210,7 @@ module _
         → length (removed_at old count blobStart blobEnd section entryStart entryEnd end) ≤ length old
         → o₁ ≡ moved old blobEnd blobStart kept → o₂ ≡ moved o₁ entryEnd to follows → IsPut o₂ 35 (uint32 count) r₁ o₃
         → IsPut o₃ field (uint32 whole) r₂ o₄ → IsEnding o₄ stop padding n k o₅
-        → IsRenewed (removed_at old count blobStart blobEnd section entryStart entryEnd end) n old (written.Length k) o₅
+        → IsRenewed (removed_at old count blobStart blobEnd section entryStart entryEnd end) n old (Ok k) o₅
     remove_puts field content padding whole kept follows to stop r₁ r₂ k o₁ o₂ o₃ o₄ o₅ ef ec ep ew ek el et es small room move₁ move₂ put₁ put₂ ends =
         let image = removed_at old count blobStart blobEnd section entryStart entryEnd end in
         let ahead = blobStart - 39 in

@@ -40,7 +40,7 @@ fn remove_within(
     buffer_moves::move_bytes(lent, past, to, follows);
     buffer::put_uint32(lent, 35, count);
     buffer::put_uint32(lent, field, content + padding);
-    Written::Length(edit_shells::put_ending(lent, to + follows, padding, n))
+    Ok(edit_shells::put_ending(lent, to + follows, padding, n))
 }
 
 // Removes a key of the image that the first n bytes are, which leaves `count` keys. Its blob's string is

@@ -1,6 +1,6 @@
 -- docs/RULES.md, 12: the laws of an edit of the first n bytes of a buffer: what it answers by its places, its size and the room, and what it
 -- leaves there.
-use Rattle.std.specs.Prelude.{ℕ, ◌+◌, ◌-◌, ◌≤◌, ◌<◌, ◌≡◌, refl, Bool, true, false, List, [], ◌∷◌, ◌++◌, leb, length, take, drop}
+use Rattle.std.specs.Prelude.{ℕ, ◌+◌, ◌-◌, ◌≤◌, ◌<◌, ◌≡◌, refl, Bool, true, false, List, [], ◌∷◌, ◌++◌, leb, length, take, drop, Ok, Err}
 use Rattle.std.proofs.Common.{arith, sym, ap, ◌∙◌, append_assoc, append-nil, length-append, length-drop, take_at}
 use borrow.Author.Tests.{le-leb, lt-leb, leb-true}
 use Rattle.fields.specs.Bytes.{join}
@@ -8,9 +8,7 @@ use Rattle.fields.specs.declared.Refusal.TheVariants.{Length, Size, Room}
 use Rattle.format.specs.Format.{padding_bytes}
 use Rattle.buffer.specs.Runs.{join-append}
 use Rattle.buffer.specs.Puts.{splice, placed, next, zeros, zeros-length, nothing_put, splice_nil, splice-splice}
-use Rattle.writer_reply.specs.declared.Written.{Written}
-use Rattle.writer_reply.specs.declared.Written.TheVariants as written
-use Rattle.writer_reply.specs.Reply.{refused, unless, left, sized_by, sized, IsSized}
+use Rattle.writer_reply.specs.Reply.{refused, unless, left, sized_by, sized, IsSized, Written}
 use Rattle.edit_shells.specs.Parts.{rises, Rises, lengths, lengths_more, true-rises, put_part}
 use Rattle.edit_shells.specs.Edits.{edit_reply, renewed, IsEdit, IsRenewed, IsOpened, IsRoomMade, IsEnding}
 
@@ -33,11 +31,11 @@ module _ (places : List ℕ) (size n room : ℕ) where
   ordered h k = rw (le-leb _ _ h, true-rises 0 (places ++ n ∷ room ∷ []) k)
 
 -- a length is answered where the image fits
-pub fits_of : (size room k : ℕ) → written.Length k ≡ sized_by size room → (k ≡ size) × (size ≤ 65535) × (size ≤ room)
+pub fits_of : (size room k : ℕ) → Ok k ≡ sized_by size room → (k ≡ size) × (size ≤ 65535) × (size ≤ room)
 fits_of size room k e = small (leb size 65535) (leb size room) refl refl e
   where
     small :
-        (s r : Bool) → leb size 65535 ≡ s → leb size room ≡ r → written.Length k ≡ unless s Size (unless r Room (written.Length size))
+        (s r : Bool) → leb size 65535 ≡ s → leb size room ≡ r → Ok k ≡ unless s Size (unless r Room (Ok size))
         → (k ≡ size) × (size ≤ 65535) × (size ≤ room)
     small true true h g q = (cc, leb-true size 65535 h, leb-true size room g)
     small true false h g q = let z : ◌≡◌ {A = ℕ} 0 1 = cc in absurd (omega arith)
@@ -85,7 +83,7 @@ module _ (size : ℕ) (image old : List ℕ) where
   pub room_none : size ≤ 65535 → length old < size → IsRoomMade size image old (refused Room) old
   room_none h k = rw (le-leb _ _ h, lt-leb _ _ k) (refl, refl)
 
-  pub room_made : (out : List ℕ) → size ≤ 65535 → size ≤ length old → out ≡ splice old 0 image → IsRoomMade size image old (written.Length size) out
+  pub room_made : (out : List ℕ) → size ≤ 65535 → size ≤ length old → out ≡ splice old 0 image → IsRoomMade size image old (Ok size) out
   room_made out h k e = rw (le-leb _ _ h, le-leb _ _ k) (refl, e)
 
 module _ (size : ℕ) (image : List ℕ) (n : ℕ) (old : List ℕ) where
@@ -158,7 +156,7 @@ stands image n old k l room inside =
 -- the parts of an image, the zeros after it, and what was past both ends
 pub renewed_parts :
     (parts : List (List ℕ)) (image : List ℕ) (n : ℕ) (old out : List ℕ) (k : ℕ) → image ≡ join parts → k ≡ length image → k ≤ 65535 → k ≤ length old
-    → n ≤ length old → out ≡ join (parts ++ zeros (n - k) ∷ drop (k + (n - k)) old ∷ []) → IsRenewed image n old (written.Length k) out
+    → n ≤ length old → out ≡ join (parts ++ zeros (n - k) ∷ drop (k + (n - k)) old ∷ []) → IsRenewed image n old (Ok k) out
 unfolding sized
 renewed_parts parts image n old out k e l small room inside o =
     rw (← l, le-leb _ _ small, le-leb _ _ room)
@@ -168,7 +166,7 @@ renewed_parts parts image n old out k e l small room inside o =
 
 -- an edit that is done leaves its image at the buffer's start, and the buffer as long as it was
 pub renewed_begins :
-    (image : List ℕ) (n : ℕ) (old : List ℕ) (k : ℕ) (out : List ℕ) → n ≤ length old → IsRenewed image n old (written.Length k) out
+    (image : List ℕ) (n : ℕ) (old : List ℕ) (k : ℕ) (out : List ℕ) → n ≤ length old → IsRenewed image n old (Ok k) out
     → (k ≡ length image) × (k ≤ 65535) × (take k out ≡ image) × (length out ≡ length old)
 renewed_begins image n old k out inside p =
     let fit = fits_of (length image) (length old) k (p.0 ∙ sym (sized_by_lem image (length old))) in
@@ -187,9 +185,9 @@ none_spliced l at = splice_nil l at
 -- a write that makes the image no shorter is an edit: there is nothing to be zeroed
 pub sized-renewed :
     (image : List ℕ) (n : ℕ) (old : List ℕ) (r : Written) (out : List ℕ) → n ≤ length image → IsSized image old r out → IsRenewed image n old r out
-sized-renewed image n old (written.Refused f) out h p =
+sized-renewed image n old (Err f) out h p =
     (p.0, p.1 ∙ ap (λ (w : Written). left w image old) (sym p.0) ∙ ap (λ (w : Written). renewed w image n old) p.0)
-sized-renewed image n old (written.Length k) out h p =
+sized-renewed image n old (Ok k) out h p =
     let fit = fits_of (length image) (length old) k (p.0 ∙ sym (sized_by_lem image (length old))) in
     let none : n - k ≡ 0 = omega arith in
     let same : splice old 0 image ≡ splice (splice old 0 image) k (zeros (n - k)) = sym (rw none (none_spliced (splice old 0 image) k)) in

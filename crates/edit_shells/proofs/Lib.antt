@@ -3,3 +3,4 @@ pub mod Determined
 pub mod Edits
 pub mod Within
 pub mod Sequence
+pub mod Sorted

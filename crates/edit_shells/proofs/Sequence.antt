@@ -1,6 +1,6 @@
 -- docs/RULES.md, 12: any sequence of edits of a file, refused ones among them. What the buffer holds after it is said by the keys that are left,
 -- by the furthest end that was reached and by the bytes that were there before. Rests on the promise of one edit.
-use Rattle.std.specs.Prelude.{ℕ, zero, suc, ◌+◌, ◌-◌, ◌≤◌, ◌≡◌, refl, List, ◌++◌, leb, length, take, drop, replicate}
+use Rattle.std.specs.Prelude.{ℕ, zero, suc, ◌+◌, ◌-◌, ◌≤◌, ◌≡◌, refl, List, ◌++◌, leb, length, take, drop, replicate, Ok, Err}
 use Rattle.std.proofs.Common.{add-zero, arith, sym, ◌∙◌, ap, ap₂, append_assoc, leb-true, leb-false, length-append, length-drop, take-append-drop, length-take-le, drop-drop, take_at}
 use Rattle.std.proofs.lemmas.List.{replicate-append-replicate}
 use Rattle.std.proofs.Math.Seq.{drop-append-add}
@@ -8,9 +8,7 @@ use Rattle.fields.specs.Place.{by_bool}
 use Rattle.fields.specs.declared.Fault.{Fault}
 use Rattle.format.specs.Format.{Key, written_image}
 use Rattle.buffer.specs.Puts.{zeros, zeros-length}
-use Rattle.writer_reply.specs.declared.Written.{Written}
-use Rattle.writer_reply.specs.declared.Written.TheVariants as written
-use Rattle.writer_reply.specs.Reply.{on_written}
+use Rattle.writer_reply.specs.Reply.{on_written, Written}
 use Rattle.edit_shells.specs.Edits.{renewed, IsRenewed}
 use Rattle.edit_shells.proofs.Edits.{sized_by_lem, fits_of, renewed_begins, stands}
 use Rattle.edit_shells.specs.Sequence.{Holds, further}
@@ -47,7 +45,7 @@ ends n k far z e =
     (λ w. let h = leb-false k n w in let none : n - k ≡ 0 = omega arith in rw none (omega arith, omega arith))
 
 answered_fits :
-    (image : List ℕ) (n : ℕ) (out : List ℕ) (k : ℕ) (out' old : List ℕ) → length out ≡ length old → IsRenewed image n out (written.Length k) out'
+    (image : List ℕ) (n : ℕ) (out : List ℕ) (k : ℕ) (out' old : List ℕ) → length out ≡ length old → IsRenewed image n out (Ok k) out'
     → k ≤ length old
 answered_fits image n out k out' old same p =
     let f = fits_of (length image) (length out) k (p.0 ∙ sym (sized_by_lem image (length out))) in
@@ -80,7 +78,7 @@ module _ (c : ℕ) (old : List ℕ) where
   -- refused, an edit leaves what was held
   pub holds_refused :
       {keys : List Key} {n far : ℕ} {out : List ℕ} (image : List ℕ) (f : Fault) (out' : List ℕ) → Holds c old keys n far out
-      → IsRenewed image n out (written.Refused f) out' → Holds c old keys n far out'
+      → IsRenewed image n out (Err f) out' → Holds c old keys n far out'
   holds_refused {keys} {n} {far} {out} image f out' h p =
       let same : out' ≡ out = p.1 ∙ ap (λ (w : Written). renewed w image n out) (sym p.0) in
       record { size = h.size; small = h.small; reached = h.reached; room = h.room; whole = same ∙ h.whole }
@@ -88,7 +86,7 @@ module _ (c : ℕ) (old : List ℕ) where
   -- done, it leaves the image of the edited keys
   pub holds_next :
       {keys : List Key} {n far : ℕ} {out : List ℕ} (edited : List Key) (k : ℕ) (out' : List ℕ) → Holds c old keys n far out
-      → IsRenewed (written_image c edited) n out (written.Length k) out' → Holds c old edited k (further far k) out'
+      → IsRenewed (written_image c edited) n out (Ok k) out' → Holds c old edited k (further far k) out'
   holds_next {keys} {n} {far} {out} edited k out' h p =
       let image = written_image c edited in
       let was = written_image c keys in
@@ -121,5 +119,5 @@ module _ (c : ℕ) (old : List ℕ) where
       {keys : List Key} {n far : ℕ} {out : List ℕ} (edited : List Key) (r : Written) (out' : List ℕ) → Holds c old keys n far out
       → IsRenewed (written_image c edited) n out r out'
       → Holds c old (on_written r (λ f. keys) (λ k. edited)) (on_written r (λ f. n) (λ k. k)) (on_written r (λ f. far) (λ k. further far k)) out'
-  holds_edit edited (written.Refused f) out' h p = holds_refused (written_image c edited) f out' h p
-  holds_edit edited (written.Length k) out' h p = holds_next edited k out' h p
+  holds_edit edited (Err f) out' h p = holds_refused (written_image c edited) f out' h p
+  holds_edit edited (Ok k) out' h p = holds_next edited k out' h p

@@ -9,13 +9,13 @@ use Rattle.format.specs.Format.{Entry, entry, Key, key_blob, written_entry, plai
 use Rattle.format.proofs.Laws.{section-length}
 use Rattle.format.specs.Lengths.{blobs_length, entries_length}
 use Rattle.format.proofs.Lengths.{content-length, plain_length}
-use Rattle.writer_reply.specs.declared.Written.{Written}
 use Rattle.edit_shells.specs.Parts.{Rises}
 use Rattle.edit_shells.specs.Shells.{changed_at, removed_at}
 use Rattle.edit_shells.specs.Edits.{changed_by_places, removed_by_places, added_by_places, IsEdit, IsRenewed}
 use Rattle.edit_shells.proofs.Edits.{edit_renewed}
 use Rattle.edit_shells.specs.Keys.{blob_place, section_place, entry_place, end_place, entry_at, comment_place, keys_changed, keys_without, change_places, remove_places, change_written, remove_written, map_split}
 use Rattle.edit_shells.specs.Within.{KeyPlaces}
+use Rattle.writer_reply.specs.Reply.{Written}
 
 -- ---- the places are in order
 

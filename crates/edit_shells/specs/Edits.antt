@@ -1,12 +1,10 @@
 -- docs/RULES.md, 12: what an edit of the first n bytes of a buffer answers and leaves there, by the image that it makes. Order: n above 65,535:
 -- 11; places that aren't in order within the n bytes, or n above the buffer's length: 1; size 11; room 9.
-use Rattle.std.specs.Prelude.{ℕ, ◌+◌, ◌-◌, ◌≡◌, List, [], ◌∷◌, ◌++◌, leb, length, take}
+use Rattle.std.specs.Prelude.{ℕ, ◌+◌, ◌-◌, ◌≡◌, List, [], ◌∷◌, ◌++◌, leb, length, take, Ok, Err}
 use Rattle.fields.specs.declared.Refusal.TheVariants.{Length, Size}
 use Rattle.format.specs.Format.{padding_bytes}
 use Rattle.buffer.specs.Puts.{splice, placed, next, zeros}
-use Rattle.writer_reply.specs.declared.Written.{Written}
-use Rattle.writer_reply.specs.declared.Written.TheVariants as written
-use Rattle.writer_reply.specs.Reply.{unless, left, sized_by, sized}
+use Rattle.writer_reply.specs.Reply.{unless, left, sized_by, sized, Written}
 use Rattle.edit_shells.specs.Shells.{blobs_place}
 use Rattle.edit_shells.specs.Parts.{rises}
 
@@ -30,8 +28,8 @@ edit_reply places size n room =
 
 -- refused, the buffer keeps every byte; else the image stands at its start, and zeros from its end to n; the bytes past both ends stay
 abbrev pub renewed : Written → List ℕ → ℕ → List ℕ → List ℕ
-renewed (written.Refused f) image n old = old
-renewed (written.Length k) image n old = splice (splice old 0 image) k (zeros (n - k))
+renewed (Err f) image n old = old
+renewed (Ok k) image n old = splice (splice old 0 image) k (zeros (n - k))
 
 -- the contract of an edit that makes `image`: it answers r and leaves out
 abbrev pub IsEdit : List ℕ → List ℕ → ℕ → List ℕ → Written → List ℕ → Type 0

@@ -5,6 +5,8 @@ use Rattle.fields.proofs.Refusal.number.Reads as number
 use Rattle.fields.proofs.Refusal.number.Kinds as number_kinds
 use Rattle.fields.proofs.Refusal.count.Reads as count
 use Rattle.fields.proofs.Refusal.count.Kinds as count_kinds
+use Rattle.fields.proofs.Refusal.at.Reads as at
+use Rattle.fields.proofs.Refusal.at.Kinds as at_kinds
 use Rattle.fields.proofs.Cursor.has.Reads as has
 use Rattle.fields.proofs.Cursor.has.Kinds as has_kinds
 use Rattle.fields.proofs.Cursor.remaining.Reads as remaining
@@ -31,6 +33,9 @@ number_determined κs a r₁ r₂ s₁ s₂ p q = cc
 
 pub count_determined : Determined 0 count_kinds.ps count_kinds.r count.Post
 count_determined κs a r₁ r₂ s₁ s₂ p q = cc
+
+pub at_determined : Determined 0 at_kinds.ps at_kinds.r at.Post
+at_determined κs a r₁ r₂ s₁ s₂ p q = cc
 
 pub has_determined : Determined 1 has_kinds.ps has_kinds.r has.Post
 has_determined κs a r₁ r₂ s₁ s₂ p q = cc

@@ -1,27 +1,22 @@
 -- Reading back: a field that stands at a place is read there, with its bytes, and what stands after it is what is left.
 use Rattle.std.specs.Prelude.{ℕ, ◌+◌, ◌≤◌, ◌<◌, ◌^◌, ◌≡◌, refl, length}
-use Rattle.std.proofs.Common.{arith, ◌∙◌, ap}
+use Rattle.std.proofs.Common.{arith, ◌∙◌, ap, Ok}
 use Rattle.std.proofs.Math.Path.{sym}
 use mathlib.Core.List.{List, [], ◌++◌, append_assoc}
 use borrow.Author.Tests.{le-ltb}
 use Rattle.std.proofs.Math.Seq.{length-slice}
 use Rattle.fields.specs.declared.Cursor.{Cursor}
 use Rattle.fields.specs.declared.Part.{Part}
-use Rattle.fields.specs.declared.Uint32.{Uint32}
-use Rattle.fields.specs.declared.Uint32.TheVariants as answer
-use Rattle.fields.specs.declared.Field.{Field}
-use Rattle.fields.specs.declared.Field.TheVariants as field
-use Rattle.fields.specs.declared.Ending.TheVariants as ending
 use Rattle.fields.specs.Bytes.{uint32, string}
-use Rattle.fields.specs.Fields.{number_at, part, moved, uint32_at, bytes_at, string_at, fixed_at, end_at, view_of}
+use Rattle.fields.specs.Fields.{number_at, part, moved, uint32_at, bytes_at, string_at, fixed_at, end_at, view_of, Read}
 use Rattle.fields.specs.Room.{Room, room_is}
 use Rattle.fields.specs.Rest.{rest, Good, rest_four, room_of, rest_back, digits_number, length-string}
 
 -- the answer w has the bytes b, and t is what is left after it
-pub record FieldBack (s : List ℕ) (w : Field) (b t : List ℕ) : Type 0 where
+pub record FieldBack (s : List ℕ) (w : Read Part) (b t : List ℕ) : Type 0 where
   pub place : Part
   pub next : Cursor
-  pub read : w ≡ field.Part place next
+  pub read : w ≡ Ok (place, next)
   pub seen : view_of s place ≡ b
   pub size : place.length ≡ length b
   pub inside : place.start + place.length ≤ length s
@@ -29,7 +24,7 @@ pub record FieldBack (s : List ℕ) (w : Field) (b t : List ℕ) : Type 0 where
   pub more : rest s next ≡ t
 
 -- another reader that answers the same
-pub also : {s : List ℕ} {w v : Field} {b t : List ℕ} → (a : FieldBack s w b t) → v ≡ field.Part a.place a.next → FieldBack s v b t
+pub also : {s : List ℕ} {w v : Read Part} {b t : List ℕ} → (a : FieldBack s w b t) → v ≡ Ok (a.place, a.next) → FieldBack s v b t
 also a read =
     record {
       place = a.place;
@@ -42,9 +37,9 @@ also a read =
       more = a.more;
     }
 
-pub record Uint32Back (s : List ℕ) (w : Uint32) (n : ℕ) (t : List ℕ) : Type 0 where
+pub record Uint32Back (s : List ℕ) (w : Read ℕ) (n : ℕ) (t : List ℕ) : Type 0 where
   pub next : Cursor
-  pub read : w ≡ answer.Value n next
+  pub read : w ≡ Ok (n, next)
   pub good : Good s next
   pub more : rest s next ≡ t
 
@@ -99,7 +94,7 @@ module _ (s : List ℕ) (c : Cursor) (good : Good s c) (b t : List ℕ) (short :
       also a (rw (a.read, le-ltb a.place.length k (omega arith), le-ltb k a.place.length (omega arith)))
 
 -- where nothing is left, the end is clean
-pub end_back : (s : List ℕ) (c : Cursor) → Good s c → rest s c ≡ [] → end_at c ≡ ending.Clean
+pub end_back : (s : List ℕ) (c : Cursor) → Good s c → rest s c ≡ [] → end_at c ≡ Ok tt
 unfolding end_at
 end_back s c good e =
     let l = sym (length-slice c.at c.end s good.1) ∙ ap length e in

@@ -3,7 +3,7 @@
 -- A uint32 is big-endian; a string is a uint32 length and that many bytes. If fewer bytes remain in the enclosing part than the
 -- length says: 1. A field of fixed length k with string length L: L < k gives 1, L > k gives 6 with count L - k. A field begins
 -- at its length bytes; what a longer one has too much begins where its k bytes end.
-use Rattle.std.specs.Prelude.{ℕ, ◌+◌, ◌-◌, ◌*◌, ◌≡◌, List, [], Bool, cond, ◌&&◌, length, get_or, ltb, leb}
+use Rattle.std.specs.Prelude.{ℕ, ◌+◌, ◌-◌, ◌*◌, ◌≡◌, List, [], Bool, cond, ◌&&◌, length, get_or, ltb, leb, Result, Err, Ok, ⊤}
 use Rattle.std.proofs.Math.Seq.{slice}
 use Rattle.std.specs.Borrow.{Bor}
 use Rattle.fields.specs.declared.Cursor.{Cursor}
@@ -11,12 +11,6 @@ use Rattle.fields.specs.declared.Part.{Part}
 use Rattle.fields.specs.declared.Fault.{Fault}
 use Rattle.fields.specs.declared.Refusal.{Refusal}
 use Rattle.fields.specs.declared.Refusal.TheVariants.{Length, TrailingData}
-use Rattle.fields.specs.declared.Uint32.{Uint32}
-use Rattle.fields.specs.declared.Uint32.TheVariants as uint32
-use Rattle.fields.specs.declared.Field.{Field}
-use Rattle.fields.specs.declared.Field.TheVariants as field
-use Rattle.fields.specs.declared.Ending.{Ending}
-use Rattle.fields.specs.declared.Ending.TheVariants as ending
 
 abbrev pub fault : Refusal → ℕ → Fault
 fault why at = record { why = why; at = at }
@@ -40,18 +34,22 @@ whole s = record { at = 0; end = length s }
 abbrev pub within : Part → Cursor
 within p = record { at = p.start; end = p.start + p.length }
 
--- by what was read: the refusal, or the value and the place after it
-abbrev pub on_uint32 : {R : Type 0} → Uint32 → (Fault → R) → (ℕ → Cursor → R) → R
-on_uint32 (uint32.Refused f) refused value = refused f
-on_uint32 (uint32.Value n c) refused value = value n c
+-- a value and the place after it, or the refusal
+abbrev pub Read : Type 0 → Type 0
+Read A = Result (A × Cursor) Fault
 
-abbrev pub on_field : {R : Type 0} → Field → (Fault → R) → (Part → Cursor → R) → R
-on_field (field.Refused f) refused read = refused f
-on_field (field.Part p c) refused read = read p c
+-- by what was read
+abbrev pub on_read : {A R : Type 0} → Read A → (Fault → R) → (A → Cursor → R) → R
+on_read (Err f) refused read = refused f
+on_read (Ok (x, c)) refused read = read x c
 
-abbrev pub on_ending : {R : Type 0} → Ending → (Fault → R) → R → R
-on_ending (ending.Refused f) refused clean = refused f
-on_ending ending.Clean refused clean = clean
+-- passed, or the refusal
+abbrev pub Tested : Type 0
+Tested = Result ⊤ Fault
+
+abbrev pub on_tested : {R : Type 0} → Tested → (Fault → R) → R → R
+on_tested (Err f) refused passed = refused f
+on_tested (Ok x) refused passed = passed
 
 -- k more bytes remain in the enclosing part, and that is within the image
 unfoldable pub has_room : List ℕ → Cursor → ℕ → Bool
@@ -64,28 +62,28 @@ number4 a b c d = ((a * 256 + b) * 256 + c) * 256 + d
 abbrev pub number_at : List ℕ → ℕ → ℕ
 number_at s i = number4 (get_or s i 0) (get_or s (i + 1) 0) (get_or s (i + 2) 0) (get_or s (i + 3) 0)
 
-unfoldable pub uint32_at : List ℕ → Cursor → Uint32
-uint32_at s c = cond (has_room s c 4) (uint32.Value (number_at s c.at) (moved c 4)) (uint32.Refused (fault Length c.at))
+unfoldable pub uint32_at : List ℕ → Cursor → Read ℕ
+uint32_at s c = cond (has_room s c 4) (Ok (number_at s c.at, moved c 4)) (Err (fault Length c.at))
 
 -- k bytes without length bytes: the magic, a tag
-unfoldable pub bytes_at : List ℕ → Cursor → ℕ → Field
-bytes_at s c k = cond (has_room s c k) (field.Part (part c.at k) (moved c k)) (field.Refused (fault Length c.at))
+unfoldable pub bytes_at : List ℕ → Cursor → ℕ → Read Part
+bytes_at s c k = cond (has_room s c k) (Ok (part c.at k, moved c k)) (Err (fault Length c.at))
 
-unfoldable pub string_at : List ℕ → Cursor → Field
+unfoldable pub string_at : List ℕ → Cursor → Read Part
 string_at s c =
-    on_uint32 (uint32_at s c) field.Refused (λ n d.
-    on_field (bytes_at s d n) (λ f. field.Refused (fault Length c.at)) field.Part)
+    on_read (uint32_at s c) Err (λ n d.
+    on_read (bytes_at s d n) (λ f. Err (fault Length c.at)) (λ p e. Ok (p, e)))
 
-unfoldable pub fixed_at : List ℕ → Cursor → ℕ → Field
+unfoldable pub fixed_at : List ℕ → Cursor → ℕ → Read Part
 fixed_at s c k =
-    on_field (string_at s c) field.Refused (λ p d.
-    cond (ltb p.length k) (field.Refused (fault Length c.at))
-    (cond (ltb k p.length) (field.Refused (fault (TrailingData (p.length - k)) (c.at + 4 + k)))
-    (field.Part p d)))
+    on_read (string_at s c) Err (λ p d.
+    cond (ltb p.length k) (Err (fault Length c.at))
+    (cond (ltb k p.length) (Err (fault (TrailingData (p.length - k)) (c.at + 4 + k)))
+    (Ok (p, d))))
 
 -- bytes left over: 6, with how many, at the first of them
-unfoldable pub end_at : Cursor → Ending
-end_at c = cond (ltb c.at c.end) (ending.Refused (fault (TrailingData (c.end - c.at)) c.at)) ending.Clean
+unfoldable pub end_at : Cursor → Tested
+end_at c = cond (ltb c.at c.end) (Err (fault (TrailingData (c.end - c.at)) c.at)) (Ok tt)
 
 -- a part's bytes, or none where it isn't within the image
 unfoldable pub view_of : List ℕ → Part → List ℕ

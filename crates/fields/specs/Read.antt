@@ -1,13 +1,10 @@
 -- Inversion: a field that was read stands at its place as the bytes that it is written as, and then comes what is left.
 use Rattle.std.specs.Prelude.{ℕ, ◌+◌, ◌-◌, ◌≤◌, ◌<◌, ◌^◌, ◌≡◌, ltb, length, get_or}
-use Rattle.std.proofs.Common.{arith, sym, ◌∙◌, ltb-false}
+use Rattle.std.proofs.Common.{arith, sym, ◌∙◌, ltb-false, Ok}
 use Rattle.std.proofs.Math.Path.{ap}
 use mathlib.Core.List.{List, [], ◌++◌, append_assoc}
 use Rattle.fields.specs.declared.Cursor.{Cursor}
 use Rattle.fields.specs.declared.Part.{Part}
-use Rattle.fields.specs.declared.Uint32.TheVariants as answer
-use Rattle.fields.specs.declared.Field.TheVariants as field
-use Rattle.fields.specs.declared.Ending.TheVariants as ending
 use Rattle.fields.specs.Bytes.{uint32, string, AllBytes}
 use Rattle.fields.specs.Fields.{number4, part, moved, uint32_at, bytes_at, string_at, end_at, view_of}
 use Rattle.fields.specs.Place.{clash, by_bool, uint32_place, bytes_place, string_place, StringPlace}
@@ -21,7 +18,7 @@ part_is : (p q : Part) → p.start ≡ q.start → p.length ≡ q.length → p �
 part_is p q h k = λ i. record { start = h i; length = k i }
 
 module _ (s : List ℕ) (all : AllBytes s) (c : Cursor) where
-  pub uint32_read : (n : ℕ) (d : Cursor) → uint32_at s c ≡ answer.Value n d → (rest s c ≡ uint32 n ++ rest s d) × (n < 2 ^ 32)
+  pub uint32_read : (n : ℕ) (d : Cursor) → uint32_at s c ≡ Ok (n, d) → (rest s c ≡ uint32 n ++ rest s d) × (n < 2 ^ 32)
   unfolding uint32
   uint32_read n d e =
       let p = uint32_place s c n d e in
@@ -30,7 +27,7 @@ module _ (s : List ℕ) (all : AllBytes s) (c : Cursor) where
         rw (← p.number) (number_at_fits s all c.at),
       )
 
-pub bytes_read : (s : List ℕ) (c : Cursor) (k : ℕ) (p : Part) (d : Cursor) → bytes_at s c k ≡ field.Part p d → rest s c ≡ view_of s p ++ rest s d
+pub bytes_read : (s : List ℕ) (c : Cursor) (k : ℕ) (p : Part) (d : Cursor) → bytes_at s c k ≡ Ok (p, d) → rest s c ≡ view_of s p ++ rest s d
 bytes_read s c k p d e =
     let b = bytes_place s c k p d e in
     let q : p ≡ part c.at k = part_is p (part c.at k) b.0.start b.1 in
@@ -44,7 +41,7 @@ pub record StringRead (s : List ℕ) (c : Cursor) (p : Part) (d : Cursor) : Type
   pub fits : length (view_of s p) < 2 ^ 32
   pub place : StringPlace s c p d
 
-pub string_read : (s : List ℕ) → AllBytes s → (c : Cursor) (p : Part) (d : Cursor) → string_at s c ≡ field.Part p d → StringRead s c p d
+pub string_read : (s : List ℕ) → AllBytes s → (c : Cursor) (p : Part) (d : Cursor) → string_at s c ≡ Ok (p, d) → StringRead s c p d
 unfolding string
 string_read s all c p d e =
     let k = string_place s c p d e in
@@ -63,7 +60,7 @@ string_read s all c p d e =
 number_low : (a b c d n : ℕ) → number4 a b c d ≡ n → n < 256 → d ≡ n
 number_low a b c d n e h = omega arith
 
-pub length_byte : (s : List ℕ) (c : Cursor) (p : Part) (d : Cursor) → string_at s c ≡ field.Part p d → p.length < 256 → get_or s (p.start - 1) 0 ≡ p.length
+pub length_byte : (s : List ℕ) (c : Cursor) (p : Part) (d : Cursor) → string_at s c ≡ Ok (p, d) → p.length < 256 → get_or s (p.start - 1) 0 ≡ p.length
 length_byte s c p d e h =
     let k = string_place s c p d e in
     let u = uint32_place s c p.length k.body k.length in
@@ -71,7 +68,7 @@ length_byte s c p d e h =
     ap (λ (j : ℕ). get_or s j 0) i ∙ number_low (get_or s c.at 0) (get_or s (c.at + 1) 0) (get_or s (c.at + 2) 0) (get_or s (c.at + 3) 0) p.length u.number h
 
 -- nothing is left at a clean end
-pub end_read : (s : List ℕ) (c : Cursor) → end_at c ≡ ending.Clean → (rest s c ≡ []) × (c.end ≤ c.at)
+pub end_read : (s : List ℕ) (c : Cursor) → end_at c ≡ Ok tt → (rest s c ≡ []) × (c.end ≤ c.at)
 unfolding end_at
 end_read s c e =
     by_bool (ltb c.at c.end)

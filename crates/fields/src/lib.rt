@@ -6,11 +6,11 @@
 
 ghost use Rattle.std.specs.Prelude.{◌≡◌, ◌-◌, get_or};
 ghost use Rattle.fields.specs.Bytes.{same_bytes};
-ghost use Rattle.fields.specs.Fields.{has_room, number4, uint32_at, bytes_at, string_at, fixed_at, end_at, IsView};
+ghost use Rattle.fields.specs.Fields.{has_room, number4, uint32_at, bytes_at, string_at, fixed_at, end_at, IsView, fault};
 ghost use Rattle.fields.specs.Refusals.{number_of, count_of};
 
 // Why an image, a comment or a buffer is refused.
-#[derive(Clone, Copy)]
+#[derive(Clone, Copy, Debug, PartialEq, Eq)]
 pub enum Refusal {
     Length,
     FormatEncoding,
@@ -45,64 +45,54 @@ impl Refusal {
         }
     }
 
+    // The refusal of a field that began at this byte.
+    pub fn at(self, at: usize) -> Fault
+        ensures { result ≡ fault self at }
+    {
+        Fault { why: self, at }
+    }
+
     // How many bytes were left over; 0 for every other refusal.
     pub fn count(self) -> usize
         ensures { result ≡ count_of self }
     {
         match self {
-            Refusal::Length => 0,
-            Refusal::FormatEncoding => 0,
-            Refusal::Crypto => 0,
-            Refusal::AlgorithmUnknown => 0,
-            Refusal::PublicKey => 0,
             Refusal::TrailingData(left) => left,
-            Refusal::CharacterEncoding => 0,
-            Refusal::Encrypted => 0,
-            Refusal::Room => 0,
-            Refusal::Form => 0,
-            Refusal::Size => 0,
+            _ => 0,
         }
     }
 }
 
 // A refusal, and the byte of the image at which the field that it belongs to began.
-#[derive(Clone, Copy)]
+#[derive(Clone, Copy, Debug, PartialEq, Eq)]
 pub struct Fault {
     pub why: Refusal,
     pub at: usize,
 }
 
 // A part of the image, without its length bytes. A field that is absent has start and length 0.
-#[derive(Clone, Copy)]
+#[derive(Clone, Copy, Debug, PartialEq, Eq)]
 pub struct Part {
     pub start: usize,
     pub length: usize,
 }
 
+impl Part {
+    pub const ABSENT: Part = Part {
+        start: 0,
+        length: 0,
+    };
+}
+
 // A place in the image, and the end of the part that encloses it.
-#[derive(Clone, Copy)]
+#[derive(Clone, Copy, Debug, PartialEq, Eq)]
 pub struct Cursor {
     pub at: usize,
     pub end: usize,
 }
 
-#[derive(Clone, Copy)]
-pub enum Uint32 {
-    Value(u32, Cursor),
-    Refused(Fault),
-}
-
-#[derive(Clone, Copy)]
-pub enum Field {
-    Part(Part, Cursor),
-    Refused(Fault),
-}
-
-#[derive(Clone, Copy)]
-pub enum Ending {
-    Clean,
-    Refused(Fault),
-}
+// What was read, and the place after it; or why it is refused.
+pub type Read<T> = Result<(T, Cursor), Fault>;
 
 // Four bytes as a number, the first the highest.
 fn joined(a: u8, b: u8, c: u8, d: u8) -> u32
@@ -113,137 +103,86 @@ fn joined(a: u8, b: u8, c: u8, d: u8) -> u32
 
 impl Cursor {
     // Do k more bytes remain in the enclosing part, and is that part within the image?
+    #[tactic(auto, unfolding(crate::specs::Fields::has_room))]
     pub fn has(self, image: &[u8], k: usize) -> bool
         ensures { result ≡ has_room image.now self k }
     {
-        let at = self.at;
-        let end = self.end;
-        if image.len() < end {
-            return false;
-        }
-        if end < at {
-            return false;
-        }
-        if end - at < k {
-            return false;
-        }
-        true
+        self.end <= image.len() && self.at <= self.end && k <= self.end - self.at
     }
 
     // How many bytes remain before the end of the enclosing part.
     pub fn remaining(self) -> usize
         ensures { result ≡ self.end - self.at }
     {
-        let at = self.at;
-        let end = self.end;
-        if end < at {
-            return 0;
-        }
-        end - at
+        self.end.saturating_sub(self.at)
     }
 
     // A big-endian number of four bytes.
-    pub fn uint32(self, image: &[u8]) -> Uint32
+    #[tactic(auto, unfolding(crate::specs::Fields::uint32_at, crate::specs::Fields::has_room))]
+    pub fn uint32(self, image: &[u8]) -> Read<u32>
         ensures { result ≡ uint32_at image.now self }
     {
-        let at = self.at;
-        let end = self.end;
+        let Cursor { at, end } = self;
         if self.has(image, 4) {
             let n = joined(image[at], image[at + 1], image[at + 2], image[at + 3]);
-            return Uint32::Value(
-                n,
-                Cursor {
-                    at: at + 4,
-                    end: end,
-                },
-            );
+            return Ok((n, Cursor { at: at + 4, end }));
         }
-        Uint32::Refused(Fault {
-            why: Refusal::Length,
-            at: at,
-        })
+        Err(Refusal::Length.at(at))
     }
 
     // k bytes that have no length bytes before them.
-    pub fn bytes(self, image: &[u8], k: usize) -> Field
+    #[tactic(auto, unfolding(crate::specs::Fields::bytes_at, crate::specs::Fields::has_room))]
+    pub fn bytes(self, image: &[u8], k: usize) -> Read<Part>
         ensures { result ≡ bytes_at image.now self k }
     {
-        let at = self.at;
-        let end = self.end;
+        let Cursor { at, end } = self;
         if self.has(image, k) {
-            return Field::Part(
-                Part {
-                    start: at,
-                    length: k,
-                },
-                Cursor {
-                    at: at + k,
-                    end: end,
-                },
-            );
+            let part = Part {
+                start: at,
+                length: k,
+            };
+            return Ok((part, Cursor { at: at + k, end }));
         }
-        Field::Refused(Fault {
-            why: Refusal::Length,
-            at: at,
-        })
+        Err(Refusal::Length.at(at))
     }
 
     // A uint32 length and that many bytes. A refusal is the whole string's, length bytes included.
-    pub fn string(self, image: &[u8]) -> Field
+    #[tactic(auto, unfolding(crate::specs::Fields::string_at))]
+    pub fn string(self, image: &[u8]) -> Read<Part>
         ensures { result ≡ string_at image.now self }
     {
-        let at = self.at;
-        match self.uint32(image) {
-            Uint32::Refused(f) => Field::Refused(f),
-            Uint32::Value(n, c) => match c.bytes(image, n as usize) {
-                Field::Part(p, d) => Field::Part(p, d),
-                Field::Refused(_) => Field::Refused(Fault {
-                    why: Refusal::Length,
-                    at: at,
-                }),
-            },
-        }
+        let (n, body) = self.uint32(image)?;
+        body.bytes(image, n as usize)
+            .map_err(|_| Refusal::Length.at(self.at))
     }
 
     // A string whose length must be k. What a longer one has too much begins k bytes into it.
-    pub fn fixed(self, image: &[u8], k: usize) -> Field
+    #[tactic(auto, unfolding(crate::specs::Fields::fixed_at))]
+    pub fn fixed(self, image: &[u8], k: usize) -> Read<Part>
         ensures { result ≡ fixed_at image.now self k }
     {
         let at = self.at;
-        match self.string(image) {
-            Field::Refused(f) => Field::Refused(f),
-            Field::Part(p, c) => {
-                let length = p.length;
-                if length < k {
-                    return Field::Refused(Fault {
-                        why: Refusal::Length,
-                        at: at,
-                    });
-                }
-                if k < length {
-                    return Field::Refused(Fault {
-                        why: Refusal::TrailingData(length - k),
-                        at: at + 4 + k,
-                    });
-                }
-                Field::Part(p, c)
-            }
+        let (part, next) = self.string(image)?;
+        let length = part.length;
+        if length < k {
+            return Err(Refusal::Length.at(at));
         }
+        if k < length {
+            return Err(Refusal::TrailingData(length - k).at(at + 4 + k));
+        }
+        Ok((part, next))
     }
 
     // Nothing may be left of the enclosing part.
-    pub fn finish(self) -> Ending
+    #[tactic(auto, unfolding(crate::specs::Fields::end_at))]
+    pub fn finish(self) -> Result<(), Fault>
         ensures { result ≡ end_at self }
     {
-        let at = self.at;
-        let end = self.end;
+        let Cursor { at, end } = self;
         if at < end {
-            return Ending::Refused(Fault {
-                why: Refusal::TrailingData(end - at),
-                at: at,
-            });
+            return Err(Refusal::TrailingData(end - at).at(at));
         }
-        Ending::Clean
+        Ok(())
     }
 }
 
@@ -266,24 +205,12 @@ pub fn view(image: &[u8], part: Part) -> &[u8]
 pub fn byte(image: &[u8], i: usize) -> u8
     ensures { result ≡ get_or image.now i 0 }
 {
-    if i < image.len() {
-        return image[i];
-    }
-    0
+    image.get(i).copied().unwrap_or(0)
 }
 
-// Are the bytes the same? All are looked at: a loop with one way out is made into vector code.
+// Are the bytes the same?
 pub fn same(a: &[u8], b: &[u8]) -> bool
     ensures { result ≡ same_bytes a.now b.now }
 {
-    if a.len() != b.len() {
-        return false;
-    }
-    let mut equal = true;
-    let mut i: usize = 0;
-    while i < a.len() {
-        equal = equal & (a[i] == b[i]);
-        i += 1;
-    }
-    equal
+    a == b
 }

@@ -1,6 +1,6 @@
 -- docs/RULES.md, 9.3: an entry that is handed the first half of a record that isn't what an accepted
 -- header read of its image gives replies 1 before all else. So every field is compared: names, rounds, key count, bits and every place.
-use Rattle.std.specs.Prelude.{ℕ, ◌≡◌, refl, Bool, true, false, ◌&&◌, List, eqb}
+use Rattle.std.specs.Prelude.{ℕ, ◌≡◌, refl, Bool, true, false, ◌&&◌, List, eqb, Result, Ok, Err}
 use Rattle.std.proofs.Common.{ap₂, eq-eqb, eqb-true}
 use Rattle.fields.specs.Bytes.{both_true}
 use Rattle.fields.specs.Fields.{part}
@@ -10,8 +10,6 @@ use Rattle.names.specs.Algorithms.{algorithm_code, same_algorithm, algorithm_sam
 use Rattle.names_codes.specs.Codes.{cipher_code, kdf_code, cipher_code_same, kdf_code_same}
 use Rattle.key_public.specs.declared.Public.{Public}
 use Rattle.reader_header.specs.declared.Header.{Header}
-use Rattle.reader_header.specs.declared.HeaderRead.{HeaderRead}
-use Rattle.reader_header.specs.declared.HeaderRead.TheVariants as header_read
 use Rattle.reader_header.specs.Header.{on_header_read, header_at}
 
 abbrev pub same_part : Part → Part → Bool
@@ -88,11 +86,11 @@ pub header_self : (a : Header) → same_header a a ≡ true
 unfolding same_header same_public
 header_self a = simp (eqb_self)
 
-pub by_header : {P : Type 0} (w : HeaderRead) → ((f : Fault) → w ≡ header_read.Refused f → P) → ((h : Header) → w ≡ header_read.Header h → P) → P
-by_header (header_read.Refused f) refused read = refused f refl
-by_header (header_read.Header h) refused read = read h refl
+pub by_header : {P : Type 0} (w : Result Header Fault) → ((f : Fault) → w ≡ Err f → P) → ((h : Header) → w ≡ Ok h → P) → P
+by_header (Err f) refused read = refused f refl
+by_header (Ok h) refused read = read h refl
 
 -- a half passes exactly if it is what an accepted header read gives
-pub header_passes : (s : List ℕ) (h : Header) → header_at s ≡ header_read.Header h → is_header s h ≡ true
+pub header_passes : (s : List ℕ) (h : Header) → header_at s ≡ Ok h → is_header s h ≡ true
 unfolding is_header
 header_passes s h e = rw (e, header_self h)

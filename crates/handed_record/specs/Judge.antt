@@ -1,6 +1,6 @@
 -- docs/RULES.md, 9.3: any entry that is handed a record that isn't what an accepted read of its image gives replies 1 before all
 -- else. So every field is compared: kind, checkint, rounds, padding, key count and every place included.
-use Rattle.std.specs.Prelude.{ℕ, ◌≡◌, refl, Bool, true, false, ◌&&◌, List, eqb}
+use Rattle.std.specs.Prelude.{ℕ, ◌≡◌, refl, Bool, true, false, ◌&&◌, List, eqb, Ok}
 use Rattle.std.proofs.Common.{sym, ◌∙◌, ap, eqb-true, arith}
 use Rattle.fields.specs.Bytes.{both_true}
 use Rattle.fields.specs.Place.{clash}
@@ -8,10 +8,9 @@ use Rattle.reader_section.specs.declared.Kind.{Kind}
 use Rattle.reader_section.specs.declared.Kind.TheVariants.{Plain, Encrypted}
 use Rattle.reader_section.specs.declared.Section.{Section}
 use Rattle.key_pairs.specs.declared.Private.{Private}
-use Rattle.places.specs.Places.{same_places, places_same}
+use Rattle.places.specs.Places.{same_places, places_same, places_self}
 use Rattle.handed_header.specs.Halves.{same_part, same_header, part_same, header_same, header_self, eqb_self}
 use Rattle.reader_image.specs.declared.Fields.{Fields}
-use Rattle.reader_image.specs.declared.ImageRead.TheVariants as read
 use Rattle.reader_image.specs.Container.{on_read, read_at}
 use Rattle.reader_image.specs.FormLaws.{by_read}
 
@@ -87,14 +86,14 @@ section_same a b e =
 
 section_self : (a : Section) → same_section a a ≡ true
 unfolding same_section same_private
-section_self a = simp (eqb_self)
+section_self a = simp (eqb_self, places_self a.places)
 
 -- a record passes exactly if it is what an accepted read gives
-pub read_passes : (s : List ℕ) (f : Fields) → read_at s ≡ read.Record f → is_read s f ≡ true
+pub read_passes : (s : List ℕ) (f : Fields) → read_at s ≡ Ok f → is_read s f ≡ true
 unfolding is_read
 read_passes s f e = rw (e, header_self f.header, section_self f.section)
 
-pub passes_read : (s : List ℕ) (f : Fields) → is_read s f ≡ true → read_at s ≡ read.Record f
+pub passes_read : (s : List ℕ) (f : Fields) → is_read s f ≡ true → read_at s ≡ Ok f
 unfolding is_read
 passes_read s f e =
     by_read (read_at s)
@@ -105,4 +104,4 @@ passes_read s f e =
     let header : f.header ≡ g.header = header_same f.header g.header parts.0 in
     let section : f.section ≡ g.section = section_same f.section g.section parts.1 in
     let whole : ◌≡◌ {A = Fields} (record { header = f.header; section = f.section }) (record { header = g.header; section = g.section }) = cc in
-    w ∙ ap read.Record (sym whole))
+    w ∙ ap Ok (sym whole))

@@ -18,8 +18,7 @@ use Rattle.reader_image.specs.Form.{on_kind, form_of}
 use Rattle.buffer.specs.Decimal.{decimal}
 use Rattle.buffer.specs.Puts.{placed}
 use Rattle.report_parts.specs.Parts.{line_feed, refused_line, text_reply, IsShort}
-use Rattle.writer_reply.specs.Reply.{Answers}
-use Rattle.writer_reply.specs.declared.Written.{Written}
+use Rattle.writer_reply.specs.Reply.{Answers, Written}
 
 -- Comment, padding, ciphertext, tag and image are lengths in bytes; bits are RSA's modulus's. `form` says whether the image is in the writer's form.
 pub data Summary : Type 0 where

@@ -1,25 +1,27 @@
 // The inspection's lines: what an image is, by its kind, names, lengths and form, or how it is refused, and
-// at which byte. What writes them is handed those, and no byte of the image.
+// at which byte. What writes them is handed the record, which has no byte of the image.
 #![tactic(auto)]
 
+ghost use Rattle.std.specs.Prelude.{◌<◌, ◌^◌};
 ghost use Rattle.fields.specs.Bytes.{ascii, join};
 ghost use Rattle.fields.specs.Fields.{view_of};
 ghost use Rattle.buffer.specs.Decimal.{decimal};
 ghost use Rattle.buffer.specs.Puts.{IsPut};
 ghost use Rattle.buffer.specs.Runs.{IsRun};
 ghost use Rattle.names_spelling.specs.Spelling.{name_table};
-ghost use Rattle.inspect_report.specs.Report.{Plain, Encrypted, accepted, summary_of, line, bits_line, names, form_name, IsText, IsReport};
+ghost use Rattle.inspect_report.specs.Report.{accepted, summary_of, line, bits_line, names, form_name, IsText, IsReport};
 
 use fields::Part;
-use names::{Algorithm, Cipher, Kdf};
+use names::Algorithm;
 use reader_header::Header;
-use reader_image::FormRead;
-use reader_section::{Kind, Section};
+use reader_image::Fields;
+use reader_section::Kind;
 use writer_reply::Written;
 
-// A line whose value is a number.
+// A line whose value is a number, which fits 64 bits.
 fn put_number(out: &mut [u8], at: usize, label: &[u8], n: usize) -> usize
-    ensures { IsRun out.old at (line label.now (decimal n)) result out.new }
+    ensures run { IsRun out.old at (line label.now (decimal n)) result out.new }
+    ensures fits { n < 2 ^ 64 }
 {
     let a = buffer::put(out, at, label);
     let b = buffer::put_decimal(out, a, n);
@@ -37,7 +39,8 @@ fn put_name(out: &mut [u8], at: usize, label: &[u8], name: Part) -> usize
 
 // How many bits an RSA key's modulus has; of another key, nothing.
 fn put_bits(out: &mut [u8], at: usize, algorithm: Algorithm, bits: usize) -> usize
-    ensures { IsRun out.old at (bits_line algorithm bits) result out.new }
+    ensures run { IsRun out.old at (bits_line algorithm bits) result out.new }
+    ensures fits { bits < 2 ^ 64 }
 {
     match algorithm {
         Algorithm::Elliptic(_) => at,
@@ -45,115 +48,53 @@ fn put_bits(out: &mut [u8], at: usize, algorithm: Algorithm, bits: usize) -> usi
     }
 }
 
-fn put_names(
-    out: &mut [u8],
-    at: usize,
-    algorithm: Algorithm,
-    bits: usize,
-    cipher: Cipher,
-    kdf: Kdf,
-) -> usize
-    ensures { IsRun out.old at (join (names algorithm bits cipher kdf)) result out.new }
+fn put_names(out: &mut [u8], at: usize, header: &Header) -> usize
+    ensures run { IsRun out.old at (join (names header.now.algorithm header.now.public.bits header.now.cipher header.now.kdf)) result out.new }
+    ensures fits { header.now.public.bits < 2 ^ 64 }
 {
-    let a = put_name(
+    let algorithm = names_spelling::algorithm_name(header.algorithm);
+    let a = put_name(out, at, b"algorithm ", algorithm);
+    let b = put_bits(out, a, header.algorithm, header.public.bits);
+    let c = put_name(
         out,
-        at,
-        b"algorithm ",
-        names_spelling::algorithm_name(algorithm),
+        b,
+        b"cipher ",
+        names_spelling::cipher_name(header.cipher),
     );
-    let b = put_bits(out, a, algorithm, bits);
-    let c = put_name(out, b, b"cipher ", names_spelling::cipher_name(cipher));
-    put_name(out, c, b"kdf ", names_spelling::kdf_name(kdf))
+    put_name(out, c, b"kdf ", names_spelling::kdf_name(header.kdf))
 }
 
+#[tactic(auto, unfolding(crate::specs::Report::line))]
 fn put_form(out: &mut [u8], at: usize, form: bool) -> usize
     ensures { IsPut out.old at (line (ascii "form ") (form_name form)) result out.new }
 {
     if form {
-        return buffer::put(out, at, b"form yes\n");
+        buffer::put(out, at, b"form yes\n")
+    } else {
+        buffer::put(out, at, b"form no\n")
     }
-    buffer::put(out, at, b"form no\n")
 }
 
-// The lines of a plain image, at the start of a text. Comment, padding and image are lengths.
-fn put_plain(
-    out: &mut [u8],
-    algorithm: Algorithm,
-    bits: usize,
-    cipher: Cipher,
-    kdf: Kdf,
-    comment: usize,
-    padding: usize,
-    image: usize,
-    form: bool,
-) -> usize
-    ensures { IsText out.old (Plain algorithm bits cipher kdf comment padding image form) result out.new }
+// The lines of an accepted image, at the start of a text: by its kind the lengths of the comment and the padding, or
+// of the ciphertext and the tag, and then the image's.
+fn put_accepted(out: &mut [u8], f: &Fields, image: usize, form: bool) -> usize
+    ensures { IsText out.old (accepted f.now.header f.now.section image form) result out.new }
 {
-    let a = buffer::put(out, 0, b"kind plain\n");
-    let b = put_names(out, a, algorithm, bits, cipher, kdf);
-    let c = put_number(out, b, b"comment ", comment);
-    let d = put_number(out, c, b"padding ", padding);
-    let e = put_number(out, d, b"image ", image);
-    put_form(out, e, form)
-}
-
-// The lines of an encrypted image, at the start of a text. Ciphertext, tag and image are lengths.
-fn put_encrypted(
-    out: &mut [u8],
-    algorithm: Algorithm,
-    bits: usize,
-    cipher: Cipher,
-    kdf: Kdf,
-    ciphertext: usize,
-    tag: usize,
-    image: usize,
-) -> usize
-    ensures { IsText out.old (Encrypted algorithm bits cipher kdf ciphertext tag image) result out.new }
-{
-    let a = buffer::put(out, 0, b"kind encrypted\n");
-    let b = put_names(out, a, algorithm, bits, cipher, kdf);
-    let c = put_number(out, b, b"ciphertext ", ciphertext);
-    let d = put_number(out, c, b"tag ", tag);
-    put_number(out, d, b"image ", image)
-}
-
-fn put_accepted(out: &mut [u8], header: Header, section: Section, image: usize, form: bool) -> usize
-    ensures { IsText out.old (accepted header section image form) result out.new }
-{
-    let algorithm = header.algorithm;
-    let public = header.public;
-    let cipher = header.cipher;
-    let kdf = header.kdf;
-    let kind = section.kind;
-    match kind {
+    match f.section.kind {
         Kind::Plain => {
-            let comment = section.comment;
-            let padding = section.padding;
-            put_plain(
-                out,
-                algorithm,
-                public.bits,
-                cipher,
-                kdf,
-                comment.length,
-                padding,
-                image,
-                form,
-            )
+            let a = buffer::put(out, 0, b"kind plain\n");
+            let b = put_names(out, a, &f.header);
+            let c = put_number(out, b, b"comment ", f.section.comment.length);
+            let d = put_number(out, c, b"padding ", f.section.padding);
+            let e = put_number(out, d, b"image ", image);
+            put_form(out, e, form)
         }
         Kind::Encrypted => {
-            let ciphertext = section.ciphertext;
-            let tag = section.tag;
-            put_encrypted(
-                out,
-                algorithm,
-                public.bits,
-                cipher,
-                kdf,
-                ciphertext.length,
-                tag.length,
-                image,
-            )
+            let a = buffer::put(out, 0, b"kind encrypted\n");
+            let b = put_names(out, a, &f.header);
+            let c = put_number(out, b, b"ciphertext ", f.section.ciphertext.length);
+            let d = put_number(out, c, b"tag ", f.section.tag.length);
+            put_number(out, d, b"image ", image)
         }
     }
 }
@@ -162,11 +103,8 @@ fn put_report(out: &mut [u8], image: &[u8]) -> usize
     ensures { IsText out.old (summary_of image.now) result out.new }
 {
     match reader_image::read_with_form(image) {
-        FormRead::Refused(f) => {
-            let why = f.why;
-            report_parts::put_refused(out, 0, why, f.at)
-        }
-        FormRead::Record(f, form) => put_accepted(out, f.header, f.section, image.len(), form),
+        Err(f) => report_parts::put_refused(out, 0, f.why, f.at),
+        Ok((f, form)) => put_accepted(out, &f, image.len(), form),
     }
 }
 

@@ -2,7 +2,7 @@
 -- then filled with the key is the edit. Rests on the laws of Added and on the image's being written afresh.
 use Prim.Native.Nat.{ℕ, ◌+◌, ◌-◌, ◌≤◌, ◌<◌}
 use Rattle.std.proofs.Common.{arith, sym, ◌∙◌, ap, ap₂, length-append, length-take-le}
-use Rattle.std.specs.Prelude.{◌≡◌, refl, Bool, true, false, take}
+use Rattle.std.specs.Prelude.{◌≡◌, refl, Bool, true, false, take, Result, Ok, Err}
 use mathlib.Core.List.{List, [], ◌++◌, map}
 use borrow.Author.Tests.{le-leb, lt-leb}
 use Rattle.std.proofs.Math.ListN.{length}
@@ -17,9 +17,7 @@ use Rattle.format.specs.Scalars.{blobs_filled, entries_filled}
 use Rattle.buffer.specs.Runs.{IsRun}
 use Rattle.reader_image.specs.declared.Fields.{Fields}
 use Rattle.reader_image.specs.Container.{keys_in}
-use Rattle.writer_reply.specs.declared.Written.{Written}
-use Rattle.writer_reply.specs.declared.Written.TheVariants as written
-use Rattle.writer_reply.specs.Reply.{refused, unless, sized, answered}
+use Rattle.writer_reply.specs.Reply.{refused, unless, sized, answered, Written}
 use Rattle.writer_parts.specs.Checks.{key_checked, passed, checking_key}
 use Rattle.writer_parts.specs.Sizes.{capped, capped_exact, capped_sum, capped_sum_last}
 use Rattle.writer_plain.specs.Plain.{keys_checked, keys_reply}
@@ -30,8 +28,6 @@ use Rattle.edit_shells.specs.Keys.{end_place, keys_with, map_split}
 use Rattle.edit_add.specs.Open.{size_over}
 use Rattle.edit_add.specs.Fill.{blob_takes, entry_takes}
 use Rattle.edit_add.specs.Added.{EndPlaces, IsOpenedFor, add_key_refused, add_key}
-use Rattle.edit_file.specs.declared.Editable.{Editable}
-use Rattle.edit_file.specs.declared.Editable.TheVariants as editable
 use Rattle.edit_file.specs.Edits.{on_editable, editable_at, file_keys, add_reply, add_left, IsAdd}
 use Rattle.edit_file.specs.Stand.{Edited, image_written, section_is, end_is}
 use Rattle.edit_file.specs.Afresh.{passed_renewed, told, text, keys_fit}
@@ -56,15 +52,15 @@ added_length keys key = length-append (map filled_key keys) (alone key) ∙ rw (
 -- ---- what is refused
 
 -- refused, an addition changes nothing
-add_refused : (old : List ℕ) (n : ℕ) (key : Key) (g : Fault) → add_reply old n key ≡ written.Refused g → IsAdd old n key (written.Refused g) old
+add_refused : (old : List ℕ) (n : ℕ) (key : Key) (g : Fault) → add_reply old n key ≡ Err g → IsAdd old n key (Err g) old
 unfolding add_left
 add_refused old n key g e = answered _ _ _ _ (sym e, rw e (sym (go (editable_at old n))))
   where
-    go : (w : Editable) → on_editable w (λ h. old) (λ f. old) ≡ old
-    go (editable.Refused h) = refl
-    go (editable.Image f) = refl
+    go : (w : Result Fields Fault) → on_editable w (λ h. old) (λ f. old) ≡ old
+    go (Err h) = refl
+    go (Ok f) = refl
 
-module _ (old : List ℕ) (all : AllBytes old) (n : ℕ) (f : Fields) (e : editable_at old n ≡ editable.Image f) (key : Key) where
+module _ (old : List ℕ) (all : AllBytes old) (n : ℕ) (f : Fields) (e : editable_at old n ≡ Ok f) (key : Key) where
   abbrev keys : List Key
   keys = keys_in (take n old) f
 
@@ -99,21 +95,21 @@ module _ (old : List ℕ) (all : AllBytes old) (n : ℕ) (f : Fields) (e : edita
 
 -- the image is, or has 16 keys
 pub more_refused :
-    (old : List ℕ) → AllBytes old → (n : ℕ) (key : Key) (g : Fault) → more_at old n ≡ editable.Refused g → IsAdd old n key (written.Refused g) old
+    (old : List ℕ) → AllBytes old → (n : ℕ) (key : Key) (g : Fault) → more_at old n ≡ Err g → IsAdd old n key (Err g) old
 unfolding add_reply
 more_refused old all n key g e =
     more_not old n g e
     (λ w. add_refused old n key g (rw w))
-    (λ f w many h. let same : written.Refused g ≡ refused Length = cc in rw same (add_refused old n key _ (too_many old all n f w key many)))
+    (λ f w many h. let same : Err g ≡ refused Length = cc in rw same (add_refused old n key _ (too_many old all n f w key many)))
 
 -- ---- a key added to an image that has fewer than 16
 
 -- the key passes its own check
 abbrev pub MayAdd : List ℕ → ℕ → Fields → Key → Type 0
-MayAdd old n f key = (more_at old n ≡ editable.Image f) × (key_checked key.algorithm key.public key.private passed ≡ passed)
+MayAdd old n f key = (more_at old n ≡ Ok f) × (key_checked key.algorithm key.public key.private passed ≡ passed)
 
-module _ (old : List ℕ) (all : AllBytes old) (n : ℕ) (f : Fields) (e : more_at old n ≡ editable.Image f) where
-  image : editable_at old n ≡ editable.Image f
+module _ (old : List ℕ) (all : AllBytes old) (n : ℕ) (f : Fields) (e : more_at old n ≡ Ok f) where
+  image : editable_at old n ≡ Ok f
   image = (more_is old n f e).0
 
   is : Edited old n f
@@ -159,8 +155,8 @@ module _ (old : List ℕ) (all : AllBytes old) (n : ℕ) (f : Fields) (e : more_
 
   -- the key is refused
   pub key_refused :
-      (key : Key) (g : Fault) → key_checked key.algorithm key.public key.private passed ≡ written.Refused g
-      → IsAdd old n key (written.Refused g) old
+      (key : Key) (g : Fault) → key_checked key.algorithm key.public key.private passed ≡ Err g
+      → IsAdd old n key (Err g) old
   unfolding keys_checked
   key_refused key g w =
       add_refused old n key g
@@ -203,14 +199,14 @@ module _ (old : List ℕ) (all : AllBytes old) (n : ℕ) (f : Fields) (e : more_
             (rw utf at q)
 
         -- room was made, so the blob is no longer than an image
-        pub room_small : (k : ℕ) (out : List ℕ) → IsRoom old n f b p key.comment (written.Length k) out → b ≤ 65535
+        pub room_small : (k : ℕ) (out : List ℕ) → IsRoom old n f b p key.comment (Ok k) out → b ≤ 65535
         unfolding room_reply
         room_small k out q = go (utf8 key.comment) q.0
           where
             size : ℕ
             size = opened_size begins ends b (capped (own_of p key.comment))
 
-            go : (u : Bool) → written.Length k ≡ unless u CharacterEncoding (edit_reply (added_by_places begins ends) size n (length old)) → b ≤ 65535
+            go : (u : Bool) → Ok k ≡ unless u CharacterEncoding (edit_reply (added_by_places begins ends) size n (length old)) → b ≤ 65535
             go true w =
                 omega (
                   arith,
@@ -221,27 +217,27 @@ module _ (old : List ℕ) (all : AllBytes old) (n : ℕ) (f : Fields) (e : more_
 
         -- no room was made
         pub room_refused :
-            (g : Fault) (out : List ℕ) → IsRoom old n f b p key.comment (written.Refused g) out → IsAdd old n key (written.Refused g) out
+            (g : Fault) (out : List ℕ) → IsRoom old n f b p key.comment (Err g) out → IsAdd old n key (Err g) out
         unfolding room_reply
         room_refused g out q =
             by_bool (utf8 key.comment)
             (λ utf.
-            add_is (written.Refused g) out utf
+            add_is (Err g) out utf
             (add_key_refused checkint were key old n stands is.inside few_bytes (f.header.count + 1) begins ends places g out
-            (opened (written.Refused g) out utf q)))
+            (opened (Err g) out utf q)))
             (λ utf. let q' = rw utf at q in rw (q'.0, q'.1) (add_refused old n key _ (rw utf at passed_reply)))
 
         -- the last three arguments are what the puts of the blob, of the keypair and of the comment ensure
         pub room_filled :
-            (k r₁ r₂ r₃ : ℕ) (out o₁ o₂ o₃ : List ℕ) → IsRoom old n f b p key.comment (written.Length k) out
+            (k r₁ r₂ r₃ : ℕ) (out o₁ o₂ o₃ : List ℕ) → IsRoom old n f b p key.comment (Ok k) out
             → IsRun out begins (string (key_blob key)) r₁ o₁ → IsRun o₁ (ends + b) (written_entry key).pair r₂ o₂
-            → IsRun o₂ r₂ (string key.comment) r₃ o₃ → IsAdd old n key (written.Length k) o₃
+            → IsRun o₂ r₂ (string key.comment) r₃ o₃ → IsAdd old n key (Ok k) o₃
         unfolding room_reply
         room_filled k r₁ r₂ r₃ out o₁ o₂ o₃ q run₁ run₂ run₃ =
             by_bool (utf8 key.comment)
             (λ utf.
             let exact : b ≡ blob_takes (key_blob key) = capped_exact b _ 65535 eb (room_small k out q) (omega arith) in
-            add_is (written.Length k) o₃ utf
+            add_is (Ok k) o₃ utf
             (add_key checkint were key old n stands is.inside few_bytes (f.header.count + 1) begins ends places k r₁ r₂ r₃ out o₁ o₂ o₃
-            (opened (written.Length k) out utf q) run₁ (rw exact at run₂) run₃))
+            (opened (Ok k) out utf q) run₁ (rw exact at run₂) run₃))
             (λ utf. let q' = rw utf at q.0 in clash cc)

@@ -1,6 +1,6 @@
 -- docs/RULES.md, 12: an image that a key may be added to has fewer than 16 keys, and room is made for the key at its last key's end. Lengths that
 -- were capped make the same room.
-use Rattle.std.specs.Prelude.{ℕ, ◌+◌, ◌-◌, ◌≤◌, ◌<◌, ◌^◌, ◌≡◌, refl, Bool, cond, List, [], ◌∷◌, ◌++◌, leb, ltb, length}
+use Rattle.std.specs.Prelude.{ℕ, ◌+◌, ◌-◌, ◌≤◌, ◌<◌, ◌^◌, ◌≡◌, refl, Bool, cond, List, [], ◌∷◌, ◌++◌, leb, ltb, length, Result, Ok, Err}
 use Rattle.std.proofs.Common.{arith, sym, ◌∙◌, ap, ltb-true, ltb-false}
 use Rattle.std.proofs.Math.Bool.{true, false}
 use Rattle.std.proofs.lemmas.Bool.{lt-leb}
@@ -9,46 +9,42 @@ use Rattle.fields.specs.declared.Fault.{Fault}
 use Rattle.fields.specs.declared.Refusal.TheVariants.{Length, CharacterEncoding, Size}
 use Rattle.utf8.specs.Utf8.{utf8}
 use Rattle.reader_image.specs.declared.Fields.{Fields}
-use Rattle.writer_reply.specs.declared.Written.{Written}
-use Rattle.writer_reply.specs.declared.Written.TheVariants as written
-use Rattle.writer_reply.specs.Reply.{refused, unless, left, sized_by}
+use Rattle.writer_reply.specs.Reply.{refused, unless, left, sized_by, Written}
 use Rattle.writer_parts.specs.Sizes.{capped, capped_small, capped_large}
 use Rattle.edit_shells.specs.Parts.{rises}
 use Rattle.edit_shells.specs.Shells.{opened_at, opened_size}
 use Rattle.edit_shells.specs.Edits.{added_by_places, edit_reply, IsOpened}
 use Rattle.edit_shells.proofs.Edits.{fits_of}
 use Rattle.edit_add.specs.Open.{size_over}
-use Rattle.edit_file.specs.declared.Editable.{Editable}
-use Rattle.edit_file.specs.declared.Editable.TheVariants as editable
 use Rattle.edit_file.specs.Edits.{on_editable, refused_whole, editable_at}
 
 -- ---- an image that may be edited and has fewer than 16 keys
 
-unfoldable pub more_at : List ℕ → ℕ → Editable
+unfoldable pub more_at : List ℕ → ℕ → Result Fields Fault
 more_at old n =
-    on_editable (editable_at old n) editable.Refused (λ f.
-    cond (ltb f.header.count 16) (editable.Image f) (refused_whole Length))
+    on_editable (editable_at old n) Err (λ f.
+    cond (ltb f.header.count 16) (Ok f) (refused_whole Length))
 
 -- by what was answered
-by_editable : {P : Type 0} (w : Editable) → ((g : Fault) → w ≡ editable.Refused g → P) → ((f : Fields) → w ≡ editable.Image f → P) → P
-by_editable (editable.Refused g) refused' image = refused' g refl
-by_editable (editable.Image f) refused' image = image f refl
+by_editable : {P : Type 0} (w : Result Fields Fault) → ((g : Fault) → w ≡ Err g → P) → ((f : Fields) → w ≡ Ok f → P) → P
+by_editable (Err g) refused' image = refused' g refl
+by_editable (Ok f) refused' image = image f refl
 
 -- of one that is refused, the image is, or has 16 keys
 pub more_not :
-    {P : Type 0} (old : List ℕ) (n : ℕ) (g : Fault) → more_at old n ≡ editable.Refused g → (editable_at old n ≡ editable.Refused g → P)
-    → ((f : Fields) → editable_at old n ≡ editable.Image f → 16 ≤ f.header.count → editable.Refused g ≡ refused_whole Length → P) → P
+    {P : Type 0} (old : List ℕ) (n : ℕ) (g : Fault) → more_at old n ≡ Err g → (editable_at old n ≡ Err g → P)
+    → ((f : Fields) → editable_at old n ≡ Ok f → 16 ≤ f.header.count → Err g ≡ refused_whole Length → P) → P
 unfolding more_at
 more_not old n g e image many =
     by_editable (editable_at old n)
-    (λ h w. let same : editable.Refused h ≡ editable.Refused g = rw w at e in image (w ∙ same))
+    (λ h w. let same : Err h ≡ Err g = rw w at e in image (w ∙ same))
     (λ f w.
     let e₁ = rw w at e in
     by_bool (ltb f.header.count 16)
     (λ l. let e₂ = rw l at e₁ in clash cc)
     (λ l. let e₂ = rw l at e₁ in many f w (ltb-false f.header.count 16 l) (sym e₂)))
 
-pub more_is : (old : List ℕ) (n : ℕ) (f : Fields) → more_at old n ≡ editable.Image f → (editable_at old n ≡ editable.Image f) × (f.header.count < 16)
+pub more_is : (old : List ℕ) (n : ℕ) (f : Fields) → more_at old n ≡ Ok f → (editable_at old n ≡ Ok f) × (f.header.count < 16)
 unfolding more_at
 more_is old n f e =
     by_editable (editable_at old n)
@@ -57,7 +53,7 @@ more_is old n f e =
     let e₁ = rw w at e in
     by_bool (ltb g.header.count 16)
     (λ l.
-    let e₂ : editable.Image g ≡ editable.Image f = rw l at e₁ in
+    let e₂ : Ok g ≡ Ok f = rw l at e₁ in
     let same : g ≡ f = cc in
     (w ∙ e₂, rw same at (ltb-true g.header.count 16 l)))
     (λ l. let e₂ = rw l at e₁ in clash cc))
@@ -87,11 +83,11 @@ IsRoom old n f blob pair comment r out =
 
 -- what a room that was made says
 module _ (places : List ℕ) (size n room : ℕ) where
-  pub reply_fits : (k : ℕ) → written.Length k ≡ edit_reply places size n room → (k ≡ size) × (size ≤ 65535) × (size ≤ room)
+  pub reply_fits : (k : ℕ) → Ok k ≡ edit_reply places size n room → (k ≡ size) × (size ≤ 65535) × (size ≤ room)
   unfolding edit_reply
   reply_fits k e = go (leb n 65535) (rises 0 (places ++ n ∷ room ∷ [])) e
     where
-      go : (a b : Bool) → written.Length k ≡ unless a Size (unless b Length (sized_by size room)) → (k ≡ size) × (size ≤ 65535) × (size ≤ room)
+      go : (a b : Bool) → Ok k ≡ unless a Size (unless b Length (sized_by size room)) → (k ≡ size) × (size ≤ 65535) × (size ≤ room)
       go true true w = fits_of size room k w
       go true false w = clash cc
       go false b w = clash cc

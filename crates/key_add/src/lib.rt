@@ -6,11 +6,9 @@ ghost use Rattle.std.specs.Prelude.{◌≡◌};
 ghost use Rattle.names.specs.declared.Algorithm.TheVariants.{Elliptic as OnCurve, Rsa};
 ghost use Rattle.format.specs.Format.{key_of, of_point, of_scalar, of_modulus, of_numbers};
 ghost use Rattle.edit_file.specs.Edits.{IsAdd};
-ghost use Rattle.edit_file.specs.declared.Editable.TheVariants as editable;
 ghost use Rattle.key_add.specs.More.{more_at, IsRoom};
 ghost use Rattle.key_add.specs.Add.{MayAdd};
 
-use edit_file::Editable;
 use fields::{Fault, Refusal};
 use names::Elliptic;
 use reader_image::Fields;
@@ -18,26 +16,20 @@ use writer_parts::added;
 use writer_reply::Written;
 
 // The record of the image, if it may be edited and has fewer than 16 keys.
-fn read_for_more(lent: &[u8], n: usize) -> Editable
+#[tactic(auto, unfolding(crate::specs::More::more_at))]
+fn read_for_more(lent: &[u8], n: usize) -> Result<Fields, Fault>
     ensures { result ≡ more_at lent.now n }
 {
-    match edit_file::read_to_edit(lent, n) {
-        Editable::Refused(f) => Editable::Refused(f),
-        Editable::Image(f) => {
-            let header = f.header;
-            if header.count < 16 {
-                return Editable::Image(f);
-            }
-            Editable::Refused(Fault {
-                why: Refusal::Length,
-                at: 0,
-            })
-        }
+    let fields = edit_file::read_to_edit(lent, n)?;
+    if fields.header.count < 16 {
+        return Ok(fields);
     }
+    Err(Refusal::Length.at(0))
 }
 
 // Makes room for a key whose blob takes `blob` bytes as a string and whose keypair has `pair`, if its comment is
 // UTF-8.
+#[tactic(auto, using(crate::specs::Add::padding_inside, crate::specs::Add::one_more), unfolding(crate::specs::More::room_reply))]
 fn make_room(
     lent: &mut [u8],
     n: usize,
@@ -46,20 +38,20 @@ fn make_room(
     pair: usize,
     comment: &[u8],
 ) -> Written
-    requires { more_at lent.old n ≡ editable.Image f }
+    requires { more_at lent.old n ≡ Ok f }
     ensures { IsRoom lent.old n f blob pair comment.now result lent.new }
 {
     if !utf8::is_utf8(comment) {
         return writer_reply::refused(Refusal::CharacterEncoding);
     }
-    let header = f.header;
-    let section = f.section;
+    let Fields { header, section } = f;
     let end = n - section.padding;
     let own = added(pair, 4 + comment.len());
     edit_add::open(lent, n, header.count + 1, header.section, end, blob, own)
 }
 
 // Adds a key over a curve that was checked.
+#[tactic(auto, using(crate::specs::Add::padding_inside))]
 fn add_curve(
     lent: &mut [u8],
     n: usize,
@@ -72,20 +64,15 @@ fn add_curve(
     requires { MayAdd lent.old n f (key_of (OnCurve e) (of_point public.now) (of_scalar private.now) comment.now) }
     ensures { IsAdd lent.old n (key_of (OnCurve e) (of_point public.now) (of_scalar private.now) comment.now) result lent.new }
 {
-    let header = f.header;
-    let section = f.section;
+    let Fields { header, section } = f;
     let blob = added(4, writer_curve::blob_length(e, public));
     let pair = writer_curve::pair_length(e, public, private);
-    match make_room(lent, n, f, blob, pair, comment) {
-        Written::Refused(g) => Written::Refused(g),
-        Written::Length(size) => {
-            let entry = n - section.padding + blob;
-            writer_curve::put_blob(lent, header.section, e, public);
-            let past = writer_curve::put_pair(lent, entry, e, public, private);
-            buffer::put_string(lent, past, comment);
-            Written::Length(size)
-        }
-    }
+    let size = make_room(lent, n, f, blob, pair, comment)?;
+    let entry = n - section.padding + blob;
+    writer_curve::put_blob(lent, header.section, e, public);
+    let past = writer_curve::put_pair(lent, entry, e, public, private);
+    buffer::put_string(lent, past, comment);
+    Ok(size)
 }
 
 // Adds a key over a curve: the public string or point, the seed or scalar of exactly its length, the comment.
@@ -99,16 +86,14 @@ pub fn add_key(
 ) -> Written
     ensures { IsAdd lent.old n (key_of (OnCurve e) (of_point public.now) (of_scalar private.now) comment.now) result lent.new }
 {
-    match read_for_more(lent, n) {
-        Editable::Refused(f) => Written::Refused(f),
-        Editable::Image(f) => match writer_curve::check(false, e, public, private) {
-            Written::Refused(g) => Written::Refused(g),
-            Written::Length(_) => add_curve(lent, n, f, e, public, private, comment),
-        },
-    }
+    let fields = read_for_more(lent, n)?;
+    writer_curve::check(false, e, public, private)?;
+    add_curve(lent, n, fields, e, public, private, comment)
 }
 
-// Adds an RSA key that was checked.
+// Adds an RSA key that was checked. A trait over this and `add_curve` would be no plainer: five methods with
+// contracts, for two bodies of eight lines.
+#[tactic(auto, using(crate::specs::Add::padding_inside))]
 fn add_numbers(
     lent: &mut [u8],
     n: usize,
@@ -124,20 +109,15 @@ fn add_numbers(
     requires { MayAdd lent.old n f (key_of Rsa (of_modulus m.now e.now) (of_numbers d.now iqmp.now p.now q.now) comment.now) }
     ensures { IsAdd lent.old n (key_of Rsa (of_modulus m.now e.now) (of_numbers d.now iqmp.now p.now q.now) comment.now) result lent.new }
 {
-    let header = f.header;
-    let section = f.section;
+    let Fields { header, section } = f;
     let blob = added(4, writer_numbers::blob_length(m, e));
     let pair = writer_numbers::pair_length(m, e, d, iqmp, p, q);
-    match make_room(lent, n, f, blob, pair, comment) {
-        Written::Refused(g) => Written::Refused(g),
-        Written::Length(size) => {
-            let entry = n - section.padding + blob;
-            writer_numbers::put_blob(lent, header.section, m, e);
-            let past = writer_numbers::put_pair(lent, entry, m, e, d, iqmp, p, q);
-            buffer::put_string(lent, past, comment);
-            Written::Length(size)
-        }
-    }
+    let size = make_room(lent, n, f, blob, pair, comment)?;
+    let entry = n - section.padding + blob;
+    writer_numbers::put_blob(lent, header.section, m, e);
+    let past = writer_numbers::put_pair(lent, entry, m, e, d, iqmp, p, q);
+    buffer::put_string(lent, past, comment);
+    Ok(size)
 }
 
 // Adds an RSA key: its six mpints, the modulus m first, and the comment.
@@ -154,11 +134,7 @@ pub fn add_rsa(
 ) -> Written
     ensures { IsAdd lent.old n (key_of Rsa (of_modulus m.now e.now) (of_numbers d.now iqmp.now p.now q.now) comment.now) result lent.new }
 {
-    match read_for_more(lent, n) {
-        Editable::Refused(f) => Written::Refused(f),
-        Editable::Image(f) => match writer_numbers::check(m, e, d, iqmp, p, q) {
-            Written::Refused(g) => Written::Refused(g),
-            Written::Length(_) => add_numbers(lent, n, f, m, e, d, iqmp, p, q, comment),
-        },
-    }
+    let fields = read_for_more(lent, n)?;
+    writer_numbers::check(m, e, d, iqmp, p, q)?;
+    add_numbers(lent, n, fields, m, e, d, iqmp, p, q, comment)
 }

@@ -3,7 +3,7 @@
 -- Key material for a new image is one value with room for 133 public and 66 private bytes and their lengths. The checkint is the
 -- given one, or, where none is given, the xor of the big-endian 4-byte groups of the private bytes (seed or SIZE bytes), a shorter
 -- rest ignored. The scalar of a record has no leading zeros, and is filled with zeros in front for its material.
-use Rattle.std.specs.Prelude.{ℕ, ◌-◌, List, [], ◌∷◌, length}
+use Rattle.std.specs.Prelude.{ℕ, ◌-◌, List, [], ◌∷◌, length, Option, Some, None}
 use Rattle.std.specs.Int.Bits.{bit_xor}
 use Rattle.fields.specs.Fields.{part, number4, view_of}
 use Rattle.buffer.specs.Puts.{placed, zeros}
@@ -11,8 +11,6 @@ use Rattle.names.specs.declared.Elliptic.{Elliptic}
 use Rattle.names.specs.declared.Elliptic.TheVariants.{Ed25519, Ecdsa}
 use Rattle.names.specs.Algorithms.{size_of}
 use Rattle.key_material.specs.declared.Material.{Material}
-use Rattle.key_material.specs.declared.Checkint.{Checkint}
-use Rattle.key_material.specs.declared.Checkint.TheVariants.{Given, Derived}
 
 -- the public and the private bytes; a length above the room holds none
 unfoldable pub public_of : Material → List ℕ
@@ -33,9 +31,9 @@ unfoldable pub derived_checkint : List ℕ → ℕ
 derived_checkint private = mixed 0 private
 
 -- the given one, or, where none is given, the derived
-abbrev pub checkint_of : Checkint → List ℕ → ℕ
-checkint_of (Given n) private = n
-checkint_of Derived private = derived_checkint private
+abbrev pub checkint_of : Option ℕ → List ℕ → ℕ
+checkint_of (Some n) private = n
+checkint_of None private = derived_checkint private
 
 -- the bytes and zeros up to k; only zeros where they don't fit
 unfoldable pub padded : ℕ → List ℕ → List ℕ

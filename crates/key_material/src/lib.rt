@@ -5,11 +5,12 @@ ghost use Rattle.std.specs.Prelude.{◌≡◌, ◌+◌, ◌<◌, ◌^◌, length
 ghost use Rattle.format.specs.Format.{standing, scalar_filled};
 ghost use Rattle.key_material.specs.Material.{private_of, derived_checkint, checkint_of, zeros_missing, material_of};
 
-use fields::{Cursor, Part, Uint32};
+use fields::{Cursor, Part};
 use names::Elliptic;
 
 // Key material for a new image: one value with room for 133 public and 66 private bytes and their lengths,
 // the kind as an enum beside them. A length above its room holds no bytes.
+// A rule of the project lays it out so: no heap, fixed memory.
 #[derive(Clone, Copy)]
 pub struct Material {
     pub algorithm: Elliptic,
@@ -19,47 +20,30 @@ pub struct Material {
     pub private_length: usize,
 }
 
-// The checkint of a new image.
-#[derive(Clone, Copy)]
-pub enum Checkint {
-    Given(u32),
-    Derived,
-}
-
 // The xor of the private bytes' big-endian groups of four; a shorter rest is ignored.
 pub fn derived_checkint(private: &[u8]) -> u32
     ensures { result ≡ derived_checkint private.now }
 {
-    let mut checkint: u32 = 0;
-    let mut c = Cursor {
+    let mut checkint = 0;
+    let mut at = Cursor {
         at: 0,
         end: private.len(),
     };
-    loop {
-        match c.uint32(private) {
-            Uint32::Refused(_) => return checkint,
-            Uint32::Value(group, next) => {
-                checkint = checkint ^ group;
-                c = next;
-            }
-        }
+    while let Ok((group, next)) = at.uint32(private) {
+        checkint ^= group;
+        at = next;
     }
+    checkint
 }
 
 // How many zeros a scalar lacks in front to have its size; a seed lacks none.
+#[tactic(auto, unfolding(crate::specs::Material::zeros_missing))]
 pub fn zeros_missing(algorithm: Elliptic, private: &[u8]) -> usize
     ensures { result ≡ zeros_missing algorithm private.now }
 {
-    let length = private.len();
     match algorithm {
         Elliptic::Ed25519 => 0,
-        Elliptic::Ecdsa(curve) => {
-            let size = curve.size();
-            if length < size {
-                return size - length;
-            }
-            0
-        }
+        Elliptic::Ecdsa(curve) => curve.size().saturating_sub(private.len()),
     }
 }
 
@@ -74,7 +58,7 @@ fn laid_out(algorithm: Elliptic, public: &[u8], zeros: usize, private: &[u8]) ->
     let mut private_room = [0u8; 66];
     buffer::put(&mut private_room, zeros, private);
     Material {
-        algorithm: algorithm,
+        algorithm,
         public: public_room,
         public_length: public.len(),
         private: private_room,
@@ -103,20 +87,14 @@ impl Material {
     }
 
     // The given checkint, or where none is given, that derived from the private bytes.
-    pub fn checkint(self, given: Checkint) -> u32
+    #[tactic(auto, unfolding(crate::specs::Material::private_of))]
+    pub fn checkint(self, given: Option<u32>) -> u32
         ensures { result ≡ checkint_of given (private_of self) }
     {
-        match given {
-            Checkint::Given(n) => n,
-            Checkint::Derived => {
-                let private = self.private;
-                let length = self.private_length;
-                let part = Part {
-                    start: 0,
-                    length: length,
-                };
-                derived_checkint(fields::view(&private, part))
-            }
-        }
+        let part = Part {
+            start: 0,
+            length: self.private_length,
+        };
+        given.unwrap_or_else(|| derived_checkint(fields::view(&self.private, part)))
     }
 }

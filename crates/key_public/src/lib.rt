@@ -6,59 +6,37 @@ ghost use Rattle.fields.specs.Fields.{absent};
 ghost use Rattle.format.specs.Format.{public_length, private_length, leading_zero};
 ghost use Rattle.key_public.specs.Keys.{point_at, ecdsa_public_at, point_place, modulus_place, ecdsa_key_at, elliptic_key_at, rsa_key_at, public_key_at, blob_at};
 
-use fields::{Cursor, Ending, Fault, Field, Part, Refusal};
-use key_rsa::RsaPublic;
-use names::{Algorithm, AlgorithmName, Curve, CurveName, Elliptic};
+use fields::{Cursor, Fault, Part, Read, Refusal};
+use names::{Algorithm, Curve, Elliptic};
 
 // A point of the curve's length that begins with 4: uncompressed.
-pub fn read_point(c: Cursor, image: &[u8], curve: Curve) -> Field
+#[tactic(auto, unfolding(crate::specs::Keys::point_at))]
+pub fn read_point(c: Cursor, image: &[u8], curve: Curve) -> Read<Part>
     ensures { result ≡ point_at image.now c curve }
 {
-    let at = c.at;
-    match c.fixed(image, curve.point_length()) {
-        Field::Refused(f) => Field::Refused(f),
-        Field::Part(p, d) => {
-            let start = p.start;
-            if image[start] == 4 {
-                return Field::Part(p, d);
-            }
-            Field::Refused(Fault {
-                why: Refusal::FormatEncoding,
-                at: at,
-            })
-        }
+    let (point, next) = c.fixed(image, curve.point_length())?;
+    if image[point.start] == 4 {
+        return Ok((point, next));
     }
-}
-
-#[derive(Clone, Copy)]
-pub enum EcdsaPublic {
-    Point(Curve, Part, Cursor),
-    Refused(Fault),
+    Err(Refusal::FormatEncoding.at(c.at))
 }
 
 // The curve's name and the point; an unknown curve is refused before the point is read.
-pub fn read_ecdsa_public(c: Cursor, image: &[u8]) -> EcdsaPublic
+#[tactic(auto, unfolding(crate::specs::Keys::ecdsa_public_at))]
+pub fn read_ecdsa_public(c: Cursor, image: &[u8]) -> Read<(Curve, Part)>
     ensures { result ≡ ecdsa_public_at image.now c }
 {
-    let at = c.at;
-    match c.string(image) {
-        Field::Refused(f) => EcdsaPublic::Refused(f),
-        Field::Part(name, d) => match names::curve_named(fields::view(image, name)) {
-            CurveName::Unknown => EcdsaPublic::Refused(Fault {
-                why: Refusal::AlgorithmUnknown,
-                at: at,
-            }),
-            CurveName::Known(curve) => match read_point(d, image, curve) {
-                Field::Refused(f) => EcdsaPublic::Refused(f),
-                Field::Part(point, e) => EcdsaPublic::Point(curve, point, e),
-            },
-        },
-    }
+    let (name, next) = c.string(image)?;
+    let Some(curve) = names::curve_named(fields::view(image, name)) else {
+        return Err(Refusal::AlgorithmUnknown.at(c.at));
+    };
+    let (point, next) = read_point(next, image, curve)?;
+    Ok(((curve, point), next))
 }
 
 // Where a public key's parts are: the point, or Ed25519's public string; or RSA's modulus and exponent, and how
 // many bits the modulus has. What its kind lacks is absent, and the bits are 0.
-#[derive(Clone, Copy)]
+#[derive(Clone, Copy, PartialEq, Eq)]
 pub struct Public {
     pub point: Part,
     pub modulus: Part,
@@ -66,129 +44,87 @@ pub struct Public {
     pub bits: usize,
 }
 
-#[derive(Clone, Copy)]
-pub enum PublicKey {
-    Key(Algorithm, Public, Cursor),
-    Refused(Fault),
-}
-
-fn nowhere() -> Part
-    ensures { result ≡ absent }
-{
-    Part {
-        start: 0,
-        length: 0,
-    }
-}
-
+#[tactic(auto, unfolding(crate::specs::Keys::point_place))]
 pub fn at_point(point: Part) -> Public
     ensures { result ≡ point_place point }
 {
     Public {
-        point: point,
-        modulus: nowhere(),
-        exponent: nowhere(),
+        point,
+        modulus: Part::ABSENT,
+        exponent: Part::ABSENT,
         bits: 0,
     }
 }
 
+#[tactic(auto, unfolding(crate::specs::Keys::modulus_place))]
 pub fn at_modulus(modulus: Part, exponent: Part, bits: usize) -> Public
     ensures { result ≡ modulus_place modulus exponent bits }
 {
     Public {
-        point: nowhere(),
-        modulus: modulus,
-        exponent: exponent,
-        bits: bits,
+        point: Part::ABSENT,
+        modulus,
+        exponent,
+        bits,
     }
 }
 
 // The fields of an ECDSA public key whose name says the curve; the two are compared after the point.
-pub fn read_ecdsa_key(c: Cursor, image: &[u8], named: Curve) -> PublicKey
+#[tactic(auto, unfolding(crate::specs::Keys::ecdsa_key_at, names::specs::Algorithms::same_algorithm))]
+pub fn read_ecdsa_key(c: Cursor, image: &[u8], named: Curve) -> Read<(Algorithm, Public)>
     ensures { result ≡ ecdsa_key_at image.now c named }
 {
-    let at = c.at;
-    match read_ecdsa_public(c, image) {
-        EcdsaPublic::Refused(f) => PublicKey::Refused(f),
-        EcdsaPublic::Point(curve, point, d) => {
-            let known = Algorithm::Elliptic(Elliptic::Ecdsa(named));
-            if Algorithm::Elliptic(Elliptic::Ecdsa(curve)).code() == known.code() {
-                return PublicKey::Key(known, at_point(point), d);
-            }
-            PublicKey::Refused(Fault {
-                why: Refusal::AlgorithmUnknown,
-                at: at,
-            })
-        }
+    let ((curve, point), next) = read_ecdsa_public(c, image)?;
+    if curve == named {
+        let known = Algorithm::Elliptic(Elliptic::Ecdsa(named));
+        return Ok(((known, at_point(point)), next));
     }
+    Err(Refusal::AlgorithmUnknown.at(c.at))
 }
 
 // The fields of a key over a curve.
-pub fn read_elliptic_key(c: Cursor, image: &[u8], named: Elliptic) -> PublicKey
+#[tactic(auto, unfolding(crate::specs::Keys::elliptic_key_at))]
+pub fn read_elliptic_key(c: Cursor, image: &[u8], named: Elliptic) -> Read<(Algorithm, Public)>
     ensures { result ≡ elliptic_key_at image.now c named }
 {
     match named {
         Elliptic::Ecdsa(curve) => read_ecdsa_key(c, image, curve),
-        Elliptic::Ed25519 => match c.fixed(image, 32) {
-            Field::Refused(f) => PublicKey::Refused(f),
-            Field::Part(point, d) => {
-                PublicKey::Key(Algorithm::Elliptic(Elliptic::Ed25519), at_point(point), d)
-            }
-        },
+        Elliptic::Ed25519 => {
+            let (point, next) = c.fixed(image, 32)?;
+            Ok(((Algorithm::Elliptic(named), at_point(point)), next))
+        }
     }
 }
 
 // The numbers of an RSA key.
-pub fn read_rsa_key(c: Cursor, image: &[u8]) -> PublicKey
+#[tactic(auto, unfolding(crate::specs::Keys::rsa_key_at))]
+pub fn read_rsa_key(c: Cursor, image: &[u8]) -> Read<(Algorithm, Public)>
     ensures { result ≡ rsa_key_at image.now c }
 {
-    match key_rsa::read_rsa_public(c, image) {
-        RsaPublic::Refused(f) => PublicKey::Refused(f),
-        RsaPublic::Numbers(n, e, bits, d) => PublicKey::Key(
-            Algorithm::Rsa,
-            at_modulus(n, e, bits),
-            d,
-        ),
-    }
+    let ((n, e, bits), next) = key_rsa::read_rsa_public(c, image)?;
+    Ok(((Algorithm::Rsa, at_modulus(n, e, bits)), next))
 }
 
 // A public key: its algorithm's name and its fields.
-pub fn read_public_key(c: Cursor, image: &[u8]) -> PublicKey
+#[tactic(auto, unfolding(crate::specs::Keys::public_key_at))]
+pub fn read_public_key(c: Cursor, image: &[u8]) -> Read<(Algorithm, Public)>
     ensures { result ≡ public_key_at image.now c }
 {
-    let at = c.at;
-    match c.string(image) {
-        Field::Refused(f) => PublicKey::Refused(f),
-        Field::Part(name, d) => match names::algorithm_named(fields::view(image, name)) {
-            AlgorithmName::Unknown => PublicKey::Refused(Fault {
-                why: Refusal::AlgorithmUnknown,
-                at: at,
-            }),
-            AlgorithmName::Known(a) => match a {
-                Algorithm::Elliptic(named) => read_elliptic_key(d, image, named),
-                Algorithm::Rsa => read_rsa_key(d, image),
-            },
-        },
+    let (name, next) = c.string(image)?;
+    match names::algorithm_named(fields::view(image, name)) {
+        Some(Algorithm::Elliptic(named)) => read_elliptic_key(next, image, named),
+        Some(Algorithm::Rsa) => read_rsa_key(next, image),
+        None => Err(Refusal::AlgorithmUnknown.at(c.at)),
     }
-}
-
-#[derive(Clone, Copy)]
-pub enum Blob {
-    Key(Algorithm, Public),
-    Refused(Fault),
 }
 
 // The inside of a public blob: a public key and nothing after it.
-pub fn read_blob(c: Cursor, image: &[u8]) -> Blob
+#[tactic(auto, unfolding(crate::specs::Keys::blob_at))]
+pub fn read_blob(c: Cursor, image: &[u8]) -> Result<(Algorithm, Public), Fault>
     ensures { result ≡ blob_at image.now c }
 {
-    match read_public_key(c, image) {
-        PublicKey::Refused(f) => Blob::Refused(f),
-        PublicKey::Key(a, public, d) => match d.finish() {
-            Ending::Refused(f) => Blob::Refused(f),
-            Ending::Clean => Blob::Key(a, public),
-        },
-    }
+    let (key, end) = read_public_key(c, image)?;
+    end.finish()?;
+    Ok(key)
 }
 
 // ssh-key's `needs_leading_zero`, of a scalar of any size.

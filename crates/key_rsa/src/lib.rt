@@ -1,92 +1,63 @@
 // RSA's numbers, as a public blob and a keypair have them: first all are read, then their sizes are looked at.
 #![tactic(auto)]
 
-ghost use Rattle.std.specs.Prelude.{◌≡◌};
+ghost use Rattle.std.specs.Prelude.{◌≡◌, [], ◌∷◌};
 ghost use Rattle.fields.specs.Fields.{view_of};
-ghost use Rattle.mpint.specs.Mpint.{at_most, modulus_size};
-ghost use Rattle.mpint.specs.declared.Size.TheVariants.{Bits};
+ghost use Rattle.mpint.specs.Mpint.{modulus_size};
 ghost use Rattle.key_rsa.specs.Rsa.{two_at, six_at, outside, others_at, others_of, rsa_public_at, rsa_pair_at};
 
-use fields::{Cursor, Ending, Fault, Field, Part, Refusal};
-use mpint::Size;
-
-#[derive(Clone, Copy)]
-pub enum Two {
-    Numbers(Part, Part, Cursor),
-    Refused(Fault),
-}
+use fields::{Cursor, Fault, Part, Read, Refusal};
 
 // Two mpints, one after the other.
-pub fn read_two(c: Cursor, image: &[u8]) -> Two
+#[tactic(auto, unfolding(crate::specs::Rsa::two_at))]
+pub fn read_two(c: Cursor, image: &[u8]) -> Read<(Part, Part)>
     ensures { result ≡ two_at image.now c }
 {
-    match mpint::read_mpint(c, image) {
-        Field::Refused(f) => Two::Refused(f),
-        Field::Part(a, d) => match mpint::read_mpint(d, image) {
-            Field::Refused(f) => Two::Refused(f),
-            Field::Part(b, e) => Two::Numbers(a, b, e),
-        },
-    }
+    let (a, c) = mpint::read_mpint(c, image)?;
+    let (b, c) = mpint::read_mpint(c, image)?;
+    Ok(((a, b), c))
 }
 
 // A size outside is 1, at the number's field.
+#[tactic(auto, unfolding(crate::specs::Rsa::outside))]
 fn outside_at(number: Part) -> Fault
     ensures { result ≡ outside number }
 {
-    let start = number.start;
-    if start < 4 {
-        return Fault {
-            why: Refusal::Length,
-            at: 0,
-        };
-    }
-    Fault {
-        why: Refusal::Length,
-        at: start - 4,
-    }
+    Refusal::Length.at(number.start.saturating_sub(4))
 }
 
 // Has a number at most as many bits as the modulus n has? One that has no more bytes than these bits fill is
 // not looked at.
-fn fits(image: &[u8], n: Part, bits: usize, number: Part) -> bool
-    requires { modulus_size (view_of image.now n) ≡ Bits bits }
-    ensures { result ≡ at_most (view_of image.now number) (view_of image.now n) }
+#[tactic(auto, unfolding(crate::specs::Rsa::others_at))]
+fn fits(image: &[u8], n: Part, bits: usize, number: Part) -> Result<(), Fault>
+    requires { modulus_size (view_of image.now n) ≡ Some bits }
+    ensures { result ≡ others_at image.now n (number ∷ []) }
 {
-    if number.length <= bits / 8 {
-        return true;
+    if number.length <= bits / 8
+        || mpint::at_most(fields::view(image, number), fields::view(image, n))
+    {
+        return Ok(());
     }
-    mpint::at_most(fields::view(image, number), fields::view(image, n))
+    Err(outside_at(number))
 }
 
-// The places of modulus and exponent, and the modulus's bits.
-#[derive(Clone, Copy)]
-pub enum RsaPublic {
-    Numbers(Part, Part, usize, Cursor),
-    Refused(Fault),
-}
-
-// A public blob has e before n.
-pub fn read_rsa_public(c: Cursor, image: &[u8]) -> RsaPublic
+// A public blob has e before n. What is answered is n, e, and how many bits n has.
+#[tactic(auto, unfolding(crate::specs::Rsa::rsa_public_at, crate::specs::Rsa::others_at))]
+pub fn read_rsa_public(c: Cursor, image: &[u8]) -> Read<(Part, Part, usize)>
     ensures { result ≡ rsa_public_at image.now c }
 {
-    match read_two(c, image) {
-        Two::Refused(f) => RsaPublic::Refused(f),
-        Two::Numbers(e, n, d) => {
-            let modulus = fields::view(image, n);
-            match mpint::modulus_size(modulus) {
-                Size::Bits(bits) => {
-                    if fits(image, n, bits, e) {
-                        return RsaPublic::Numbers(n, e, bits, d);
-                    }
-                    RsaPublic::Refused(outside_at(e))
-                }
-                Size::Outside => {
-                    if mpint::at_most(fields::view(image, e), modulus) {
-                        return RsaPublic::Refused(outside_at(n));
-                    }
-                    RsaPublic::Refused(outside_at(e))
-                }
+    let ((e, n), c) = read_two(c, image)?;
+    let modulus = fields::view(image, n);
+    match mpint::modulus_size(modulus) {
+        Some(bits) => {
+            fits(image, n, bits, e)?;
+            Ok(((n, e, bits), c))
+        }
+        None => {
+            if mpint::at_most(fields::view(image, e), modulus) {
+                return Err(outside_at(n));
             }
+            Err(outside_at(e))
         }
     }
 }
@@ -102,78 +73,49 @@ pub struct Six {
     pub q: Part,
 }
 
-#[derive(Clone, Copy)]
-pub enum SixRead {
-    Six(Six, Cursor),
-    Refused(Fault),
-}
-
-pub fn read_six(c: Cursor, image: &[u8]) -> SixRead
+#[tactic(auto, unfolding(crate::specs::Rsa::six_at))]
+pub fn read_six(c: Cursor, image: &[u8]) -> Read<Six>
     ensures { result ≡ six_at image.now c }
 {
-    match read_two(c, image) {
-        Two::Refused(f) => SixRead::Refused(f),
-        Two::Numbers(n, e, c1) => match read_two(c1, image) {
-            Two::Refused(f) => SixRead::Refused(f),
-            Two::Numbers(d, iqmp, c2) => match read_two(c2, image) {
-                Two::Refused(f) => SixRead::Refused(f),
-                Two::Numbers(p, q, c3) => SixRead::Six(
-                    Six {
-                        n: n,
-                        e: e,
-                        d: d,
-                        iqmp: iqmp,
-                        p: p,
-                        q: q,
-                    },
-                    c3,
-                ),
-            },
+    let ((n, e), c) = read_two(c, image)?;
+    let ((d, iqmp), c) = read_two(c, image)?;
+    let ((p, q), c) = read_two(c, image)?;
+    Ok((
+        Six {
+            n,
+            e,
+            d,
+            iqmp,
+            p,
+            q,
         },
-    }
+        c,
+    ))
 }
 
 // The first, in that order, that has more bits than the modulus.
-fn others_fit(image: &[u8], x: Six, bits: usize) -> Ending
-    requires { modulus_size (view_of image.now x.n) ≡ Bits bits }
+#[tactic(auto, unfolding(crate::specs::Rsa::others_at))]
+fn others_fit(image: &[u8], x: Six, bits: usize) -> Result<(), Fault>
+    requires { modulus_size (view_of image.now x.n) ≡ Some bits }
     ensures { result ≡ others_at image.now x.n (others_of x) }
 {
-    if !fits(image, x.n, bits, x.e) {
-        return Ending::Refused(outside_at(x.e));
-    }
-    if !fits(image, x.n, bits, x.d) {
-        return Ending::Refused(outside_at(x.d));
-    }
-    if !fits(image, x.n, bits, x.iqmp) {
-        return Ending::Refused(outside_at(x.iqmp));
-    }
-    if !fits(image, x.n, bits, x.p) {
-        return Ending::Refused(outside_at(x.p));
-    }
-    if !fits(image, x.n, bits, x.q) {
-        return Ending::Refused(outside_at(x.q));
-    }
-    Ending::Clean
+    let Six { n, .. } = x;
+    fits(image, n, bits, x.e)?;
+    fits(image, n, bits, x.d)?;
+    fits(image, n, bits, x.iqmp)?;
+    fits(image, n, bits, x.p)?;
+    fits(image, n, bits, x.q)
 }
 
 // The six numbers, and the modulus's bits.
-#[derive(Clone, Copy)]
-pub enum RsaPair {
-    Numbers(Six, usize, Cursor),
-    Refused(Fault),
-}
-
-pub fn read_rsa_pair(c: Cursor, image: &[u8]) -> RsaPair
+#[tactic(auto, unfolding(crate::specs::Rsa::rsa_pair_at))]
+pub fn read_rsa_pair(c: Cursor, image: &[u8]) -> Read<(Six, usize)>
     ensures { result ≡ rsa_pair_at image.now c }
 {
-    match read_six(c, image) {
-        SixRead::Refused(f) => RsaPair::Refused(f),
-        SixRead::Six(x, d) => match mpint::modulus_size(fields::view(image, x.n)) {
-            Size::Outside => RsaPair::Refused(outside_at(x.n)),
-            Size::Bits(bits) => match others_fit(image, x, bits) {
-                Ending::Refused(f) => RsaPair::Refused(f),
-                Ending::Clean => RsaPair::Numbers(x, bits, d),
-            },
-        },
-    }
+    let (six, next) = read_six(c, image)?;
+    let Some(bits) = mpint::modulus_size(fields::view(image, six.n)) else {
+        return Err(outside_at(six.n));
+    };
+    others_fit(image, six, bits)?;
+    Ok(((six, bits), next))
 }

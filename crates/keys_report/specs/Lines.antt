@@ -13,7 +13,7 @@ use Rattle.reader_image.specs.Form.{on_kind}
 use Rattle.reader_keys.specs.Keys.{on_looked, key_numbered}
 use Rattle.buffer.specs.Decimal.{decimal}
 use Rattle.report_parts.specs.Parts.{line_feed, refused_line, IsHandedText}
-use Rattle.writer_reply.specs.declared.Written.{Written}
+use Rattle.writer_reply.specs.Reply.{Written}
 
 -- only RSA has a modulus
 unfoldable pub bits_word : Algorithm → ℕ → List ℕ

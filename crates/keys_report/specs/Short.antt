@@ -1,5 +1,5 @@
 -- The lines of a record's keys have at most 96 bytes each, and an accepted image has at most sixteen keys. Lines are put one after the other.
-use Rattle.std.specs.Prelude.{ℕ, zero, suc, ◌+◌, ◌*◌, ◌-◌, ◌≤◌, ◌<◌, ◌^◌, ◌≡◌, refl, List, [], ◌∷◌, ◌++◌, length}
+use Rattle.std.specs.Prelude.{ℕ, zero, suc, ◌+◌, ◌*◌, ◌-◌, ◌≤◌, ◌<◌, ◌^◌, ◌≡◌, refl, List, [], ◌∷◌, ◌++◌, length, Ok}
 use Rattle.std.proofs.Common.{arith, ap, append-nil, length-append}
 use Rattle.fields.specs.Bytes.{AllBytes, join}
 use Rattle.names.specs.declared.Algorithm.{Algorithm}
@@ -9,7 +9,6 @@ use Rattle.reader_header.specs.Read.{header-text}
 use Rattle.reader_section.specs.declared.Kind.{Kind}
 use Rattle.reader_section.specs.declared.Kind.TheVariants as kind
 use Rattle.reader_image.specs.declared.Fields.{Fields}
-use Rattle.reader_image.specs.declared.ImageRead.TheVariants as read
 use Rattle.reader_image.specs.Container.{read_at}
 use Rattle.reader_image.specs.Read.{halves}
 use Rattle.buffer.specs.Decimal.{decimal_short}
@@ -37,7 +36,7 @@ line_short number a bits k comment h i j =
     simp length-append (omega (arith, decimal_short number h, algorithm_short a, bits_short a bits i, last_short k comment j))
 
 -- an accepted image has no more than sixteen keys
-pub few_keys : (s : List ℕ) → AllBytes s → (f : Fields) → read_at s ≡ read.Record f → f.header.count ≤ 16
+pub few_keys : (s : List ℕ) → AllBytes s → (f : Fields) → read_at s ≡ Ok f → f.header.count ≤ 16
 few_keys s all f e = keys_most f.header.cipher f.header.count (header-text s all f.header (halves s f e).0).allowed
 
 -- of no keys nothing is put

@@ -9,8 +9,7 @@ ghost use Rattle.report_parts.specs.Parts.{IsShort};
 ghost use Rattle.keys_report.specs.Lines.{bits_word, last_word, key_line, line_of, lines_from, keys_report, IsKeysReport};
 
 use names::Algorithm;
-use reader_image::{Fields, ImageRead};
-use reader_keys::Looked;
+use reader_image::Fields;
 use reader_section::Kind;
 use writer_reply::Written;
 
@@ -61,46 +60,42 @@ fn put_line(
 }
 
 // The line of a record's key k.
+#[tactic(auto, unfolding(crate::specs::Lines::line_of))]
 fn put_key(out: &mut [u8], at: usize, image: &[u8], f: Fields, k: usize) -> usize
     ensures { IsShort 96 out.old at (line_of image.now f k) result out.new }
 {
-    let section = f.section;
-    let kind = section.kind;
     match reader_keys::key_of(image, f, k) {
-        Looked::Nothing => at,
-        Looked::Key(key) => {
-            let algorithm = key.algorithm;
-            let public = key.public;
-            let comment = key.comment;
-            put_line(out, at, k, algorithm, public.bits, kind, comment.length)
-        }
+        None => at,
+        Some(key) => put_line(
+            out,
+            at,
+            k,
+            key.algorithm,
+            key.public.bits,
+            f.section.kind,
+            key.comment.length,
+        ),
     }
 }
 
-// The lines of so many keys, from number k on.
-fn put_keys(out: &mut [u8], at: usize, image: &[u8], f: Fields, k: usize, remaining: usize) -> usize
-    requires { k + remaining ≤ 17 }
-    ensures { IsShort (96 * remaining) out.old at (join (lines_from image.now f k remaining)) result out.new }
+// The lines of a record's keys, at the start of a text.
+fn put_keys(out: &mut [u8], image: &[u8], f: Fields) -> usize
+    requires { f.header.count ≤ 16 }
+    ensures { IsShort (96 * f.header.count) out.old 0 (join (lines_from image.now f 1 f.header.count)) result out.new }
 {
-    if remaining == 0 {
-        return at;
+    let mut at = 0;
+    for k in 1..f.header.count + 1 {
+        at = put_key(out, at, image, f, k);
     }
-    let past = put_key(out, at, image, f, k);
-    put_keys(out, past, image, f, k + 1, remaining - 1)
+    at
 }
 
 fn put_report(out: &mut [u8], image: &[u8]) -> usize
     ensures { IsShort 1536 out.old 0 (keys_report image.now) result out.new }
 {
     match reader_image::read(image) {
-        ImageRead::Refused(f) => {
-            let why = f.why;
-            report_parts::put_refused(out, 0, why, f.at)
-        }
-        ImageRead::Record(f) => {
-            let header = f.header;
-            put_keys(out, 0, image, f, 1, header.count)
-        }
+        Err(f) => report_parts::put_refused(out, 0, f.why, f.at),
+        Ok(f) => put_keys(out, image, f),
     }
 }
 

@@ -1,5 +1,5 @@
 -- A file of keys that fit: what the writer makes of them is read again with the same keys and checkint, and may be edited.
-use Rattle.std.specs.Prelude.{ℕ, suc, ◌≤◌, ◌<◌, ◌^◌, ◌≡◌, true, List, [], ◌∷◌, map, length, take}
+use Rattle.std.specs.Prelude.{ℕ, suc, ◌≤◌, ◌<◌, ◌^◌, ◌≡◌, true, List, [], ◌∷◌, map, length, take, Ok}
 use Rattle.std.proofs.Common.{arith, ◌∙◌, ap, le-leb}
 use Rattle.fields.specs.Bytes.{same_bytes, same_self}
 use Rattle.format.specs.Format.{Key, filled_key, key_blob, standing_entries, plain_image, written_image}
@@ -8,13 +8,11 @@ use Rattle.reader_header.specs.Place.{plain_allowed}
 use Rattle.reader_entries.specs.Back.{AllFit as Stand}
 use Rattle.reader_section.specs.declared.Kind.TheVariants.{Plain}
 use Rattle.reader_image.specs.declared.Fields.{Fields}
-use Rattle.reader_image.specs.declared.ImageRead.TheVariants as read
 use Rattle.reader_image.specs.Container.{keys_in, read_at}
 use Rattle.reader_image.specs.Form.{form_of}
 use Rattle.reader_image.specs.FormLaws.{form_stands}
 use Rattle.reader_image.specs.Back.{keys_image_back}
 use Rattle.writer_plain.specs.Fits.{AllFit}
-use Rattle.edit_file.specs.declared.Editable.TheVariants as editable
 use Rattle.edit_file.specs.Edits.{record_editable, editable_at, file_keys}
 
 -- keys as a record has them, their scalars without leading zeros, and a checkint
@@ -41,7 +39,7 @@ stands_written c keys fits = ap (plain_image c (map key_blob keys)) (written_ent
 -- the record with which it is read again
 pub record Again (t : List ℕ) (c : ℕ) (keys : List Key) : Type 0 where
   pub fields : Fields
-  pub read : read_at t ≡ read.Record fields
+  pub read : read_at t ≡ Ok fields
   pub plain : fields.section.kind ≡ Plain
   pub form : form_of t fields ≡ true
   pub same_keys : keys_in t fields ≡ keys
@@ -71,7 +69,7 @@ read_again t c (k ∷ others) file small e =
 -- it may be edited, and these are its keys
 pub editable_again :
     (out : List ℕ) (n c : ℕ) (keys : List Key) (a : Again (take n out) c keys) → n ≤ 65535 → n ≤ length out
-    → (editable_at out n ≡ editable.Image a.fields) × (file_keys (take n out) a.fields ≡ map filled_key keys)
+    → (editable_at out n ≡ Ok a.fields) × (file_keys (take n out) a.fields ≡ map filled_key keys)
 unfolding editable_at record_editable file_keys
 editable_again out n c keys a small inside =
     (rw (le-leb n 65535 small, le-leb n (length out) inside, a.read, a.form, a.plain), ap (map filled_key) a.same_keys)

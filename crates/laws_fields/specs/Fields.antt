@@ -1,20 +1,14 @@
 -- docs/RULES.md, 7.1 and 7.5: every field read says at which byte of the image the failing field began. For uint32, bytes, string, fixed
 -- field and end that place lies in what was to be read, or at its end; and what is read moves on within it.
-use Rattle.std.specs.Prelude.{ℕ, ◌+◌, ◌-◌, ◌≤◌, ◌≡◌, List, ltb, length}
+use Rattle.std.specs.Prelude.{ℕ, ◌+◌, ◌-◌, ◌≤◌, ◌≡◌, List, ltb, length, Ok, Err}
 use Rattle.std.proofs.Common.{arith, ltb-true}
-use Rattle.fields.specs.Fields.{within, has_room, uint32_at, bytes_at, string_at, fixed_at, end_at}
-use Rattle.fields.specs.Place.{by_uint32, by_field, by_bool, string_place}
+use Rattle.fields.specs.Fields.{within, has_room, uint32_at, bytes_at, string_at, fixed_at, end_at, Read, Tested}
+use Rattle.fields.specs.Place.{by_read, by_bool, string_place}
 use Rattle.fields.specs.Rest.{Good}
 use Rattle.fields.specs.Room.{room_fits}
 use Rattle.fields.specs.declared.Cursor.{Cursor}
 use Rattle.fields.specs.declared.Fault.{Fault}
 use Rattle.fields.specs.declared.Part.{Part}
-use Rattle.fields.specs.declared.Uint32.{Uint32}
-use Rattle.fields.specs.declared.Uint32.TheVariants as uint32
-use Rattle.fields.specs.declared.Field.{Field}
-use Rattle.fields.specs.declared.Field.TheVariants as field
-use Rattle.fields.specs.declared.Ending.{Ending}
-use Rattle.fields.specs.declared.Ending.TheVariants as ending
 
 -- a refusal's place is not before the place c and not past its end
 abbrev pub Lies : Cursor → Fault → Type 0
@@ -25,17 +19,17 @@ abbrev pub After : Cursor → Cursor → Type 0
 After c d = (c.at ≤ d.at) × (d.at ≤ d.end) × (d.end ≡ c.end)
 
 -- of each answer: refused, where the refusal is; read, where the next place is
-abbrev pub Uint32Lies : Cursor → Uint32 → Type 0
-Uint32Lies c (uint32.Refused f) = Lies c f
-Uint32Lies c (uint32.Value n d) = After c d
+abbrev pub Uint32Lies : Cursor → Read ℕ → Type 0
+Uint32Lies c (Err f) = Lies c f
+Uint32Lies c (Ok (n, d)) = After c d
 
-abbrev pub FieldLies : Cursor → Field → Type 0
-FieldLies c (field.Refused f) = Lies c f
-FieldLies c (field.Part p d) = After c d
+abbrev pub FieldLies : Cursor → Read Part → Type 0
+FieldLies c (Err f) = Lies c f
+FieldLies c (Ok (p, d)) = After c d
 
-abbrev pub EndingLies : Cursor → Ending → Type 0
-EndingLies c (ending.Refused f) = Lies c f
-EndingLies c ending.Clean = Unit {0}
+abbrev pub EndingLies : Cursor → Tested → Type 0
+EndingLies c (Err f) = Lies c f
+EndingLies c (Ok tt) = Unit {0}
 
 -- a refusal further on, or in a part of what was to be read, lies there too
 pub lies_after : (c d : Cursor) (f : Fault) → After c d → Lies d f → Lies c f
@@ -64,12 +58,12 @@ bytes_lies s c k good =
 pub string_lies : (s : List ℕ) (c : Cursor) → Good s c → FieldLies c (string_at s c)
 unfolding string_at
 string_lies s c good =
-    by_uint32 (uint32_at s c)
+    by_read (uint32_at s c)
     (λ f w. rw w (rw w at (uint32_lies s c good)))
     (λ n b w.
     let a = rw w at (uint32_lies s c good) in
     rw w
-    (by_field (bytes_at s b n)
+    (by_read (bytes_at s b n)
     (λ f v. rw v (omega (arith, good)))
     (λ p d v. rw v (after-after c b d a (rw v at (bytes_lies s b n (good_after s c b good a)))))))
 
@@ -80,7 +74,7 @@ pub record StringIn (s : List ℕ) (c : Cursor) (p : Part) (d : Cursor) : Type 0
   pub after : After c d
   pub inside : Good s (within p)
 
-pub string_in : (s : List ℕ) (c : Cursor) (p : Part) (d : Cursor) → string_at s c ≡ field.Part p d → StringIn s c p d
+pub string_in : (s : List ℕ) (c : Cursor) (p : Part) (d : Cursor) → string_at s c ≡ Ok (p, d) → StringIn s c p d
 string_in s c p d e =
     let k = (string_place s c p d e).placed in
     record { start = k.start; ends = omega (arith, k); after = omega (arith, k); inside = omega (arith, k) }
@@ -92,7 +86,7 @@ lies_within s c p d f i l = omega (arith, i, l)
 pub fixed_lies : (s : List ℕ) (c : Cursor) (k : ℕ) → Good s c → FieldLies c (fixed_at s c k)
 unfolding fixed_at
 fixed_lies s c k good =
-    by_field (string_at s c)
+    by_read (string_at s c)
     (λ f w. rw w (rw w at (string_lies s c good)))
     (λ p d w.
     let i = string_in s c p d w in

@@ -1,8 +1,8 @@
 -- docs/RULES.md, 7.5: where a public key and a blob refuse. The place lies in what is read, or at its end.
-use Rattle.std.specs.Prelude.{ℕ, ◌+◌, ◌*◌, List, eqb, get_or}
+use Rattle.std.specs.Prelude.{ℕ, ◌+◌, ◌*◌, List, eqb, get_or, Result, Ok, Err}
 use Rattle.std.proofs.Common.{arith}
-use Rattle.fields.specs.Fields.{string_at, fixed_at, end_at, view_of}
-use Rattle.fields.specs.Place.{by_field, by_bool, by_ending}
+use Rattle.fields.specs.Fields.{string_at, fixed_at, end_at, view_of, Read}
+use Rattle.fields.specs.Place.{by_read, by_bool, by_tested}
 use Rattle.fields.specs.Rest.{Good}
 use Rattle.fields.specs.declared.Cursor.{Cursor}
 use Rattle.names.specs.declared.Elliptic.TheVariants.{Ed25519, Ecdsa}
@@ -11,34 +11,31 @@ use Rattle.names.specs.declared.Algorithm.TheVariants.{Elliptic as OnCurve, Rsa}
 use Rattle.names.specs.declared.Curve.{Curve}
 use Rattle.names.specs.Algorithms.{algorithm_named, curve_named, size_of, same_algorithm}
 use Rattle.key_rsa.specs.Rsa.{rsa_public_at}
-use Rattle.key_public.specs.declared.EcdsaPublic.{EcdsaPublic}
-use Rattle.key_public.specs.declared.EcdsaPublic.TheVariants as ecdsa
-use Rattle.key_public.specs.declared.PublicKey.{PublicKey}
-use Rattle.key_public.specs.declared.PublicKey.TheVariants as public
-use Rattle.key_public.specs.declared.Blob.{Blob}
-use Rattle.key_public.specs.declared.Blob.TheVariants as blob
 use Rattle.key_public.specs.Keys.{on_algorithm, point_at, ecdsa_public_at, ecdsa_key_at, elliptic_key_at, rsa_key_at, public_key_at, blob_at}
 use Rattle.laws_keys.specs.Read.{by_curve, by_algorithm, by_ecdsa, by_public, by_rsa_public}
 use Rattle.laws_fields.specs.Fields.{Lies, After, FieldLies, lies_after, after-after, good_after, string_lies, fixed_lies, end_lies}
 use Rattle.laws_fields.specs.Numbers.{rsa_public_lies}
+use Rattle.fields.specs.declared.Part.{Part}
+use Rattle.fields.specs.declared.Fault.{Fault}
+use Rattle.key_public.specs.declared.Public.{Public}
 
 -- of each answer: refused, where the refusal is; read, where the next place is
-abbrev pub EcdsaLies : Cursor → EcdsaPublic → Type 0
-EcdsaLies c (ecdsa.Refused f) = Lies c f
-EcdsaLies c (ecdsa.Point k p d) = After c d
+abbrev pub EcdsaLies : Cursor → Read (Curve × Part) → Type 0
+EcdsaLies c (Err f) = Lies c f
+EcdsaLies c (Ok ((k, p), d)) = After c d
 
-abbrev PublicLies : Cursor → PublicKey → Type 0
-PublicLies c (public.Refused f) = Lies c f
-PublicLies c (public.Key a p d) = After c d
+abbrev PublicLies : Cursor → Read (Algorithm × Public) → Type 0
+PublicLies c (Err f) = Lies c f
+PublicLies c (Ok ((a, p), d)) = After c d
 
-abbrev pub BlobLies : Cursor → Blob → Type 0
-BlobLies c (blob.Refused f) = Lies c f
-BlobLies c (blob.Key a p) = Unit {0}
+abbrev pub BlobLies : Cursor → Result (Algorithm × Public) Fault → Type 0
+BlobLies c (Err f) = Lies c f
+BlobLies c (Ok (a, p)) = Unit {0}
 
 point_lies : (s : List ℕ) (c : Cursor) (k : Curve) → Good s c → FieldLies c (point_at s c k)
 unfolding point_at
 point_lies s c k good =
-    by_field (fixed_at s c (1 + 2 * size_of k))
+    by_read (fixed_at s c (1 + 2 * size_of k))
     (λ f w. rw w (rw w at (fixed_lies s c (1 + 2 * size_of k) good)))
     (λ p d w.
     rw w
@@ -49,7 +46,7 @@ point_lies s c k good =
 pub ecdsa_public_lies : (s : List ℕ) (c : Cursor) → Good s c → EcdsaLies c (ecdsa_public_at s c)
 unfolding ecdsa_public_at
 ecdsa_public_lies s c good =
-    by_field (string_at s c)
+    by_read (string_at s c)
     (λ f w. rw w (rw w at (string_lies s c good)))
     (λ name d w.
     let a = rw w at (string_lies s c good) in
@@ -59,7 +56,7 @@ ecdsa_public_lies s c good =
     (λ k v.
     let next = point_lies s d k (good_after s c d good a) in
     rw v
-    (by_field (point_at s d k)
+    (by_read (point_at s d k)
     (λ f u. rw u (lies_after c d f a (rw u at next)))
     (λ p e u. rw u (after-after c d e a (rw u at next)))))))
 
@@ -78,7 +75,7 @@ ecdsa_key_lies s c named good =
 named_key_lies : (s : List ℕ) (c : Cursor) (a : Algorithm) → Good s c → PublicLies c (on_algorithm a (elliptic_key_at s c) (rsa_key_at s c))
 unfolding elliptic_key_at rsa_key_at
 named_key_lies s c (OnCurve Ed25519) good =
-    by_field (fixed_at s c 32)
+    by_read (fixed_at s c 32)
     (λ f w. rw w (rw w at (fixed_lies s c 32 good)))
     (λ p d w. rw w (rw w at (fixed_lies s c 32 good)))
 named_key_lies s c (OnCurve (Ecdsa k)) good = ecdsa_key_lies s c k good
@@ -90,7 +87,7 @@ named_key_lies s c Rsa good =
 public_key_lies : (s : List ℕ) (c : Cursor) → Good s c → PublicLies c (public_key_at s c)
 unfolding public_key_at
 public_key_lies s c good =
-    by_field (string_at s c)
+    by_read (string_at s c)
     (λ f w. rw w (rw w at (string_lies s c good)))
     (λ name d w.
     let a = rw w at (string_lies s c good) in
@@ -99,9 +96,9 @@ public_key_lies s c good =
     (λ v. rw v (omega (arith, good)))
     (λ j v. rw v (moved_on d a (on_algorithm j (elliptic_key_at s d) (rsa_key_at s d)) (named_key_lies s d j (good_after s c d good a))))))
   where
-    moved_on : (d : Cursor) → After c d → (r : PublicKey) → PublicLies d r → PublicLies c r
-    moved_on d a (public.Refused f) l = lies_after c d f a l
-    moved_on d a (public.Key j p e) l = after-after c d e a l
+    moved_on : (d : Cursor) → After c d → (r : Read (Algorithm × Public)) → PublicLies d r → PublicLies c r
+    moved_on d a (Err f) l = lies_after c d f a l
+    moved_on d a (Ok ((j, p), e)) l = after-after c d e a l
 
 pub blob_lies : (s : List ℕ) (c : Cursor) → Good s c → BlobLies c (blob_at s c)
 unfolding blob_at
@@ -111,6 +108,6 @@ blob_lies s c good =
     (λ a p d w.
     let moved = rw w at (public_key_lies s c good) in
     rw w
-    (by_ending (end_at d)
+    (by_tested (end_at d)
     (λ f v. rw v (lies_after c d f moved (rw v at (end_lies d))))
     (λ v. rw v tt)))

@@ -1,26 +1,17 @@
 -- docs/RULES.md, 7.2 and 7.5: where RSA's numbers refuse. An mpint's own refusal is at its field, a size's at the field of the
 -- number that it belongs to; both lie in the blob or the section that is read.
-use Rattle.std.specs.Prelude.{ℕ, ◌+◌, ◌≤◌, List, [], ◌∷◌}
+use Rattle.std.specs.Prelude.{ℕ, ◌+◌, ◌≤◌, List, [], ◌∷◌, Ok, Err}
 use Rattle.std.proofs.Common.{arith}
-use Rattle.fields.specs.Fields.{string_at, view_of}
-use Rattle.fields.specs.Place.{by_field, by_bool, by_ending}
+use Rattle.fields.specs.Fields.{string_at, view_of, Read}
+use Rattle.fields.specs.Place.{by_read, by_bool, by_tested}
 use Rattle.fields.specs.Rest.{Good}
 use Rattle.fields.specs.declared.Cursor.{Cursor}
 use Rattle.fields.specs.declared.Part.{Part}
-use Rattle.fields.specs.declared.Field.{Field}
-use Rattle.fields.specs.declared.Field.TheVariants as field
 use Rattle.mpint.specs.Mpint.{is_mpint, mpint_at, at_most, modulus_size}
-use Rattle.key_rsa.specs.declared.Two.{Two}
-use Rattle.key_rsa.specs.declared.Two.TheVariants as two
-use Rattle.key_rsa.specs.declared.SixRead.{SixRead}
-use Rattle.key_rsa.specs.declared.SixRead.TheVariants as six
-use Rattle.key_rsa.specs.declared.RsaPublic.{RsaPublic}
-use Rattle.key_rsa.specs.declared.RsaPublic.TheVariants as rsa-public
-use Rattle.key_rsa.specs.declared.RsaPair.{RsaPair}
-use Rattle.key_rsa.specs.declared.RsaPair.TheVariants as rsa-pair
 use Rattle.key_rsa.specs.Rsa.{two_at, six_at, outside, others_at, others_of, rsa_public_at, rsa_pair_at}
 use Rattle.laws_keys.specs.RsaRead.{by_two, by_six, by_size}
 use Rattle.laws_fields.specs.Fields.{Lies, After, EndingLies, lies_after, after-after, good_after, string_lies, string_in}
+use Rattle.key_rsa.specs.declared.Six.{Six}
 
 -- a number's part, its four length bytes before it, in what is read at c
 abbrev pub Stands : Cursor → Part → Type 0
@@ -31,25 +22,25 @@ AllStand c [] = Unit {0}
 AllStand c (p ∷ more) = Stands c p × AllStand c more
 
 -- of each answer: refused, where the refusal is; read, where the numbers stand and the next place is
-abbrev NumberLies : Cursor → Field → Type 0
-NumberLies c (field.Refused f) = Lies c f
-NumberLies c (field.Part p d) = Stands c p × After c d
+abbrev NumberLies : Cursor → Read Part → Type 0
+NumberLies c (Err f) = Lies c f
+NumberLies c (Ok (p, d)) = Stands c p × After c d
 
-abbrev TwoLies : Cursor → Two → Type 0
-TwoLies c (two.Refused f) = Lies c f
-TwoLies c (two.Numbers a b d) = Stands c a × Stands c b × After c d
+abbrev TwoLies : Cursor → Read (Part × Part) → Type 0
+TwoLies c (Err f) = Lies c f
+TwoLies c (Ok ((a, b), d)) = Stands c a × Stands c b × After c d
 
-abbrev SixLies : Cursor → SixRead → Type 0
-SixLies c (six.Refused f) = Lies c f
-SixLies c (six.Six x d) = Stands c x.n × AllStand c (others_of x) × After c d
+abbrev SixLies : Cursor → Read Six → Type 0
+SixLies c (Err f) = Lies c f
+SixLies c (Ok (x, d)) = Stands c x.n × AllStand c (others_of x) × After c d
 
-abbrev pub RsaPublicLies : Cursor → RsaPublic → Type 0
-RsaPublicLies c (rsa-public.Refused f) = Lies c f
-RsaPublicLies c (rsa-public.Numbers n e k d) = After c d
+abbrev pub RsaPublicLies : Cursor → Read (Part × Part × ℕ) → Type 0
+RsaPublicLies c (Err f) = Lies c f
+RsaPublicLies c (Ok ((n, e, k), d)) = After c d
 
-abbrev pub RsaPairLies : Cursor → RsaPair → Type 0
-RsaPairLies c (rsa-pair.Refused f) = Lies c f
-RsaPairLies c (rsa-pair.Numbers x k d) = After c d
+abbrev pub RsaPairLies : Cursor → Read (Six × ℕ) → Type 0
+RsaPairLies c (Err f) = Lies c f
+RsaPairLies c (Ok ((x, k), d)) = After c d
 
 stands_after : (c d : Cursor) (p : Part) → After c d → Stands d p → Stands c p
 stands_after c d p a h = omega (arith, a, h)
@@ -61,7 +52,7 @@ outside_lies c p h = omega (arith, h)
 mpint_lies : (s : List ℕ) (c : Cursor) → Good s c → NumberLies c (mpint_at s c)
 unfolding mpint_at
 mpint_lies s c good =
-    by_field (string_at s c)
+    by_read (string_at s c)
     (λ f w. rw w (rw w at (string_lies s c good)))
     (λ p d w.
     let i = string_in s c p d w in
@@ -73,13 +64,13 @@ mpint_lies s c good =
 two_lies : (s : List ℕ) (c : Cursor) → Good s c → TwoLies c (two_at s c)
 unfolding two_at
 two_lies s c good =
-    by_field (mpint_at s c)
+    by_read (mpint_at s c)
     (λ f w. rw w (rw w at (mpint_lies s c good)))
     (λ a d w.
     let i = rw w at (mpint_lies s c good) in
     let next = mpint_lies s d (good_after s c d good i.1) in
     rw w
-    (by_field (mpint_at s d)
+    (by_read (mpint_at s d)
     (λ f v. rw v (lies_after c d f i.1 (rw v at next)))
     (λ b e v. let j = rw v at next in rw v (i.0, stands_after c d b i.1 j.0, after-after c d e i.1 j.1))))
 
@@ -125,7 +116,7 @@ rsa_public_lies s c good =
     (λ e n d w.
     let i = rw w at (two_lies s c good) in
     rw w
-    (by_ending (others_at s n (e ∷ []))
+    (by_tested (others_at s n (e ∷ []))
     (λ f v. rw v (rw v at (others_lies s c n (e ∷ []) (i.0, tt))))
     (λ v.
     rw v
@@ -145,6 +136,6 @@ rsa_pair_lies s c good =
     (λ v. rw v (outside_lies c x.n i.0))
     (λ k v.
     rw v
-    (by_ending (others_at s x.n (others_of x))
+    (by_tested (others_at s x.n (others_of x))
     (λ f u. rw u (rw u at (others_lies s c x.n (others_of x) i.1)))
     (λ u. rw u i.2)))))

@@ -1,9 +1,9 @@
 -- docs/RULES.md, 7.5: where a scalar and a keypair refuse. The place lies in what is read, or at its end.
-use Rattle.std.specs.Prelude.{ℕ, ◌+◌, List, eqb, ltb}
+use Rattle.std.specs.Prelude.{ℕ, ◌+◌, List, eqb, ltb, Ok, Err}
 use Rattle.std.proofs.Common.{arith, ltb-true}
 use Rattle.fields.specs.Bytes.{same_bytes}
-use Rattle.fields.specs.Fields.{part, string_at, fixed_at, view_of}
-use Rattle.fields.specs.Place.{by_field, by_bool, string_place}
+use Rattle.fields.specs.Fields.{part, string_at, fixed_at, view_of, Read}
+use Rattle.fields.specs.Place.{by_read, by_bool, string_place}
 use Rattle.fields.specs.Rest.{Good}
 use Rattle.fields.specs.declared.Cursor.{Cursor}
 use Rattle.names.specs.declared.Elliptic.TheVariants.{Ed25519, Ecdsa}
@@ -13,24 +13,24 @@ use Rattle.names.specs.declared.Curve.{Curve}
 use Rattle.names.specs.Algorithms.{algorithm_named, size_of, same_algorithm}
 use Rattle.key_rsa.specs.Rsa.{rsa_pair_at}
 use Rattle.key_public.specs.Keys.{on_algorithm, ecdsa_public_at}
-use Rattle.key_pairs.specs.declared.Keypair.{Keypair}
-use Rattle.key_pairs.specs.declared.Keypair.TheVariants as keypair
 use Rattle.key_pairs.specs.Pairs.{is_scalar, scalar_at, ed25519_pair_at, ecdsa_pair_at, elliptic_pair_at, rsa_keypair_at, keypair_at}
 use Rattle.laws_keys.specs.Read.{by_algorithm, by_ecdsa}
 use Rattle.laws_keys.specs.ReadPair.{by_rsa_pair}
 use Rattle.laws_fields.specs.Fields.{Lies, After, FieldLies, lies_after, after-after, good_after, string_lies, fixed_lies}
 use Rattle.laws_fields.specs.Numbers.{rsa_pair_lies}
 use Rattle.laws_fields.specs.Keys.{ecdsa_public_lies}
+use Rattle.key_public.specs.declared.Public.{Public}
+use Rattle.key_pairs.specs.declared.Private.{Private}
 
 -- refused, where the refusal is; read, where the next place is
-abbrev pub PairLies : Cursor → Keypair → Type 0
-PairLies c (keypair.Refused f) = Lies c f
-PairLies c (keypair.Pair a p x d) = After c d
+abbrev pub PairLies : Cursor → Read (Algorithm × Public × Private) → Type 0
+PairLies c (Err f) = Lies c f
+PairLies c (Ok ((a, p, x), d)) = After c d
 
 scalar_lies : (s : List ℕ) (c : Cursor) (size : ℕ) → Good s c → FieldLies c (scalar_at s c size)
 unfolding scalar_at
 scalar_lies s c size good =
-    by_field (string_at s c)
+    by_read (string_at s c)
     (λ f w. rw w (rw w at (string_lies s c good)))
     (λ p d w.
     rw w
@@ -49,13 +49,13 @@ scalar_lies s c size good =
 ed25519_pair_lies : (s : List ℕ) (c : Cursor) → Good s c → PairLies c (ed25519_pair_at s c)
 unfolding ed25519_pair_at
 ed25519_pair_lies s c good =
-    by_field (fixed_at s c 32)
+    by_read (fixed_at s c 32)
     (λ f w. rw w (rw w at (fixed_lies s c 32 good)))
     (λ point d w.
     let a = rw w at (fixed_lies s c 32 good) in
     let next = fixed_lies s d 64 (good_after s c d good a) in
     rw w
-    (by_field (fixed_at s d 64)
+    (by_read (fixed_at s d 64)
     (λ f v. rw v (lies_after c d f a (rw v at next)))
     (λ both e v.
     rw v
@@ -72,7 +72,7 @@ ecdsa_pair_lies s c named good =
     let a = rw w at (ecdsa_public_lies s c good) in
     let next = scalar_lies s d (size_of k) (good_after s c d good a) in
     rw w
-    (by_field (scalar_at s d (size_of k))
+    (by_read (scalar_at s d (size_of k))
     (λ f v. rw v (lies_after c d f a (rw v at next)))
     (λ scalar e v.
     rw v
@@ -93,7 +93,7 @@ named_pair_lies s c Rsa good =
 pub keypair_lies : (s : List ℕ) (c : Cursor) → Good s c → PairLies c (keypair_at s c)
 unfolding keypair_at
 keypair_lies s c good =
-    by_field (string_at s c)
+    by_read (string_at s c)
     (λ f w. rw w (rw w at (string_lies s c good)))
     (λ name d w.
     let a = rw w at (string_lies s c good) in
@@ -102,6 +102,6 @@ keypair_lies s c good =
     (λ v. rw v (omega (arith, good)))
     (λ j v. rw v (moved_on d a (on_algorithm j (elliptic_pair_at s d) (rsa_keypair_at s d)) (named_pair_lies s d j (good_after s c d good a))))))
   where
-    moved_on : (d : Cursor) → After c d → (r : Keypair) → PairLies d r → PairLies c r
-    moved_on d a (keypair.Refused f) l = lies_after c d f a l
-    moved_on d a (keypair.Pair j p x e) l = after-after c d e a l
+    moved_on : (d : Cursor) → After c d → (r : Read (Algorithm × Public × Private)) → PairLies d r → PairLies c r
+    moved_on d a (Err f) l = lies_after c d f a l
+    moved_on d a (Ok ((j, p, x), e)) l = after-after c d e a l

@@ -1,5 +1,5 @@
 -- Reading back: a public key, a blob or a keypair that stands at a place as the format writes it is read there, with its bytes.
-use Rattle.std.specs.Prelude.{ℕ, ◌+◌, ◌-◌, ◌*◌, ◌≤◌, ◌<◌, ◌^◌, ◌≡◌, refl, List, [], ◌++◌, get_or, replicate}
+use Rattle.std.specs.Prelude.{ℕ, ◌+◌, ◌-◌, ◌*◌, ◌≤◌, ◌<◌, ◌^◌, ◌≡◌, refl, List, [], ◌++◌, get_or, replicate, Result, Ok}
 use Rattle.std.proofs.Common.{add-zero, arith, sym, ◌∙◌, append_assoc, append-nil, length-append}
 use Rattle.std.proofs.Math.Path.{ap}
 use Rattle.std.proofs.Math.Bool.{true}
@@ -8,7 +8,7 @@ use Rattle.std.specs.Int.Count.{count_leading_zeros}
 use Rattle.std.proofs.Math.ListN.{length}
 use Rattle.std.proofs.lemmas.List.{length-replicate}
 use Rattle.fields.specs.Bytes.{string, join, same_self}
-use Rattle.fields.specs.Fields.{part, view_of}
+use Rattle.fields.specs.Fields.{part, view_of, Read}
 use Rattle.fields.specs.Rest.{rest, Good, view_byte, view_two, view_absent}
 use Rattle.fields.specs.Back.{FieldBack, also, string_back, fixed_back, end_back}
 use Rattle.fields.specs.declared.Cursor.{Cursor}
@@ -23,21 +23,14 @@ use Rattle.mpint.specs.Mpint.{zeros_before, bits}
 use Rattle.format.specs.Format.{PublicBytes, PrivateBytes, of_point, of_scalar, of_modulus, of_numbers, curve_field, public_fields, blob, pair_fields, keypair as pair, standing, MayStand, PublicFits, PrivateFits}
 use Rattle.format.proofs.Laws.{blob_then, keypair_then}
 use Rattle.format.specs.Scalars.{some_bytes, standing-length, standing_zeros}
-use Rattle.key_public.specs.declared.EcdsaPublic.{EcdsaPublic}
-use Rattle.key_public.specs.declared.EcdsaPublic.TheVariants as ecdsa
-use Rattle.key_public.specs.declared.PublicKey.{PublicKey}
-use Rattle.key_public.specs.declared.PublicKey.TheVariants as public
 use Rattle.key_public.specs.declared.Public.{Public}
-use Rattle.key_public.specs.declared.Blob.{Blob}
-use Rattle.key_public.specs.declared.Blob.TheVariants as blob-key
 use Rattle.key_rsa.specs.declared.Six.{Six}
 use Rattle.key_pairs.specs.declared.Private.{Private}
-use Rattle.key_pairs.specs.declared.Keypair.{Keypair}
-use Rattle.key_pairs.specs.declared.Keypair.TheVariants as keypair
 use Rattle.key_public.specs.Keys.{on_algorithm, point_at, ecdsa_public_at, point_place, modulus_place, public_bytes, ecdsa_key_at, elliptic_key_at, rsa_key_at, public_key_at, blob_at}
 use Rattle.laws_keys.specs.RsaBack.{rsa_public_back, rsa_pair_back}
 use Rattle.key_pairs.specs.Scalar.{scalar_stands_lem}
 use Rattle.key_pairs.specs.Pairs.{is_scalar, significant_part, scalar_at, scalar_place, numbers_place, private_bytes, ed25519_pair_at, ecdsa_pair_at, elliptic_pair_at, rsa_keypair_at, keypair_at}
+use Rattle.fields.specs.declared.Fault.{Fault}
 
 -- the first byte of a part is that of its bytes
 first_byte :
@@ -94,19 +87,19 @@ module _ (s : List ℕ) (c : Cursor) (good : Good s c) (size : ℕ) (small : siz
       }
 
 -- an answer that has a key, its bytes, the bits of its modulus, and what is left
-pub record KeyBack (s : List ℕ) (w : PublicKey) (a : Algorithm) (key : PublicBytes) (t : List ℕ) : Type 0 where
+pub record KeyBack (s : List ℕ) (w : Read (Algorithm × Public)) (a : Algorithm) (key : PublicBytes) (t : List ℕ) : Type 0 where
   pub place : Public
   pub next : Cursor
-  pub read : w ≡ public.Key a place next
+  pub read : w ≡ Ok ((a, place), next)
   pub seen : public_bytes s place ≡ key
   pub counted : place.bits ≡ bits key.modulus
   pub good : Good s next
   pub more : rest s next ≡ t
 
-pub record PointBack (s : List ℕ) (w : EcdsaPublic) (k : Curve) (point t : List ℕ) : Type 0 where
+pub record PointBack (s : List ℕ) (w : Read (Curve × Part)) (k : Curve) (point t : List ℕ) : Type 0 where
   pub place : Part
   pub next : Cursor
-  pub read : w ≡ ecdsa.Point k place next
+  pub read : w ≡ Ok ((k, place), next)
   pub seen : view_of s place ≡ point
   pub good : Good s next
   pub more : rest s next ≡ t
@@ -224,9 +217,9 @@ public_key_back s c good small a key t fits e =
     }
 
 -- a whole blob
-pub record BlobBack (s : List ℕ) (w : Blob) (a : Algorithm) (key : PublicBytes) : Type 0 where
+pub record BlobBack (s : List ℕ) (w : Result (Algorithm × Public) Fault) (a : Algorithm) (key : PublicBytes) : Type 0 where
   pub place : Public
-  pub read : w ≡ blob-key.Key a place
+  pub read : w ≡ Ok (a, place)
   pub seen : public_bytes s place ≡ key
   pub counted : place.bits ≡ bits key.modulus
 
@@ -244,11 +237,11 @@ blob_back s c good small a key fits e =
     }
 
 -- an answer that has a keypair, its bytes, and what is left
-pub record PairBack (s : List ℕ) (w : Keypair) (a : Algorithm) (key : PublicBytes) (x : PrivateBytes) (t : List ℕ) : Type 0 where
+pub record PairBack (s : List ℕ) (w : Read (Algorithm × Public × Private)) (a : Algorithm) (key : PublicBytes) (x : PrivateBytes) (t : List ℕ) : Type 0 where
   pub place : Public
   pub private : Private
   pub next : Cursor
-  pub read : w ≡ keypair.Pair a place private next
+  pub read : w ≡ Ok ((a, place, private), next)
   pub seen : public_bytes s place ≡ key
   pub kept : private_bytes s private ≡ x
   pub good : Good s next

@@ -1,5 +1,5 @@
 -- Inversion: a keypair that was read stands at its place as the format writes it, its scalar in the form that it had.
-use Rattle.std.specs.Prelude.{ℕ, ◌+◌, ◌-◌, ◌≤◌, ◌<◌, ◌≡◌, refl, true, eqb, ltb, replicate}
+use Rattle.std.specs.Prelude.{ℕ, ◌+◌, ◌-◌, ◌≤◌, ◌<◌, ◌≡◌, refl, true, eqb, ltb, replicate, Ok, Err}
 use native.Mathlib.Omega.{arith}
 use Rattle.std.proofs.Math.Path.{sym, ap}
 use Rattle.std.proofs.Common.{◌∙◌}
@@ -8,14 +8,13 @@ use borrow.Author.Tests.{eq-eqb, ne_eqb, eqb-true, eqb-false, ltb-true, ltb-fals
 use Rattle.std.proofs.Math.ListN.{length, get_or}
 use Rattle.std.proofs.lemmas.List.{length-replicate}
 use Rattle.fields.specs.Bytes.{string, join, AllBytes, same_bytes, same_true}
-use Rattle.fields.specs.Fields.{number4, part, string_at, fixed_at, view_of}
-use Rattle.fields.specs.Place.{clash, by_field, by_bool, uint32_place, string_place, fixed_place}
+use Rattle.fields.specs.Fields.{number4, part, string_at, fixed_at, view_of, Read}
+use Rattle.fields.specs.Place.{clash, by_read, by_bool, uint32_place, string_place, fixed_place, same_read, same_triple}
 use Rattle.fields.specs.Rest.{rest, view_two, view_byte, view_split, view_length, view_absent}
 use Rattle.fields.specs.Read.{StringRead, string_read, length_byte}
 use Rattle.fields.specs.declared.Cursor.{Cursor}
 use Rattle.fields.specs.declared.Fault.{Fault}
 use Rattle.fields.specs.declared.Part.{Part}
-use Rattle.fields.specs.declared.Field.TheVariants as field
 use Rattle.names.specs.declared.Elliptic.{Elliptic}
 use Rattle.names.specs.declared.Elliptic.TheVariants.{Ed25519, Ecdsa}
 use Rattle.names.specs.declared.Algorithm.{Algorithm}
@@ -28,21 +27,18 @@ use Rattle.mpint.specs.Zeros.{zeros_le, zeros_zero}
 use Rattle.format.proofs.Laws.{keypair_then}
 use Rattle.format.specs.Scalars.{standing_again, significant-length, significant_first}
 use Rattle.key_rsa.specs.declared.Six.{Six}
-use Rattle.key_rsa.specs.declared.RsaPair.{RsaPair}
-use Rattle.key_rsa.specs.declared.RsaPair.TheVariants as rsa-pair
 use Rattle.key_rsa.specs.Rsa.{rsa_pair_at}
 use Rattle.key_public.specs.declared.Public.{Public}
 use Rattle.key_pairs.specs.declared.Private.{Private}
-use Rattle.key_pairs.specs.declared.Keypair.TheVariants as keypair
 use Rattle.key_public.specs.Keys.{on_algorithm, ecdsa_public_at, point_place, modulus_place, public_bytes}
 use Rattle.key_pairs.specs.Pairs.{is_scalar, significant_part, scalar_at, scalar_place, numbers_place, private_bytes, ed25519_pair_at, ecdsa_pair_at, elliptic_pair_at, rsa_keypair_at, keypair_at, begins_before}
 use Rattle.key_pairs.specs.Scalar.{scalar_some, scalar_short}
 use Rattle.laws_keys.specs.RsaRead.{RsaPairRead, rsa_pair_read}
 use Rattle.laws_keys.specs.Read.{by_algorithm, by_ecdsa, ecdsa_public_read, named_text}
 
-pub by_rsa_pair : {P : Type 0} (w : RsaPair) → ((f : Fault) → w ≡ rsa-pair.Refused f → P) → ((x : Six) (k : ℕ) (c : Cursor) → w ≡ rsa-pair.Numbers x k c → P) → P
-by_rsa_pair (rsa-pair.Refused f) refused numbers = refused f refl
-by_rsa_pair (rsa-pair.Numbers x k c) refused numbers = numbers x k c refl
+pub by_rsa_pair : {P : Type 0} (w : Read (Six × ℕ)) → ((f : Fault) → w ≡ Err f → P) → ((x : Six) (k : ℕ) (c : Cursor) → w ≡ Ok ((x, k), c) → P) → P
+by_rsa_pair (Err f) refused numbers = refused f refl
+by_rsa_pair (Ok ((x, k), c)) refused numbers = numbers x k c refl
 
 -- what is said of a scalar: a seed is none, and RSA has none
 abbrev pub IfScalar : Algorithm → Type 0 → Type 0
@@ -58,7 +54,7 @@ Begins s p zeros = (k : ℕ) → k < 2 → begins_before s p k ≡ eqb k zeros
 number_high : (a b c d n : ℕ) → number4 a b c d ≡ n → n < 256 → c ≡ 0
 number_high a b c d n e h = omega arith
 
-length_high : (s : List ℕ) (c : Cursor) (p : Part) (d : Cursor) → string_at s c ≡ field.Part p d → p.length < 256 → get_or s (p.start - 2) 0 ≡ 0
+length_high : (s : List ℕ) (c : Cursor) (p : Part) (d : Cursor) → string_at s c ≡ Ok (p, d) → p.length < 256 → get_or s (p.start - 2) 0 ≡ 0
 length_high s c p d e h =
     let k = string_place s c p d e in
     let u = uint32_place s c p.length k.body k.length in
@@ -77,7 +73,7 @@ module _ (s : List ℕ) (all : AllBytes s) where
     pub end : d.end ≡ c.end
 
   -- a scalar in its string, which stands in the image as the part q
-  module _ (c : Cursor) (size : ℕ) (q : Part) (d : Cursor) (w : string_at s c ≡ field.Part q d) where
+  module _ (c : Cursor) (size : ℕ) (q : Part) (d : Cursor) (w : string_at s c ≡ Ok (q, d)) where
     abbrev stored : List ℕ
     stored = view_of s q
 
@@ -127,11 +123,11 @@ module _ (s : List ℕ) (all : AllBytes s) where
         read_string.text
         ∙ ap (λ (l : List ℕ). string l ++ rest s d) (sym (standing_again stored) ∙ ap (standing (zeros_before stored)) (sym significant_seen))
 
-  scalar_read : (c : Cursor) (size : ℕ) (p : Part) (d : Cursor) → scalar_at s c size ≡ field.Part p d → ScalarRead c size p d
+  scalar_read : (c : Cursor) (size : ℕ) (p : Part) (d : Cursor) → scalar_at s c size ≡ Ok (p, d) → ScalarRead c size p d
   unfolding scalar_at
   scalar_read c size p d e =
-      by_field (string_at s c)
-      (λ f w. let g : field.Refused f ≡ field.Part p d = rw w at e in clash cc)
+      by_read (string_at s c)
+      (λ f w. let g : Err f ≡ Ok (p, d) = rw w at e in clash cc)
       (λ q x w.
       let g = rw w at e in
       by_bool (eqb q.length 0)
@@ -144,9 +140,9 @@ module _ (s : List ℕ) (all : AllBytes s) where
       let i = rw u at h in
       by_bool (is_scalar size (view_of s q))
       (λ t.
-      let j : field.Part (significant_part s q) x ≡ field.Part p d = rw t at i in
-      let o : significant_part s q ≡ p = cc in
-      let m : x ≡ d = cc in
+      let j : Ok (significant_part s q, x) ≡ Ok (p, d) = rw t at i in
+      let o : significant_part s q ≡ p = (same_read j).0 in
+      let m : x ≡ d = (same_read j).1 in
       let b = view_of s q in
       let r = string_read s all c q x w in
       let l : q.length ≤ size + 1 = ltb-false (size + 1) q.length u in
@@ -208,7 +204,7 @@ module _ (s : List ℕ) (all : AllBytes s) where
 
   -- the public string, then the string of seed and public string
   seed_fields :
-      (c : Cursor) (q : Part) (b : Cursor) (y : Part) (m : Cursor) → fixed_at s c 32 ≡ field.Part q b → fixed_at s b 64 ≡ field.Part y m
+      (c : Cursor) (q : Part) (b : Cursor) (y : Part) (m : Cursor) → fixed_at s c 32 ≡ Ok (q, b) → fixed_at s b 64 ≡ Ok (y, m)
       → view_of s (part (y.start + 32) 32) ≡ view_of s q
       → PairFieldsRead c (OnCurve Ed25519) (OnCurve Ed25519) (point_place q) (scalar_place (part y.start 32)) m
   seed_fields c q b y m w v same =
@@ -226,51 +222,51 @@ module _ (s : List ℕ) (all : AllBytes s) where
       (r₂.place.placed.end ∙ r₁.place.placed.end)
 
   ed25519_pair_read :
-      (c : Cursor) (a : Algorithm) (p : Public) (x : Private) (d : Cursor) → ed25519_pair_at s c ≡ keypair.Pair a p x d
+      (c : Cursor) (a : Algorithm) (p : Public) (x : Private) (d : Cursor) → ed25519_pair_at s c ≡ Ok ((a, p, x), d)
       → PairFieldsRead c (OnCurve Ed25519) a p x d
   unfolding ed25519_pair_at
   ed25519_pair_read c a p x d e =
-      by_field (fixed_at s c 32)
-      (λ f w. let g : keypair.Refused f ≡ keypair.Pair a p x d = rw w at e in clash cc)
+      by_read (fixed_at s c 32)
+      (λ f w. let g : Err f ≡ Ok ((a, p, x), d) = rw w at e in clash cc)
       (λ q b w.
       let g = rw w at e in
-      by_field (fixed_at s b 64)
-      (λ f v. let h : keypair.Refused f ≡ keypair.Pair a p x d = rw v at g in clash cc)
+      by_read (fixed_at s b 64)
+      (λ f v. let h : Err f ≡ Ok ((a, p, x), d) = rw v at g in clash cc)
       (λ y m v.
       let h = rw v at g in
       by_bool (same_bytes (view_of s (part (y.start + 32) 32)) (view_of s q))
       (λ u.
-      let i : keypair.Pair (OnCurve Ed25519) (point_place q) (scalar_place (part y.start 32)) m ≡ keypair.Pair a p x d = rw u at h in
-      let j : OnCurve Ed25519 ≡ a = cc in
-      let o : point_place q ≡ p = cc in
-      let k : scalar_place (part y.start 32) ≡ x = cc in
-      let n : m ≡ d = cc in
+      let i : Ok ((OnCurve Ed25519, point_place q, scalar_place (part y.start 32)), m) ≡ Ok ((a, p, x), d) = rw u at h in
+      let j : OnCurve Ed25519 ≡ a = (same_triple (same_read i).0).0 in
+      let o : point_place q ≡ p = (same_triple (same_read i).0).1 in
+      let k : scalar_place (part y.start 32) ≡ x = (same_triple (same_read i).0).2 in
+      let n : m ≡ d = (same_read i).1 in
       rw (← j, ← o, ← k, ← n) (seed_fields c q b y m w v (same_true _ _ u)))
       (λ u. let i = rw u at h in clash cc)))
 
   -- curve, point and scalar
   ecdsa_pair_read :
-      (c : Cursor) (named : Curve) (a : Algorithm) (p : Public) (x : Private) (d : Cursor) → ecdsa_pair_at s c named ≡ keypair.Pair a p x d
+      (c : Cursor) (named : Curve) (a : Algorithm) (p : Public) (x : Private) (d : Cursor) → ecdsa_pair_at s c named ≡ Ok ((a, p, x), d)
       → PairFieldsRead c (OnCurve (Ecdsa named)) a p x d
   unfolding ecdsa_pair_at
   ecdsa_pair_read c named a p x d e =
       by_ecdsa (ecdsa_public_at s c)
-      (λ f w. let g : keypair.Refused f ≡ keypair.Pair a p x d = rw w at e in clash cc)
+      (λ f w. let g : Err f ≡ Ok ((a, p, x), d) = rw w at e in clash cc)
       (λ k q b w.
       let g = rw w at e in
-      by_field (scalar_at s b (size_of k))
-      (λ f v. let h : keypair.Refused f ≡ keypair.Pair a p x d = rw v at g in clash cc)
+      by_read (scalar_at s b (size_of k))
+      (λ f v. let h : Err f ≡ Ok ((a, p, x), d) = rw v at g in clash cc)
       (λ y m v.
       let h = rw v at g in
       by_bool (same_algorithm (OnCurve (Ecdsa k)) (OnCurve (Ecdsa named)))
       (λ u.
-      let i : keypair.Pair (OnCurve (Ecdsa named)) (point_place q) (scalar_place y) m ≡ keypair.Pair a p x d = rw u at h in
+      let i : Ok ((OnCurve (Ecdsa named), point_place q, scalar_place y), m) ≡ Ok ((a, p, x), d) = rw u at h in
       let same : OnCurve (Ecdsa k) ≡ OnCurve (Ecdsa named) = algorithm_same (OnCurve (Ecdsa k)) (OnCurve (Ecdsa named)) u in
       let j : k ≡ named = cc in
-      let t : OnCurve (Ecdsa named) ≡ a = cc in
-      let o : point_place q ≡ p = cc in
-      let l : scalar_place y ≡ x = cc in
-      let n : m ≡ d = cc in
+      let t : OnCurve (Ecdsa named) ≡ a = (same_triple (same_read i).0).0 in
+      let o : point_place q ≡ p = (same_triple (same_read i).0).1 in
+      let l : scalar_place y ≡ x = (same_triple (same_read i).0).2 in
+      let n : m ≡ d = (same_read i).1 in
       let r₁ = ecdsa_public_read s all c named q b (rw j at w) in
       let r₂ = scalar_read b (size_of named) y d (rw (j, n) at v) in
       rw (← t, ← o, ← l)
@@ -295,33 +291,33 @@ module _ (s : List ℕ) (all : AllBytes s) where
       }
 
   rsa_keypair_read :
-      (c : Cursor) (a : Algorithm) (p : Public) (x : Private) (d : Cursor) → rsa_keypair_at s c ≡ keypair.Pair a p x d → PairFieldsRead c Rsa a p x d
+      (c : Cursor) (a : Algorithm) (p : Public) (x : Private) (d : Cursor) → rsa_keypair_at s c ≡ Ok ((a, p, x), d) → PairFieldsRead c Rsa a p x d
   unfolding rsa_keypair_at
   rsa_keypair_read c a p x d e =
       by_rsa_pair (rsa_pair_at s c)
-      (λ f w. let g : keypair.Refused f ≡ keypair.Pair a p x d = rw w at e in clash cc)
+      (λ f w. let g : Err f ≡ Ok ((a, p, x), d) = rw w at e in clash cc)
       (λ y k z w.
-      let g : keypair.Pair Rsa (modulus_place y.n y.e k) (numbers_place y) z ≡ keypair.Pair a p x d = rw w at e in
-      let i : Rsa ≡ a = cc in
-      let o : modulus_place y.n y.e k ≡ p = cc in
-      let l : numbers_place y ≡ x = cc in
-      let m : z ≡ d = cc in
+      let g : Ok ((Rsa, modulus_place y.n y.e k, numbers_place y), z) ≡ Ok ((a, p, x), d) = rw w at e in
+      let i : Rsa ≡ a = (same_triple (same_read g).0).0 in
+      let o : modulus_place y.n y.e k ≡ p = (same_triple (same_read g).0).1 in
+      let l : numbers_place y ≡ x = (same_triple (same_read g).0).2 in
+      let m : z ≡ d = (same_read g).1 in
       rw (← i, ← o, ← l) (numbers_fields c y k d (rsa_pair_read s all c y k d (rw m at w))))
 
   named_pair :
       (c : Cursor) (named a : Algorithm) (p : Public) (x : Private) (d : Cursor)
-      → on_algorithm named (elliptic_pair_at s c) (rsa_keypair_at s c) ≡ keypair.Pair a p x d → PairFieldsRead c named a p x d
+      → on_algorithm named (elliptic_pair_at s c) (rsa_keypair_at s c) ≡ Ok ((a, p, x), d) → PairFieldsRead c named a p x d
   unfolding elliptic_pair_at
   named_pair c (OnCurve Ed25519) a p x d e = ed25519_pair_read c a p x d e
   named_pair c (OnCurve (Ecdsa k)) a p x d e = ecdsa_pair_read c k a p x d e
   named_pair c Rsa a p x d e = rsa_keypair_read c a p x d e
 
   pub keypair_read :
-      (c : Cursor) (a : Algorithm) (p : Public) (x : Private) (d : Cursor) → keypair_at s c ≡ keypair.Pair a p x d → PairRead c a p x d
+      (c : Cursor) (a : Algorithm) (p : Public) (x : Private) (d : Cursor) → keypair_at s c ≡ Ok ((a, p, x), d) → PairRead c a p x d
   unfolding keypair_at
   keypair_read c a p x d e =
-      by_field (string_at s c)
-      (λ f w. let g : keypair.Refused f ≡ keypair.Pair a p x d = rw w at e in clash cc)
+      by_read (string_at s c)
+      (λ f w. let g : Err f ≡ Ok ((a, p, x), d) = rw w at e in clash cc)
       (λ n b w.
       let g = rw w at e in
       by_algorithm (algorithm_named (view_of s n))

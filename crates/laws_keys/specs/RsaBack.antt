@@ -1,7 +1,7 @@
 -- Reading back RSA's numbers: mpints that stand at a place, of sizes that fit, are read there, with their bytes and the modulus's bits.
-use Rattle.std.specs.Prelude.{ℕ, ◌<◌, ◌^◌, ◌≡◌, true, List, ◌++◌, length}
+use Rattle.std.specs.Prelude.{ℕ, ◌<◌, ◌^◌, ◌≡◌, true, List, ◌++◌, length, Ok}
 use Rattle.fields.specs.Bytes.{string}
-use Rattle.fields.specs.Fields.{view_of}
+use Rattle.fields.specs.Fields.{view_of, Read}
 use Rattle.fields.specs.Rest.{rest, Good}
 use Rattle.fields.specs.Back.{short_of}
 use Rattle.fields.specs.declared.Cursor.{Cursor}
@@ -9,39 +9,33 @@ use Rattle.fields.specs.declared.Part.{Part}
 use Rattle.mpint.specs.Mpint.{is_mpint, bits}
 use Rattle.mpint.specs.Laws.{mpint_back, size_fits}
 use Rattle.format.specs.Format.{ModulusFits, NumbersFit}
-use Rattle.key_rsa.specs.declared.Two.{Two}
-use Rattle.key_rsa.specs.declared.Two.TheVariants as two
 use Rattle.key_rsa.specs.declared.Six.{Six}
-use Rattle.key_rsa.specs.declared.RsaPublic.{RsaPublic}
-use Rattle.key_rsa.specs.declared.RsaPublic.TheVariants as rsa-public
-use Rattle.key_rsa.specs.declared.RsaPair.{RsaPair}
-use Rattle.key_rsa.specs.declared.RsaPair.TheVariants as rsa-pair
 use Rattle.key_rsa.specs.Rsa.{two_at, six_at, others_at, rsa_public_at, rsa_pair_at}
 
-record TwoBack (s : List ℕ) (w : Two) (a b t : List ℕ) : Type 0 where
+record TwoBack (s : List ℕ) (w : Read (Part × Part)) (a b t : List ℕ) : Type 0 where
   pub first : Part
   pub second : Part
   pub next : Cursor
-  pub read : w ≡ two.Numbers first second next
+  pub read : w ≡ Ok ((first, second), next)
   pub seen_first : view_of s first ≡ a
   pub seen_second : view_of s second ≡ b
   pub good : Good s next
   pub more : rest s next ≡ t
 
-pub record RsaPublicBack (s : List ℕ) (w : RsaPublic) (n e t : List ℕ) : Type 0 where
+pub record RsaPublicBack (s : List ℕ) (w : Read (Part × Part × ℕ)) (n e t : List ℕ) : Type 0 where
   pub modulus : Part
   pub exponent : Part
   pub next : Cursor
-  pub read : w ≡ rsa-public.Numbers modulus exponent (bits n) next
+  pub read : w ≡ Ok ((modulus, exponent, bits n), next)
   pub seen_n : view_of s modulus ≡ n
   pub seen_e : view_of s exponent ≡ e
   pub good : Good s next
   pub more : rest s next ≡ t
 
-pub record RsaPairBack (s : List ℕ) (w : RsaPair) (n e d iqmp p q t : List ℕ) : Type 0 where
+pub record RsaPairBack (s : List ℕ) (w : Read (Six × ℕ)) (n e d iqmp p q t : List ℕ) : Type 0 where
   pub numbers : Six
   pub next : Cursor
-  pub read : w ≡ rsa-pair.Numbers numbers (bits n) next
+  pub read : w ≡ Ok ((numbers, bits n), next)
   pub seen_n : view_of s numbers.n ≡ n
   pub seen_e : view_of s numbers.e ≡ e
   pub seen_d : view_of s numbers.d ≡ d

@@ -1,47 +1,38 @@
 -- Inversion of RSA's numbers: those that were read stand at their place as mpints, of sizes that fit, and the bits are the modulus's.
-use Rattle.std.specs.Prelude.{ℕ, ◌≡◌, refl, true}
+use Rattle.std.specs.Prelude.{ℕ, ◌≡◌, refl, true, Ok, Err, Option, Some, None}
 use Rattle.std.proofs.Common.{◌∙◌, ap}
 use mathlib.Core.List.{List, [], ◌∷◌, ◌++◌}
 use Rattle.fields.specs.Bytes.{string, AllBytes}
-use Rattle.fields.specs.Fields.{view_of}
-use Rattle.fields.specs.Place.{clash, by_field, by_bool, by_ending}
+use Rattle.fields.specs.Fields.{view_of, Read}
+use Rattle.fields.specs.Place.{clash, by_read, by_bool, by_tested, same_pair, same_read, same_triple}
 use Rattle.fields.specs.Rest.{rest}
 use Rattle.fields.specs.Read.{StringRead}
 use Rattle.fields.specs.declared.Cursor.{Cursor}
 use Rattle.fields.specs.declared.Fault.{Fault}
 use Rattle.fields.specs.declared.Part.{Part}
-use Rattle.fields.specs.declared.Ending.TheVariants as ending
-use Rattle.mpint.specs.declared.Size.{Size}
-use Rattle.mpint.specs.declared.Size.TheVariants.{Bits, Outside}
 use Rattle.mpint.specs.Mpint.{is_mpint, mpint_at, bits, at_most, modulus_size}
 use Rattle.mpint.specs.Laws.{mpint_read, size_inside}
 use Rattle.format.specs.Format.{ModulusFits, NumbersFit}
-use Rattle.key_rsa.specs.declared.Two.{Two}
-use Rattle.key_rsa.specs.declared.Two.TheVariants as two
 use Rattle.key_rsa.specs.declared.Six.{Six}
-use Rattle.key_rsa.specs.declared.SixRead.{SixRead}
-use Rattle.key_rsa.specs.declared.SixRead.TheVariants as six
-use Rattle.key_rsa.specs.declared.RsaPublic.TheVariants as rsa-public
-use Rattle.key_rsa.specs.declared.RsaPair.TheVariants as rsa-pair
 use Rattle.key_rsa.specs.Rsa.{two_at, six_at, others_at, others_of, rsa_public_at, rsa_pair_at}
 
 -- by cases, with the equation in hand
-pub by_two : {P : Type 0} (w : Two) → ((f : Fault) → w ≡ two.Refused f → P) → ((a b : Part) (c : Cursor) → w ≡ two.Numbers a b c → P) → P
-by_two (two.Refused f) refused numbers = refused f refl
-by_two (two.Numbers a b c) refused numbers = numbers a b c refl
+pub by_two : {P : Type 0} (w : Read (Part × Part)) → ((f : Fault) → w ≡ Err f → P) → ((a b : Part) (c : Cursor) → w ≡ Ok ((a, b), c) → P) → P
+by_two (Err f) refused numbers = refused f refl
+by_two (Ok ((a, b), c)) refused numbers = numbers a b c refl
 
-pub by_six : {P : Type 0} (w : SixRead) → ((f : Fault) → w ≡ six.Refused f → P) → ((x : Six) (c : Cursor) → w ≡ six.Six x c → P) → P
-by_six (six.Refused f) refused numbers = refused f refl
-by_six (six.Six x c) refused numbers = numbers x c refl
+pub by_six : {P : Type 0} (w : Read Six) → ((f : Fault) → w ≡ Err f → P) → ((x : Six) (c : Cursor) → w ≡ Ok (x, c) → P) → P
+by_six (Err f) refused numbers = refused f refl
+by_six (Ok (x, c)) refused numbers = numbers x c refl
 
-pub by_size : {P : Type 0} (w : Size) → (w ≡ Outside → P) → ((k : ℕ) → w ≡ Bits k → P) → P
-by_size Outside outside inside = outside refl
-by_size (Bits k) outside inside = inside k refl
+pub by_size : {P : Type 0} (w : Option ℕ) → (w ≡ None → P) → ((k : ℕ) → w ≡ Some k → P) → P
+by_size None outside inside = outside refl
+by_size (Some k) outside inside = inside k refl
 
 -- numbers of which none has more bits than the modulus: the first, and the others
 others_read :
-    (s : List ℕ) (n x : Part) (more : List Part) → others_at s n (x ∷ more) ≡ ending.Clean
-    → (at_most (view_of s x) (view_of s n) ≡ true) × (others_at s n more ≡ ending.Clean)
+    (s : List ℕ) (n x : Part) (more : List Part) → others_at s n (x ∷ more) ≡ Ok tt
+    → (at_most (view_of s x) (view_of s n) ≡ true) × (others_at s n more ≡ Ok tt)
 unfolding others_at
 others_read s n x more e =
     by_bool (at_most (view_of s x) (view_of s n))
@@ -56,20 +47,20 @@ module _ (s : List ℕ) (all : AllBytes s) where
     pub mpint_first : is_mpint (view_of s a) ≡ true
     pub mpint_second : is_mpint (view_of s b) ≡ true
 
-  two_read : (c : Cursor) (a b : Part) (d : Cursor) → two_at s c ≡ two.Numbers a b d → TwoRead c a b d
+  two_read : (c : Cursor) (a b : Part) (d : Cursor) → two_at s c ≡ Ok ((a, b), d) → TwoRead c a b d
   unfolding two_at
   two_read c a b d e =
-      by_field (mpint_at s c)
-      (λ f w. let g : two.Refused f ≡ two.Numbers a b d = rw w at e in clash cc)
+      by_read (mpint_at s c)
+      (λ f w. let g : Err f ≡ Ok ((a, b), d) = rw w at e in clash cc)
       (λ p x w.
       let g = rw w at e in
-      by_field (mpint_at s x)
-      (λ f v. let h : two.Refused f ≡ two.Numbers a b d = rw v at g in clash cc)
+      by_read (mpint_at s x)
+      (λ f v. let h : Err f ≡ Ok ((a, b), d) = rw v at g in clash cc)
       (λ q y v.
-      let h : two.Numbers p q y ≡ two.Numbers a b d = rw v at g in
-      let i : p ≡ a = cc in
-      let j : q ≡ b = cc in
-      let k : y ≡ d = cc in
+      let h : Ok ((p, q), y) ≡ Ok ((a, b), d) = rw v at g in
+      let i : p ≡ a = (same_pair (same_read h).0).0 in
+      let j : q ≡ b = (same_pair (same_read h).0).1 in
+      let k : y ≡ d = (same_read h).1 in
       let r₁ = mpint_read s all c a x (rw i at w) in
       let r₂ = mpint_read s all x b d (rw (j, k) at v) in
       record { mid = x; first = r₁.0; second = r₂.0; mpint_first = r₁.1; mpint_second = r₂.1 }))
@@ -87,25 +78,25 @@ module _ (s : List ℕ) (all : AllBytes s) where
     pub counted : k ≡ bits (view_of s n)
     pub end : d.end ≡ c.end
 
-  pub rsa_public_read : (c : Cursor) (n e : Part) (k : ℕ) (d : Cursor) → rsa_public_at s c ≡ rsa-public.Numbers n e k d → RsaPublicRead c n e k d
+  pub rsa_public_read : (c : Cursor) (n e : Part) (k : ℕ) (d : Cursor) → rsa_public_at s c ≡ Ok ((n, e, k), d) → RsaPublicRead c n e k d
   unfolding rsa_public_at
   rsa_public_read c n e k d q =
       by_two (two_at s c)
-      (λ f w. let g : rsa-public.Refused f ≡ rsa-public.Numbers n e k d = rw w at q in clash cc)
+      (λ f w. let g : Err f ≡ Ok ((n, e, k), d) = rw w at q in clash cc)
       (λ a b x w.
       let g = rw w at q in
-      by_ending (others_at s b (a ∷ []))
-      (λ f v. let h : rsa-public.Refused f ≡ rsa-public.Numbers n e k d = rw v at g in clash cc)
+      by_tested (others_at s b (a ∷ []))
+      (λ f v. let h : Err f ≡ Ok ((n, e, k), d) = rw v at g in clash cc)
       (λ v.
       let h = rw v at g in
       by_size (modulus_size (view_of s b))
       (λ u. let i = rw u at h in clash cc)
       (λ m u.
-      let i : rsa-public.Numbers b a m x ≡ rsa-public.Numbers n e k d = rw u at h in
-      let o₁ : a ≡ e = cc in
-      let o₂ : b ≡ n = cc in
-      let o₃ : m ≡ k = cc in
-      let o₄ : x ≡ d = cc in
+      let i : Ok ((b, a, m), x) ≡ Ok ((n, e, k), d) = rw u at h in
+      let o₁ : a ≡ e = (same_triple (same_read i).0).1 in
+      let o₂ : b ≡ n = (same_triple (same_read i).0).0 in
+      let o₃ : m ≡ k = (same_triple (same_read i).0).2 in
+      let o₄ : x ≡ d = (same_read i).1 in
       let r = two_read c e n d (rw (o₁, o₂, o₄) at w) in
       let size = size_inside (view_of s n) k (rw (o₂, o₃) at u) in
       record {
@@ -155,23 +146,23 @@ module _ (s : List ℕ) (all : AllBytes s) where
         end = two_end c₂ p q c₃ r₃ ∙ two_end c₁ d iqmp c₂ r₂ ∙ two_end c n e c₁ r₁;
       }
 
-  six_read : (c : Cursor) (x : Six) (d : Cursor) → six_at s c ≡ six.Six x d → SixText c x d
+  six_read : (c : Cursor) (x : Six) (d : Cursor) → six_at s c ≡ Ok (x, d) → SixText c x d
   unfolding six_at
   six_read c x z q =
       by_two (two_at s c)
-      (λ f w. let g : six.Refused f ≡ six.Six x z = rw w at q in clash cc)
+      (λ f w. let g : Err f ≡ Ok (x, z) = rw w at q in clash cc)
       (λ n e c₁ w₁.
       let g₁ = rw w₁ at q in
       by_two (two_at s c₁)
-      (λ f w. let g : six.Refused f ≡ six.Six x z = rw w at g₁ in clash cc)
+      (λ f w. let g : Err f ≡ Ok (x, z) = rw w at g₁ in clash cc)
       (λ d iqmp c₂ w₂.
       let g₂ = rw w₂ at g₁ in
       by_two (two_at s c₂)
-      (λ f w. let g : six.Refused f ≡ six.Six x z = rw w at g₂ in clash cc)
+      (λ f w. let g : Err f ≡ Ok (x, z) = rw w at g₂ in clash cc)
       (λ p q c₃ w₃.
-      let g₃ : six.Six (record { n = n; e = e; d = d; iqmp = iqmp; p = p; q = q }) c₃ ≡ six.Six x z = rw w₃ at g₂ in
-      let o₁ : record { n = n; e = e; d = d; iqmp = iqmp; p = p; q = q } ≡ x = cc in
-      let o₂ : c₃ ≡ z = cc in
+      let g₃ : Ok (record { n = n; e = e; d = d; iqmp = iqmp; p = p; q = q }, c₃) ≡ Ok (x, z) = rw w₃ at g₂ in
+      let o₁ : record { n = n; e = e; d = d; iqmp = iqmp; p = p; q = q } ≡ x = (same_read g₃).0 in
+      let o₂ : c₃ ≡ z = (same_read g₃).1 in
       rw (← o₁, ← o₂)
       (six_joined c n e c₁ d iqmp c₂ p q c₃ (two_read c n e c₁ w₁) (two_read c₁ d iqmp c₂ w₂) (two_read c₂ p q c₃ w₃)))))
 
@@ -181,24 +172,24 @@ module _ (s : List ℕ) (all : AllBytes s) where
     pub others : NumbersFit (view_of s x.n) (view_of s x.d) (view_of s x.iqmp) (view_of s x.p) (view_of s x.q)
     pub counted : k ≡ bits (view_of s x.n)
 
-  pub rsa_pair_read : (c : Cursor) (x : Six) (k : ℕ) (d : Cursor) → rsa_pair_at s c ≡ rsa-pair.Numbers x k d → RsaPairRead c x k d
+  pub rsa_pair_read : (c : Cursor) (x : Six) (k : ℕ) (d : Cursor) → rsa_pair_at s c ≡ Ok ((x, k), d) → RsaPairRead c x k d
   unfolding rsa_pair_at
   rsa_pair_read c x k d q =
       by_six (six_at s c)
-      (λ f w. let g : rsa-pair.Refused f ≡ rsa-pair.Numbers x k d = rw w at q in clash cc)
+      (λ f w. let g : Err f ≡ Ok ((x, k), d) = rw w at q in clash cc)
       (λ y z w.
       let g = rw w at q in
       by_size (modulus_size (view_of s y.n))
       (λ v. let h = rw v at g in clash cc)
       (λ m v.
       let h = rw v at g in
-      by_ending (others_at s y.n (others_of y))
-      (λ f u. let i : rsa-pair.Refused f ≡ rsa-pair.Numbers x k d = rw u at h in clash cc)
+      by_tested (others_at s y.n (others_of y))
+      (λ f u. let i : Err f ≡ Ok ((x, k), d) = rw u at h in clash cc)
       (λ u.
-      let i : rsa-pair.Numbers y m z ≡ rsa-pair.Numbers x k d = rw u at h in
-      let o₁ : y ≡ x = cc in
-      let o₂ : m ≡ k = cc in
-      let o₃ : z ≡ d = cc in
+      let i : Ok ((y, m), z) ≡ Ok ((x, k), d) = rw u at h in
+      let o₁ : y ≡ x = (same_pair (same_read i).0).0 in
+      let o₂ : m ≡ k = (same_pair (same_read i).0).1 in
+      let o₃ : z ≡ d = (same_read i).1 in
       let r = six_read c x d (rw (o₁, o₃) at w) in
       let size = size_inside (view_of s x.n) k (rw (o₁, o₂) at v) in
       let t₁ = others_read s x.n x.e (x.d ∷ x.iqmp ∷ x.p ∷ x.q ∷ []) (rw o₁ at u) in

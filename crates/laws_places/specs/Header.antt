@@ -1,59 +1,51 @@
 -- docs/RULES.md, 7.3 and 7.5: where a header refuses. The size and the magic are about the whole image and give its first byte; the place of
 -- any other refusal lies after the magic, and no further than the image's end.
-use Rattle.std.specs.Prelude.{ℕ, zero, suc, ◌+◌, ◌-◌, ◌≤◌, ◌<◌, ◌≡◌, refl, Bool, true, false, ◌||◌, not, List, eqb, ltb, length, take}
+use Rattle.std.specs.Prelude.{ℕ, zero, suc, ◌+◌, ◌-◌, ◌≤◌, ◌<◌, ◌≡◌, refl, Bool, true, false, ◌||◌, not, List, eqb, ltb, length, take, Result, Ok, Err}
 use Rattle.std.proofs.Common.{arith, sym, ◌∙◌, ap, ltb-true, ltb-false, take_all}
 use Rattle.fields.specs.Bytes.{same_bytes, same_true}
-use Rattle.fields.specs.Fields.{fault, part, whole, within, has_room, uint32_at, bytes_at, string_at, end_at, view_of}
-use Rattle.fields.specs.Place.{clash, by_uint32, by_field, by_ending, by_bool}
+use Rattle.fields.specs.Fields.{fault, part, whole, within, has_room, uint32_at, bytes_at, string_at, end_at, view_of, Read}
+use Rattle.fields.specs.Place.{clash, by_read, by_tested, by_bool}
 use Rattle.fields.specs.Rest.{Good, view_length}
 use Rattle.fields.specs.Room.{room_fits, room_is, view_in}
 use Rattle.fields.specs.declared.Cursor.{Cursor}
 use Rattle.fields.specs.declared.Fault.{Fault}
 use Rattle.fields.specs.declared.Refusal.TheVariants.{AlgorithmUnknown, Size}
-use Rattle.fields.specs.declared.Field.{Field}
-use Rattle.fields.specs.declared.Field.TheVariants as field
 use Rattle.names.specs.declared.Cipher.{Cipher}
 use Rattle.names.specs.declared.Kdf.{Kdf}
 use Rattle.names.specs.declared.Kdf.TheVariants as kdf
 use Rattle.names.specs.Ciphers.{cipher_name, cipher_named, kdf_named, cipher_read}
 use Rattle.format.specs.Format.{magic}
 use Rattle.key_public.specs.Keys.{blob_at}
-use Rattle.reader_header.specs.declared.CipherField.{CipherField}
-use Rattle.reader_header.specs.declared.CipherField.TheVariants as cipher-field
-use Rattle.reader_header.specs.declared.KdfField.{KdfField}
-use Rattle.reader_header.specs.declared.KdfField.TheVariants as kdf-field
-use Rattle.reader_blobs.specs.declared.BlobField.{BlobField}
-use Rattle.reader_blobs.specs.declared.BlobField.TheVariants as blob-field
-use Rattle.reader_blobs.specs.declared.Blobs.{Blobs}
-use Rattle.reader_blobs.specs.declared.Blobs.TheVariants as blobs
 use Rattle.reader_blobs.specs.Blobs.{blob_field_at, blobs_at}
 use Rattle.reader_blobs.specs.Read.{by_blob, by_blob_field, by_blobs}
-use Rattle.reader_header.specs.declared.HeaderRead.{HeaderRead}
-use Rattle.reader_header.specs.declared.HeaderRead.TheVariants as header_read
 use Rattle.reader_header.specs.Header.{on_kdf, magic_at, cipher_at, none_at, bcrypt_at, kdf_at, keys_allowed, count_at, keys_at, header_at}
 use Rattle.reader_header.specs.Place.{by_cipher_name, by_kdf_name, by_cipher_field, by_kdf_field}
 use Rattle.laws_fields.specs.Fields.{Lies, After, Uint32Lies, lies_after, after-after, good_after, uint32_lies, string_lies, string_in, lies_within, end_lies}
 use Rattle.laws_fields.specs.Keys.{blob_lies}
+use Rattle.fields.specs.declared.Part.{Part}
+use Rattle.key_public.specs.declared.Public.{Public}
+use Rattle.names.specs.declared.Algorithm.{Algorithm}
+use Rattle.reader_header.specs.declared.Header.{Header}
 
 -- ---- from the KDF's name on
 
-abbrev KdfLies : Cursor → KdfField → Type 0
-KdfLies c (kdf-field.Refused f) = Lies c f
-KdfLies c (kdf-field.Options k salt rounds d) = After c d
+abbrev KdfLies : Cursor → Read (Kdf × Part × ℕ) → Type 0
+KdfLies c (Err f) = Lies c f
+KdfLies c (Ok ((k, salt, rounds), d)) = After c d
 
 -- a blob's string ends after what stood before it
-abbrev pub BlobFieldLies : Cursor → BlobField → Type 0
-BlobFieldLies c (blob-field.Refused f) = Lies c f
-BlobFieldLies c (blob-field.Key a p key d) = After c d × (c.at ≤ p.start + p.length) × (p.start + p.length ≤ c.end)
+abbrev pub BlobFieldLies : Cursor → Read (Algorithm × Part × Public) → Type 0
+BlobFieldLies c (Err f) = Lies c f
+BlobFieldLies c (Ok ((a, p, key), d)) = After c d × (c.at ≤ p.start + p.length) × (p.start + p.length ≤ c.end)
 
-abbrev BlobsLies : Cursor → Blobs → Type 0
-BlobsLies c (blobs.Refused f) = Lies c f
-BlobsLies c (blobs.After d) = After c d
+abbrev BlobsLies : Cursor → Result Cursor Fault → Type 0
+BlobsLies c (Err f) = Lies c f
+BlobsLies c (Ok d) = After c d
 
 none_lies : (s : List ℕ) (c : Cursor) → Good s c → KdfLies c (none_at s c)
 unfolding none_at
 none_lies s c good =
-    by_field (string_at s c)
+    by_read (string_at s c)
     (λ f w. rw w (rw w at (string_lies s c good)))
     (λ p d w.
     rw w
@@ -64,24 +56,24 @@ none_lies s c good =
 bcrypt_lies : (s : List ℕ) (c : Cursor) → Good s c → KdfLies c (bcrypt_at s c)
 unfolding bcrypt_at
 bcrypt_lies s c good =
-    by_field (string_at s c)
+    by_read (string_at s c)
     (λ f w. rw w (rw w at (string_lies s c good)))
     (λ p d w.
     let i = string_in s c p d w in
     let inside = within p in
     rw w
-    (by_field (string_at s inside)
+    (by_read (string_at s inside)
     (λ f v. rw v (lies_within s c p d f i (rw v at (string_lies s inside i.inside))))
     (λ salt j v.
     let a = rw v at (string_lies s inside i.inside) in
     let good' = good_after s inside j i.inside a in
     rw v
-    (by_uint32 (uint32_at s j)
+    (by_read (uint32_at s j)
     (λ f u. rw u (lies_within s c p d f i (lies_after inside j f a (rw u at (uint32_lies s j good')))))
     (λ rounds k u.
     let b = after-after inside j k a (rw u at (uint32_lies s j good')) in
     rw u
-    (by_ending (end_at k)
+    (by_tested (end_at k)
     (λ f t. rw t (lies_within s c p d f i (lies_after inside k f b (rw t at (end_lies k)))))
     (λ t. rw t i.after)))))))
 
@@ -92,7 +84,7 @@ options_lies s c kdf.Bcrypt good = bcrypt_lies s c good
 kdf_lies : (s : List ℕ) (c : Cursor) → Good s c → KdfLies c (kdf_at s c)
 unfolding kdf_at
 kdf_lies s c good =
-    by_field (string_at s c)
+    by_read (string_at s c)
     (λ f w. rw w (rw w at (string_lies s c good)))
     (λ name d w.
     let a = rw w at (string_lies s c good) in
@@ -101,14 +93,14 @@ kdf_lies s c good =
     (λ v. rw v (omega (arith, good)))
     (λ k v. rw v (moved_on d a (on_kdf k (none_at s d) (bcrypt_at s d)) (options_lies s d k (good_after s c d good a))))))
   where
-    moved_on : (d : Cursor) → After c d → (r : KdfField) → KdfLies d r → KdfLies c r
-    moved_on d a (kdf-field.Refused f) l = lies_after c d f a l
-    moved_on d a (kdf-field.Options k salt rounds e) l = after-after c d e a l
+    moved_on : (d : Cursor) → After c d → (r : Read (Kdf × Part × ℕ)) → KdfLies d r → KdfLies c r
+    moved_on d a (Err f) l = lies_after c d f a l
+    moved_on d a (Ok ((k, salt, rounds), e)) l = after-after c d e a l
 
 count_lies : (s : List ℕ) (c : Cursor) (cipher : Cipher) → Good s c → Uint32Lies c (count_at s c cipher)
 unfolding count_at
 count_lies s c cipher good =
-    by_uint32 (uint32_at s c)
+    by_read (uint32_at s c)
     (λ f w. rw w (rw w at (uint32_lies s c good)))
     (λ n d w.
     rw w
@@ -119,7 +111,7 @@ count_lies s c cipher good =
 pub blob_field_lies : (s : List ℕ) (c : Cursor) → Good s c → BlobFieldLies c (blob_field_at s c)
 unfolding blob_field_at
 blob_field_lies s c good =
-    by_field (string_at s c)
+    by_read (string_at s c)
     (λ f w. rw w (rw w at (string_lies s c good)))
     (λ p d w.
     let i = string_in s c p d w in
@@ -138,9 +130,9 @@ blobs_lies s c (suc n) good =
     let i = rw w at (blob_field_lies s c good) in
     rw w (moved_on d i.0 (blobs_at s d n) (blobs_lies s d n (good_after s c d good i.0))))
   where
-    moved_on : (d : Cursor) → After c d → (r : Blobs) → BlobsLies d r → BlobsLies c r
-    moved_on d a (blobs.Refused f) l = lies_after c d f a l
-    moved_on d a (blobs.After e) l = after-after c d e a l
+    moved_on : (d : Cursor) → After c d → (r : Result Cursor Fault) → BlobsLies d r → BlobsLies c r
+    moved_on d a (Err f) l = lies_after c d f a l
+    moved_on d a (Ok e) l = after-after c d e a l
 
 keys_lies : (s : List ℕ) (c : Cursor) (more : ℕ) → Good s c → BlobFieldLies c (keys_at s c more)
 unfolding keys_at
@@ -184,9 +176,9 @@ said_whole s f e h = rw e h
 pub said_field : (s : List ℕ) (f : Fault) → about_whole s ≡ false → Lies (after_magic s) f → PlaceSaid s (about_whole s) f
 said_field s f e h = rw e h
 
-abbrev MagicSaid : List ℕ → Field → Type 0
-MagicSaid s (field.Refused f) = (same_bytes (take 15 s) magic ≡ false) × (f.at ≡ 0)
-MagicSaid s (field.Part p c) = (same_bytes (take 15 s) magic ≡ true) × (15 ≤ length s) × (c.at ≡ 15) × (c.end ≡ length s)
+abbrev MagicSaid : List ℕ → Read Part → Type 0
+MagicSaid s (Err f) = (same_bytes (take 15 s) magic ≡ false) × (f.at ≡ 0)
+MagicSaid s (Ok (p, c)) = (same_bytes (take 15 s) magic ≡ true) × (15 ≤ length s) × (c.at ≡ 15) × (c.end ≡ length s)
 
 -- fewer than 15 bytes are not the magic
 short_unlike : (s : List ℕ) → length s < 15 → same_bytes (take 15 s) magic ≡ false
@@ -219,9 +211,9 @@ magic_said s =
     (λ v. rw v (v, refl))))
     (λ w. rw w (short_unlike s (no_room s w), refl))
 
-abbrev CipherSaid : List ℕ → CipherField → Type 0
-CipherSaid s (cipher-field.Refused f) = PlaceSaid s (about_whole s) f
-CipherSaid s (cipher-field.Cipher k d) = (about_whole s ≡ false) × After (after_magic s) d × (d.at ≡ 19 + length (cipher_name k))
+abbrev CipherSaid : List ℕ → Read Cipher → Type 0
+CipherSaid s (Err f) = PlaceSaid s (about_whole s) f
+CipherSaid s (Ok (k, d)) = (about_whole s ≡ false) × After (after_magic s) d × (d.at ≡ 19 + length (cipher_name k))
 
 cipher_said : (s : List ℕ) → CipherSaid s (cipher_at s)
 unfolding cipher_at
@@ -230,14 +222,14 @@ cipher_said s =
     (λ z. rw z (said_whole s (fault Size 0) (about_large s z) refl))
     (λ z.
     rw z
-    (by_field (magic_at s)
+    (by_read (magic_at s)
     (λ f w. let m = rw w at (magic_said s) in rw w (said_whole s f (about_magic s false z m.0) m.1))
     (λ p c w.
     let m = rw w at (magic_said s) in
     let about = about_magic s true z m.0 in
     let good : Good s c = omega (arith, m) in
     rw w
-    (by_field (string_at s c)
+    (by_read (string_at s c)
     (λ f v. let l : Lies c f = rw v at (string_lies s c good) in rw v (said_field s f about (omega (arith, l, m))))
     (λ name d v.
     let i = string_in s c name d v in
@@ -250,9 +242,9 @@ cipher_said s =
     rw u (about, omega (arith, i, m), omega (arith, i, m, named)))))))))
 
 -- a header that is read ends after its cipher's name, and within the image; so does its first blob, after the magic
-abbrev pub HeaderSaid : List ℕ → HeaderRead → Type 0
-HeaderSaid s (header_read.Refused f) = PlaceSaid s (about_whole s) f
-HeaderSaid s (header_read.Header h) =
+abbrev pub HeaderSaid : List ℕ → Result Header Fault → Type 0
+HeaderSaid s (Err f) = PlaceSaid s (about_whole s) f
+HeaderSaid s (Ok h) =
     (about_whole s ≡ false)
     × (19 + length (cipher_name h.cipher) ≤ h.section)
     × (h.section ≤ length s)
@@ -277,7 +269,7 @@ header_said s =
     let good₂ = good_after s c d good₁ b₂ in
     let a₂ = after-after start c d a₁ b₂ in
     rw v
-    (by_uint32 (count_at s d cipher)
+    (by_read (count_at s d cipher)
     (λ f u. rw u (said_field s f m.0 (lies_after start d f a₂ (rw u at (count_lies s d cipher good₂)))))
     (λ n e u.
     let b₃ = rw u at (count_lies s d cipher good₂) in

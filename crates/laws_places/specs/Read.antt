@@ -1,6 +1,6 @@
 -- docs/RULES.md, 7.3 and 7.5: where a read refuses. About the whole image: its first byte; else after the magic, and no further than the image's
 -- end. The comment's field of an image that is read begins no further on either.
-use Rattle.std.specs.Prelude.{ℕ, ◌+◌, ◌-◌, ◌≤◌, ◌≡◌, List}
+use Rattle.std.specs.Prelude.{ℕ, ◌+◌, ◌-◌, ◌≤◌, ◌≡◌, List, Result, Ok, Err}
 use Rattle.std.proofs.Common.{arith, sym}
 use Rattle.std.proofs.Math.Path.{ap}
 use Rattle.std.proofs.Math.Bool.{true}
@@ -19,25 +19,24 @@ use Rattle.format.specs.Format.{magic}
 use Rattle.reader_header.specs.declared.Header.{Header}
 use Rattle.reader_header.specs.Header.{on_kdf, header_at, second_blob}
 use Rattle.handed_header.specs.Halves.{by_header}
-use Rattle.reader_section.specs.declared.SectionRead.{SectionRead}
-use Rattle.reader_section.specs.declared.SectionRead.TheVariants as section_read
 use Rattle.reader_section.specs.Section.{plain_at, encrypted_at}
 use Rattle.reader_section.specs.Read.{by_section}
-use Rattle.reader_image.specs.declared.ImageRead.{ImageRead}
-use Rattle.reader_image.specs.declared.ImageRead.TheVariants as read
 use Rattle.reader_image.specs.Container.{kdf_name_place, section_at, read_at}
 use Rattle.laws_places.specs.Header.{about_whole, after_magic, PlaceSaid, said_field, header_said}
 use Rattle.laws_fields.specs.Fields.{Lies}
 use Rattle.laws_places.specs.Section.{SectionLies, SectionBetween, plain_lies, encrypted_lies}
+use Rattle.fields.specs.declared.Fault.{Fault}
+use Rattle.reader_section.specs.declared.Section.{Section}
+use Rattle.reader_image.specs.declared.Fields.{Fields}
 
 -- of a section's answer and of a read's: refused, where the refusal is; read, where the comment's field is
-abbrev SectionSaid : List ℕ → SectionRead → Type 0
-SectionSaid s (section_read.Refused f) = Lies (after_magic s) f
-SectionSaid s (section_read.Section x) = x.comment.start - 4 ≤ length s
+abbrev SectionSaid : List ℕ → Result Section Fault → Type 0
+SectionSaid s (Err f) = Lies (after_magic s) f
+SectionSaid s (Ok x) = x.comment.start - 4 ≤ length s
 
-abbrev pub ReadSaid : List ℕ → ImageRead → Type 0
-ReadSaid s (read.Refused f) = PlaceSaid s (about_whole s) f
-ReadSaid s (read.Record f) = f.section.comment.start - 4 ≤ length s
+abbrev pub ReadSaid : List ℕ → Result Fields Fault → Type 0
+ReadSaid s (Err f) = PlaceSaid s (about_whole s) f
+ReadSaid s (Ok f) = f.section.comment.start - 4 ≤ length s
 
 module _
     (s : List ℕ) (h : Header) (named : 19 + length (cipher_name h.cipher) ≤ h.section) (inside : h.section ≤ length s)
@@ -48,13 +47,13 @@ module _
   good : Good s place
   good = (inside, omega arith)
 
-  from_place : (r : SectionRead) → SectionLies place r → SectionSaid s r
-  from_place (section_read.Refused f) l = omega (arith, l, named)
-  from_place (section_read.Section x) l = l
+  from_place : (r : Result Section Fault) → SectionLies place r → SectionSaid s r
+  from_place (Err f) l = omega (arith, l, named)
+  from_place (Ok x) l = l
 
-  from_between : (r : SectionRead) → SectionBetween 15 (length s) r → SectionSaid s r
-  from_between (section_read.Refused f) l = l
-  from_between (section_read.Section x) l = l
+  from_between : (r : Result Section Fault) → SectionBetween 15 (length s) r → SectionSaid s r
+  from_between (Err f) l = l
+  from_between (Ok x) l = l
 
   -- the KDF's name, after the cipher's name `none`
   kdf_name_lies : is_none h.cipher ≡ true → Lies (after_magic s) (fault Crypto kdf_name_place)
@@ -72,7 +71,7 @@ module _
     where
       by_kdf :
           (k : Kdf) → is_none h.cipher ≡ true
-          → SectionSaid s (on_kdf k (plain_at s place h.algorithm h.public (second_blob s h) (h.count - 1)) (section_read.Refused (fault Crypto kdf_name_place)))
+          → SectionSaid s (on_kdf k (plain_at s place h.algorithm h.public (second_blob s h) (h.count - 1)) (Err (fault Crypto kdf_name_place)))
       by_kdf kdf.None w =
           from_between (plain_at s place h.algorithm h.public (second_blob s h) (h.count - 1))
           (plain_lies s 15 (length s) place h.algorithm h.public (second_blob s h) (h.count - 1) good (within', omega arith) (omega (arith, named), omega arith)

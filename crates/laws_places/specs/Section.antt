@@ -2,10 +2,10 @@
 -- field of a section that is read begins no later than that end.
 use Prim.Native.Nat.{ℕ, zero, suc, ◌-◌, ◌%◌, ◌≤◌}
 use Rattle.std.proofs.Common.{arith}
-use Rattle.std.specs.Prelude.{List, eqb, ltb, take}
+use Rattle.std.specs.Prelude.{List, eqb, ltb, take, Result, Ok, Err}
 use Rattle.fields.specs.Bytes.{same_bytes}
-use Rattle.fields.specs.Fields.{part, within, uint32_at, bytes_at, string_at, end_at, view_of}
-use Rattle.fields.specs.Place.{by_uint32, by_field, by_ending, by_bool}
+use Rattle.fields.specs.Fields.{part, within, uint32_at, bytes_at, string_at, end_at, view_of, Read}
+use Rattle.fields.specs.Place.{by_read, by_tested, by_bool}
 use Rattle.fields.specs.Rest.{Good}
 use Rattle.fields.specs.declared.Cursor.{Cursor}
 use Rattle.fields.specs.declared.Fault.{Fault}
@@ -19,41 +19,39 @@ use Rattle.key_public.specs.declared.Public.{Public}
 use Rattle.key_pairs.specs.Pairs.{keypair_at}
 use Rattle.reader_blobs.specs.Blobs.{blob_field_at}
 use Rattle.reader_blobs.specs.Read.{by_blob_field}
-use Rattle.reader_entries.specs.declared.Entry.{Entry}
-use Rattle.reader_entries.specs.declared.Entry.TheVariants as entry
 use Rattle.reader_entries.specs.Entries.{Listed, Are, Not, Keys, Keys-are, Keys-not, same_key, entry_at, next_at, more_at, keys_at}
 use Rattle.reader_entries.proofs.Read.{by_keypair, by_entry, by_listed, by_keys}
-use Rattle.reader_section.specs.declared.SectionRead.{SectionRead}
-use Rattle.reader_section.specs.declared.SectionRead.TheVariants as section_read
 use Rattle.reader_section.specs.Section.{checkints_at, padding_at, closed_at, content_at, ended_at, plain_at, encrypted_at}
 use Rattle.reader_section.specs.Read.{by_section}
 use Rattle.laws_fields.specs.Fields.{Lies, After, Uint32Lies, EndingLies, lies_after, after-after, good_after, uint32_lies, bytes_lies, string_lies, string_in, end_lies}
 use Rattle.laws_fields.specs.Pairs.{keypair_lies}
 use Rattle.laws_places.specs.Header.{blob_field_lies}
+use Rattle.key_pairs.specs.declared.Private.{Private}
+use Rattle.reader_section.specs.declared.Section.{Section}
 
 -- a comment's field, its length bytes included, begins no later than the end of what is read at c
 abbrev Commented : Cursor → Part → Type 0
 Commented c m = m.start - 4 ≤ c.end
 
 -- of each answer: refused, where the refusal is; read, where the comment and the next place are
-abbrev EntryLies : Cursor → Entry → Type 0
-EntryLies c (entry.Refused f) = Lies c f
-EntryLies c (entry.Key x m d) = Commented c m × After c d
+abbrev EntryLies : Cursor → Read (Private × Part) → Type 0
+EntryLies c (Err f) = Lies c f
+EntryLies c (Ok ((x, m), d)) = Commented c m × After c d
 
-abbrev pub SectionLies : Cursor → SectionRead → Type 0
-SectionLies c (section_read.Refused f) = Lies c f
-SectionLies c (section_read.Section x) = Commented c x.comment
+abbrev pub SectionLies : Cursor → Result Section Fault → Type 0
+SectionLies c (Err f) = Lies c f
+SectionLies c (Ok x) = Commented c x.comment
 
 pub checkints_lies : (s : List ℕ) (c : Cursor) → Good s c → Uint32Lies c (checkints_at s c)
 unfolding checkints_at
 checkints_lies s c good =
-    by_uint32 (uint32_at s c)
+    by_read (uint32_at s c)
     (λ f w. rw w (rw w at (uint32_lies s c good)))
     (λ first d w.
     let a = rw w at (uint32_lies s c good) in
     let next = uint32_lies s d (good_after s c d good a) in
     rw w
-    (by_uint32 (uint32_at s d)
+    (by_read (uint32_at s d)
     (λ f v. rw v (lies_after c d f a (rw v at next)))
     (λ second e v.
     rw v
@@ -73,7 +71,7 @@ entry_lies s c algorithm public good =
     (by_bool (same_key s j p algorithm public)
     (λ v.
     rw v
-    (by_field (string_at s d)
+    (by_read (string_at s d)
     (λ f u. rw u (lies_after c d f a (rw u at (string_lies s d good'))))
     (λ comment e u.
     let i = string_in s d comment e u in
@@ -116,9 +114,9 @@ abbrev KeysLies : ℕ → ℕ → Cursor → Keys → Type 0
 KeysLies low top c (Keys-not f) = Between low top f
 KeysLies low top c (Keys-are x m places d) = Commented c m × After c d
 
-abbrev pub SectionBetween : ℕ → ℕ → SectionRead → Type 0
-SectionBetween low top (section_read.Refused f) = Between low top f
-SectionBetween low top (section_read.Section x) = x.comment.start - 4 ≤ top
+abbrev pub SectionBetween : ℕ → ℕ → Result Section Fault → Type 0
+SectionBetween low top (Err f) = Between low top f
+SectionBetween low top (Ok x) = x.comment.start - 4 ≤ top
 
 module _ (s : List ℕ) (low top : ℕ) where
   more_lies :
@@ -165,7 +163,7 @@ module _ (s : List ℕ) (low top : ℕ) where
       by_bool (eqb ((c.end - c.at) % 8) 0)
       (λ z.
       rw z
-      (by_uint32 (checkints_at s c)
+      (by_read (checkints_at s c)
       (λ f w. rw w (lies_between low top c f a (rw w at (checkints_lies s c good))))
       (λ n d w.
       let x = rw w at (checkints_lies s c good) in
@@ -177,7 +175,7 @@ module _ (s : List ℕ) (low top : ℕ) where
       let i = rw v at keys in
       let y = after-after c d e x i.1 in
       rw v
-      (by_ending (padding_at s e)
+      (by_tested (padding_at s e)
       (λ f u. rw u (lies_between low top c f a (lies_after c e f y (rw u at (padding_lies s e (good_after s c e good y))))))
       (λ u. rw u (omega (arith, i.0, x, a)))))))))
       (λ z. rw z (omega (arith, good, a)))
@@ -187,7 +185,7 @@ module _ (s : List ℕ) (low top : ℕ) where
       → SectionBetween low top (plain_at s c algorithm public b more)
   unfolding plain_at ended_at
   plain_lies c algorithm public b more good goodb a ab =
-      by_field (string_at s c)
+      by_read (string_at s c)
       (λ f w. rw w (lies_between low top c f a (rw w at (string_lies s c good))))
       (λ p d w.
       let i = string_in s c p d w in
@@ -197,14 +195,14 @@ module _ (s : List ℕ) (low top : ℕ) where
       (λ f v. rw v (rw v at content))
       (λ x v.
       rw v
-      (by_ending (end_at d)
+      (by_tested (end_at d)
       (λ f u. rw u (lies_between low top c f a (lies_after c d f i.after (rw u at (end_lies d)))))
       (λ u. rw u (rw v at content))))))
 
 pub encrypted_lies : (s : List ℕ) (c : Cursor) (cipher : Cipher) → Good s c → SectionLies c (encrypted_at s c cipher)
 unfolding encrypted_at
 encrypted_lies s c cipher good =
-    by_field (string_at s c)
+    by_read (string_at s c)
     (λ f w. rw w (rw w at (string_lies s c good)))
     (λ p d w.
     let a = rw w at (string_lies s c good) in
@@ -213,12 +211,12 @@ encrypted_lies s c cipher good =
     (by_bool (eqb (p.length % block_size cipher) 0)
     (λ v.
     rw v
-    (by_field (bytes_at s d (tag_length cipher))
+    (by_read (bytes_at s d (tag_length cipher))
     (λ f u. rw u (lies_after c d f a (rw u at next)))
     (λ tag e u.
     let b = after-after c d e a (rw u at next) in
     rw u
-    (by_ending (end_at e)
+    (by_tested (end_at e)
     (λ f t. rw t (lies_after c e f b (rw t at (end_lies e))))
     (λ t. rw t (omega arith))))))
     (λ v. rw v (omega (arith, good)))))

@@ -1,19 +1,17 @@
 -- Laws of an mpint of any length: reading back, inversion, one spelling for each number, and that its bits are those of its number.
-use Rattle.std.specs.Prelude.{ℕ, suc, ◌+◌, ◌-◌, ◌*◌, ◌≤◌, ◌<◌, ◌^◌, ◌≡◌, true, false, List, ◌++◌, ltb, length, get_or}
+use Rattle.std.specs.Prelude.{ℕ, suc, ◌+◌, ◌-◌, ◌*◌, ◌≤◌, ◌<◌, ◌^◌, ◌≡◌, true, false, List, ◌++◌, ltb, length, get_or, Ok, Err, Some, None}
 use Rattle.std.proofs.Common.{le_antisymm, mul-le-mul_right, arith, sym, ◌∙◌, ltb-true, ltb-false, pow-add}
 use Rattle.std.proofs.Math.Nat.{one-le-pow, pow-le-pow_right}
 use Rattle.std.proofs.Math.Arith.{digits_lt}
 use Rattle.std.proofs.lemmas.Nat.{leading_top}
 use Rattle.fields.specs.Bytes.{string, AllBytes}
 use Rattle.fields.specs.Fields.{string_at, view_of}
-use Rattle.fields.specs.Place.{clash, by_field, by_bool}
+use Rattle.fields.specs.Place.{clash, same_read, by_read, by_bool}
 use Rattle.fields.specs.Rest.{rest, Good}
 use Rattle.fields.specs.Back.{FieldBack, also, string_back}
 use Rattle.fields.specs.Read.{StringRead, string_read}
 use Rattle.fields.specs.declared.Cursor.{Cursor}
 use Rattle.fields.specs.declared.Part.{Part}
-use Rattle.fields.specs.declared.Field.TheVariants as field
-use Rattle.mpint.specs.declared.Size.TheVariants.{Bits, Outside}
 use Rattle.mpint.specs.Mpint.{value, is_mpint, mpint_at, zeros_before, remaining, bits, modulus_fits, modulus_size}
 use Rattle.mpint.specs.Values.{value_same, value_top, power_256, mpint_bounds}
 
@@ -28,18 +26,18 @@ mpint_back s c good b t short m e =
 
 -- an mpint that was read is the string that stands there
 pub mpint_read :
-    (s : List ℕ) → AllBytes s → (c : Cursor) (p : Part) (d : Cursor) → mpint_at s c ≡ field.Part p d
+    (s : List ℕ) → AllBytes s → (c : Cursor) (p : Part) (d : Cursor) → mpint_at s c ≡ Ok (p, d)
     → StringRead s c p d × (is_mpint (view_of s p) ≡ true)
 unfolding mpint_at
 mpint_read s all c p d e =
-    by_field (string_at s c)
-    (λ f w. let g : field.Refused f ≡ field.Part p d = rw w at e in clash cc)
+    by_read (string_at s c)
+    (λ f w. let g : Err f ≡ Ok (p, d) = rw w at e in clash cc)
     (λ q x w.
     let g = rw w at e in
     by_bool (is_mpint (view_of s q))
     (λ v.
-    let h : field.Part q x ≡ field.Part p d = rw v at g in
-    let i : q ≡ p = cc in
+    let h : Ok (q, x) ≡ Ok (p, d) = rw v at g in
+    let i : q ≡ p = (same_read h).0 in
     (string_read s all c p d (w ∙ h), rw i at v))
     (λ v. let h = rw v at g in clash cc))
 
@@ -79,20 +77,20 @@ bits-value b all h =
 
 -- ---- a modulus's size
 
-pub size_fits : (n : List ℕ) → modulus_fits n ≡ true → modulus_size n ≡ Bits (bits n)
+pub size_fits : (n : List ℕ) → modulus_fits n ≡ true → modulus_size n ≡ Some (bits n)
 unfolding modulus_size
 size_fits n h = rw h
 
-pub size_inside : (n : List ℕ) (k : ℕ) → modulus_size n ≡ Bits k → (modulus_fits n ≡ true) × (k ≡ bits n)
+pub size_inside : (n : List ℕ) (k : ℕ) → modulus_size n ≡ Some k → (modulus_fits n ≡ true) × (k ≡ bits n)
 unfolding modulus_size
 size_inside n k e =
     by_bool (modulus_fits n)
-    (λ w. let g : Bits (bits n) ≡ Bits k = rw w at e in (w, let o : bits n ≡ k = cc in sym o))
+    (λ w. let g : Some (bits n) ≡ Some k = rw w at e in (w, let o : bits n ≡ k = cc in sym o))
     (λ w. let g = rw w at e in clash cc)
 
-pub size_outside : (n : List ℕ) → modulus_size n ≡ Outside → modulus_fits n ≡ false
+pub size_outside : (n : List ℕ) → modulus_size n ≡ None → modulus_fits n ≡ false
 unfolding modulus_size
 size_outside n e =
     by_bool (modulus_fits n)
-    (λ w. let g : Bits (bits n) ≡ Outside = rw w at e in clash cc)
+    (λ w. let g : Some (bits n) ≡ None = rw w at e in clash cc)
     (λ w. w)

@@ -6,15 +6,12 @@
 -- docs/RULES.md, 3.5: an mpint here must be positive and minimal; an empty, negative or non-minimal one is 2 where it is read. 6.7 and 6.8: the
 -- modulus has 1,024 to 8,192 bits, every other number at most as many as that modulus; bits of a number are those without leading zero bits.
 -- 9.1 has a scalar's bytes without leading zeros.
-use Rattle.std.specs.Prelude.{ℕ, zero, suc, ◌+◌, ◌-◌, ◌*◌, Bool, false, cond, ◌&&◌, not, List, [], ◌∷◌, eqb, ltb, leb, length, drop, get_or}
+use Rattle.std.specs.Prelude.{ℕ, zero, suc, ◌+◌, ◌-◌, ◌*◌, Bool, false, cond, ◌&&◌, not, List, [], ◌∷◌, eqb, ltb, leb, length, drop, get_or, Ok, Err, Option, Some, None}
 use Rattle.std.specs.Int.Count.{count_leading_zeros}
-use Rattle.fields.specs.Fields.{fault, on_field, string_at, view_of}
+use Rattle.fields.specs.Fields.{fault, on_read, string_at, view_of, Read}
 use Rattle.fields.specs.declared.Cursor.{Cursor}
-use Rattle.fields.specs.declared.Field.{Field}
-use Rattle.fields.specs.declared.Field.TheVariants as field
 use Rattle.fields.specs.declared.Refusal.TheVariants.{FormatEncoding}
-use Rattle.mpint.specs.declared.Size.{Size}
-use Rattle.mpint.specs.declared.Size.TheVariants.{Bits, Outside}
+use Rattle.fields.specs.declared.Part.{Part}
 
 -- the number that bytes stand for, the first the highest
 unfoldable pub value_from : ℕ → List ℕ → ℕ
@@ -31,10 +28,10 @@ is_mpint (x ∷ []) = not (eqb x 0) && ltb x 0x80
 is_mpint (x ∷ y ∷ b) = cond (eqb x 0) (leb 0x80 y) (ltb x 0x80)
 
 -- an empty, negative or non-minimal one: 2, at its field
-unfoldable pub mpint_at : List ℕ → Cursor → Field
+unfoldable pub mpint_at : List ℕ → Cursor → Read Part
 mpint_at s c =
-    on_field (string_at s c) field.Refused (λ p d.
-    cond (is_mpint (view_of s p)) (field.Part p d) (field.Refused (fault FormatEncoding c.at)))
+    on_read (string_at s c) Err (λ p d.
+    cond (is_mpint (view_of s p)) (Ok (p, d)) (Err (fault FormatEncoding c.at)))
 
 -- the zero bytes before the first byte that isn't zero
 unfoldable pub zeros_before : List ℕ → ℕ
@@ -61,9 +58,9 @@ at_most x y = leb (bits x) (bits y)
 abbrev pub modulus_fits : List ℕ → Bool
 modulus_fits b = leb 1024 (bits b) && leb (bits b) 8192
 
-unfoldable pub modulus_size : List ℕ → Size
-modulus_size b = cond (modulus_fits b) (Bits (bits b)) Outside
+unfoldable pub modulus_size : List ℕ → Option ℕ
+modulus_size b = cond (modulus_fits b) (Some (bits b)) None
 
-abbrev pub on_size : {R : Type 0} → Size → R → (ℕ → R) → R
-on_size Outside outside inside = outside
-on_size (Bits n) outside inside = inside n
+abbrev pub on_size : {R : Type 0} → Option ℕ → R → (ℕ → R) → R
+on_size None outside inside = outside
+on_size (Some n) outside inside = inside n

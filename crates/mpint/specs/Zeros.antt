@@ -1,5 +1,5 @@
 -- The zeros before the first byte that isn't zero, and what the bytes from there on say of the bits.
-use Rattle.std.specs.Prelude.{ℕ, zero, suc, ◌+◌, ◌-◌, ◌*◌, ◌/◌, ◌≤◌, ◌<◌, ◌≡◌, refl, true, cond, List, [], ◌∷◌, ◌⊎◌, eqb, ltb, leb, length, get_or}
+use Rattle.std.specs.Prelude.{ℕ, zero, suc, ◌+◌, ◌-◌, ◌*◌, ◌/◌, ◌≤◌, ◌<◌, ◌≡◌, refl, true, cond, List, [], ◌∷◌, ◌⊎◌, eqb, ltb, leb, length, get_or, Some, None}
 use Rattle.std.proofs.Common.{arith, sym, ◌∙◌, ap, inl, inr}
 use borrow.Author.Tests.{ltb-true, ltb-false, leb-true, leb-false, le-leb, lt-leb}
 use Rattle.std.specs.Int.Count.{count_leading_zeros, leading_of_zero}
@@ -7,7 +7,6 @@ use Rattle.std.proofs.lemmas.Nat.{leading_le}
 use Rattle.std.proofs.Math.Dec.{eqb-suc-zero}
 use Rattle.std.proofs.Math.ListN.{get_or-eq_default}
 use Rattle.fields.specs.Place.{by_bool}
-use Rattle.mpint.specs.declared.Size.TheVariants.{Bits, Outside}
 use Rattle.mpint.specs.Mpint.{is_mpint, zeros_before, remaining, bits, at_most, modulus_size}
 
 -- the first two bytes say it, and one that is missing counts as 0
@@ -132,14 +131,14 @@ short_fits x y h = le-leb (bits x) (bits y) (omega (arith, bits_most x, h))
 -- ---- the size of a modulus
 
 module _ (b : List ℕ) where
-  pub size_below : bits b < 1024 → Outside ≡ modulus_size b
+  pub size_below : bits b < 1024 → None ≡ modulus_size b
   unfolding modulus_size
   size_below h = rw (lt-leb 1024 (bits b) h)
 
-  pub size_above : 8192 < bits b → Outside ≡ modulus_size b
+  pub size_above : 8192 < bits b → None ≡ modulus_size b
   unfolding modulus_size
   size_above h = rw (le-leb 1024 (bits b) (omega arith), lt-leb (bits b) 8192 h)
 
-  pub size_is : 1024 ≤ bits b → bits b ≤ 8192 → Bits (bits b) ≡ modulus_size b
+  pub size_is : 1024 ≤ bits b → bits b ≤ 8192 → Some (bits b) ≡ modulus_size b
   unfolding modulus_size
   size_is h k = rw (le-leb 1024 (bits b) h, le-leb (bits b) 8192 k)

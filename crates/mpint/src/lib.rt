@@ -4,7 +4,7 @@
 ghost use Rattle.std.specs.Prelude.{◌≡◌};
 ghost use Rattle.mpint.specs.Mpint.{is_mpint, mpint_at, zeros_before, at_most, modulus_size};
 
-use fields::{Cursor, Fault, Field, Refusal};
+use fields::{Cursor, Part, Read, Refusal};
 
 // Is it a number above zero, with no needless zero before it? Of no bytes, or of one zero, the second byte
 // is missing, and counts as 0.
@@ -19,36 +19,27 @@ pub fn is_mpint(bytes: &[u8]) -> bool
 }
 
 // A string that is such a number.
-pub fn read_mpint(c: Cursor, image: &[u8]) -> Field
+#[tactic(auto, unfolding(crate::specs::Mpint::mpint_at))]
+pub fn read_mpint(c: Cursor, image: &[u8]) -> Read<Part>
     ensures { result ≡ mpint_at image.now c }
 {
-    let at = c.at;
-    match c.string(image) {
-        Field::Refused(f) => Field::Refused(f),
-        Field::Part(p, d) => {
-            if is_mpint(fields::view(image, p)) {
-                return Field::Part(p, d);
-            }
-            Field::Refused(Fault {
-                why: Refusal::FormatEncoding,
-                at: at,
-            })
-        }
+    let (number, next) = c.string(image)?;
+    if is_mpint(fields::view(image, number)) {
+        return Ok((number, next));
     }
+    Err(Refusal::FormatEncoding.at(c.at))
 }
 
 // How many zeros stand before the first byte that isn't zero.
 pub fn zeros_before(bytes: &[u8]) -> usize
     ensures { result ≡ zeros_before bytes.now }
 {
-    let mut i: usize = 0;
-    while i < bytes.len() {
-        if bytes[i] != 0 {
+    for (i, byte) in bytes.iter().enumerate() {
+        if *byte != 0 {
             return i;
         }
-        i += 1;
     }
-    i
+    bytes.len()
 }
 
 // Has x at most as many bits as y? The bytes from the first that isn't zero say it, and where these are as
@@ -67,26 +58,17 @@ pub fn at_most(x: &[u8], y: &[u8]) -> bool
 }
 
 // How many bits a modulus has, if as many as a modulus may have.
-#[derive(Clone, Copy)]
-pub enum Size {
-    Bits(usize),
-    Outside,
-}
-
-pub fn modulus_size(bytes: &[u8]) -> Size
+pub fn modulus_size(bytes: &[u8]) -> Option<usize>
     ensures { result ≡ modulus_size bytes.now }
 {
     let i = zeros_before(bytes);
     let left = bytes.len() - i;
-    if left < 128 {
-        return Size::Outside;
-    }
-    if 1024 < left {
-        return Size::Outside;
+    if left < 128 || 1024 < left {
+        return None;
     }
     let bits = 8 * left - u8::leading_zeros(fields::byte(bytes, i)) as usize;
     if bits < 1024 {
-        return Size::Outside;
+        return None;
     }
-    Size::Bits(bits)
+    Some(bits)
 }

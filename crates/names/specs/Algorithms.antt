@@ -1,17 +1,13 @@
 -- docs/RULES.md, 6.1 and 6.3: the algorithms' and curves' names, and each curve's SIZE.
-use Rattle.std.specs.Prelude.{ℕ, zero, suc, ◌<◌, ◌^◌, ◌≡◌, refl, Bool, true, List, [], ◌∷◌, ◌++◌, eqb, length}
+use Rattle.std.specs.Prelude.{ℕ, zero, suc, ◌<◌, ◌^◌, ◌≡◌, refl, Bool, true, List, [], ◌∷◌, ◌++◌, eqb, length, Option, Some, None}
 use Rattle.std.proofs.Common.{arith, sym, ◌∙◌, ap, eq-eqb, eqb-true}
 use Rattle.fields.specs.Bytes.{ascii}
 use Rattle.names.specs.Table.{look_up, named}
 use Rattle.names.specs.declared.Curve.{Curve}
 use Rattle.names.specs.declared.Curve.TheVariants.{Nistp256, Nistp384, Nistp521}
-use Rattle.names.specs.declared.CurveName.{CurveName}
-use Rattle.names.specs.declared.CurveName.TheVariants as curve-name
 use Rattle.names.specs.declared.Elliptic.TheVariants.{Ed25519, Ecdsa}
 use Rattle.names.specs.declared.Algorithm.{Algorithm}
 use Rattle.names.specs.declared.Algorithm.TheVariants.{Elliptic as OnCurve, Rsa}
-use Rattle.names.specs.declared.AlgorithmName.{AlgorithmName}
-use Rattle.names.specs.declared.AlgorithmName.TheVariants as algorithm-name
 
 abbrev pub curve_name : Curve → List ℕ
 curve_name Nistp256 = ascii "nistp256"
@@ -21,8 +17,8 @@ curve_name Nistp521 = ascii "nistp521"
 abbrev curves : List Curve
 curves = Nistp256 ∷ Nistp384 ∷ Nistp521 ∷ []
 
-unfoldable pub curve_named : List ℕ → CurveName
-curve_named = look_up curve_name curve-name.Known curve-name.Unknown curves
+unfoldable pub curve_named : List ℕ → Option Curve
+curve_named = look_up curve_name Some None curves
 
 -- SIZE
 abbrev pub size_of : Curve → ℕ
@@ -38,8 +34,8 @@ algorithm_name Rsa = ascii "ssh-rsa"
 abbrev pub algorithms : List Algorithm
 algorithms = OnCurve Ed25519 ∷ OnCurve (Ecdsa Nistp256) ∷ OnCurve (Ecdsa Nistp384) ∷ OnCurve (Ecdsa Nistp521) ∷ Rsa ∷ []
 
-unfoldable pub algorithm_named : List ℕ → AlgorithmName
-algorithm_named = look_up algorithm_name algorithm-name.Known algorithm-name.Unknown algorithms
+unfoldable pub algorithm_named : List ℕ → Option Algorithm
+algorithm_named = look_up algorithm_name Some None algorithms
 
 -- a number for each algorithm
 abbrev pub algorithm_code : Algorithm → ℕ
@@ -55,16 +51,16 @@ same_algorithm a b = eqb (algorithm_code a) (algorithm_code b)
 
 -- ---- laws
 
-pub curve_back : (k : Curve) → (curve_named (curve_name k) ≡ curve-name.Known k) × (length (curve_name k) < 2 ^ 32)
+pub curve_back : (k : Curve) → (curve_named (curve_name k) ≡ Some k) × (length (curve_name k) < 2 ^ 32)
 unfolding curve_named
 curve_back Nistp256 = (refl, omega arith)
 curve_back Nistp384 = (refl, omega arith)
 curve_back Nistp521 = (refl, omega arith)
 
-pub curve_read : (b : List ℕ) (k : Curve) → curve_named b ≡ curve-name.Known k → b ≡ curve_name k
+pub curve_read : (b : List ℕ) (k : Curve) → curve_named b ≡ Some k → b ≡ curve_name k
 unfolding curve_named
 curve_read b k e =
-    named curve_name curve-name.Known curve-name.Unknown curves b k (λ q. let z : ◌≡◌ {A = ℕ} 0 1 = cc in omega arith) (λ x q. cc) e
+    named curve_name Some None curves b k (λ q. let z : ◌≡◌ {A = ℕ} 0 1 = cc in omega arith) (λ x q. cc) e
 
 -- a scalar's and a point's lengths fit a uint32 with room to spare
 pub size_small : (k : Curve) → (0 < size_of k) × (size_of k < 100)
@@ -72,7 +68,7 @@ size_small Nistp256 = omega arith
 size_small Nistp384 = omega arith
 size_small Nistp521 = omega arith
 
-pub algorithm_back : (a : Algorithm) → (algorithm_named (algorithm_name a) ≡ algorithm-name.Known a) × (length (algorithm_name a) < 2 ^ 32)
+pub algorithm_back : (a : Algorithm) → (algorithm_named (algorithm_name a) ≡ Some a) × (length (algorithm_name a) < 2 ^ 32)
 unfolding algorithm_named
 algorithm_back (OnCurve Ed25519) = (refl, omega arith)
 algorithm_back (OnCurve (Ecdsa Nistp256)) = (refl, omega arith)
@@ -80,10 +76,10 @@ algorithm_back (OnCurve (Ecdsa Nistp384)) = (refl, omega arith)
 algorithm_back (OnCurve (Ecdsa Nistp521)) = (refl, omega arith)
 algorithm_back Rsa = (refl, omega arith)
 
-pub algorithm_read : (b : List ℕ) (a : Algorithm) → algorithm_named b ≡ algorithm-name.Known a → b ≡ algorithm_name a
+pub algorithm_read : (b : List ℕ) (a : Algorithm) → algorithm_named b ≡ Some a → b ≡ algorithm_name a
 unfolding algorithm_named
 algorithm_read b a e =
-    named algorithm_name algorithm-name.Known algorithm-name.Unknown algorithms b a (λ q. let z : ◌≡◌ {A = ℕ} 0 1 = cc in omega arith) (λ x q. cc) e
+    named algorithm_name Some None algorithms b a (λ q. let z : ◌≡◌ {A = ℕ} 0 1 = cc in omega arith) (λ x q. cc) e
 
 -- the algorithm of a number
 algorithm_of : ℕ → Algorithm

@@ -8,7 +8,7 @@ ghost use Rattle.names.specs.Algorithms.{curve_named, size_of, algorithm_named, 
 
 use words::spells;
 
-#[derive(Clone, Copy)]
+#[derive(Clone, Copy, PartialEq, Eq)]
 pub enum Cipher {
     None,
     TripleDesCbc,
@@ -22,64 +22,58 @@ pub enum Cipher {
     Aes256Gcm,
 }
 
-#[derive(Clone, Copy)]
-pub enum CipherName {
-    Known(Cipher),
-    Unknown,
-}
-
-pub fn cipher_named(name: &[u8]) -> CipherName
+pub fn cipher_named(name: &[u8]) -> Option<Cipher>
     ensures { result ≡ cipher_named name.now }
 {
     if spells(b"none", name) {
-        return CipherName::Known(Cipher::None);
+        return Some(Cipher::None);
     }
     if spells(b"3des-cbc", name) {
-        return CipherName::Known(Cipher::TripleDesCbc);
+        return Some(Cipher::TripleDesCbc);
     }
     cbc_named(name)
 }
 
-fn cbc_named(name: &[u8]) -> CipherName
+fn cbc_named(name: &[u8]) -> Option<Cipher>
     ensures { result ≡ cbc_named name.now }
 {
     if spells(b"aes128-cbc", name) {
-        return CipherName::Known(Cipher::Aes128Cbc);
+        return Some(Cipher::Aes128Cbc);
     }
     if spells(b"aes192-cbc", name) {
-        return CipherName::Known(Cipher::Aes192Cbc);
+        return Some(Cipher::Aes192Cbc);
     }
     if spells(b"aes256-cbc", name) {
-        return CipherName::Known(Cipher::Aes256Cbc);
+        return Some(Cipher::Aes256Cbc);
     }
     ctr_named(name)
 }
 
-fn ctr_named(name: &[u8]) -> CipherName
+fn ctr_named(name: &[u8]) -> Option<Cipher>
     ensures { result ≡ ctr_named name.now }
 {
     if spells(b"aes128-ctr", name) {
-        return CipherName::Known(Cipher::Aes128Ctr);
+        return Some(Cipher::Aes128Ctr);
     }
     if spells(b"aes192-ctr", name) {
-        return CipherName::Known(Cipher::Aes192Ctr);
+        return Some(Cipher::Aes192Ctr);
     }
     if spells(b"aes256-ctr", name) {
-        return CipherName::Known(Cipher::Aes256Ctr);
+        return Some(Cipher::Aes256Ctr);
     }
     gcm_named(name)
 }
 
-fn gcm_named(name: &[u8]) -> CipherName
+fn gcm_named(name: &[u8]) -> Option<Cipher>
     ensures { result ≡ gcm_named name.now }
 {
     if spells(b"aes128-gcm@openssh.com", name) {
-        return CipherName::Known(Cipher::Aes128Gcm);
+        return Some(Cipher::Aes128Gcm);
     }
     if spells(b"aes256-gcm@openssh.com", name) {
-        return CipherName::Known(Cipher::Aes256Gcm);
+        return Some(Cipher::Aes256Gcm);
     }
-    CipherName::Unknown
+    None
 }
 
 impl Cipher {
@@ -90,34 +84,15 @@ impl Cipher {
     pub fn is_none(self) -> bool
         ensures { result ≡ is_none self }
     {
-        match self {
-            Cipher::None => true,
-            Cipher::TripleDesCbc => false,
-            Cipher::Aes128Cbc => false,
-            Cipher::Aes192Cbc => false,
-            Cipher::Aes256Cbc => false,
-            Cipher::Aes128Ctr => false,
-            Cipher::Aes192Ctr => false,
-            Cipher::Aes256Ctr => false,
-            Cipher::Aes128Gcm => false,
-            Cipher::Aes256Gcm => false,
-        }
+        self == Cipher::None
     }
 
     pub fn block_size(self) -> usize
         ensures { result ≡ block_size self }
     {
         match self {
-            Cipher::None => Cipher::SMALL_BLOCK,
-            Cipher::TripleDesCbc => Cipher::SMALL_BLOCK,
-            Cipher::Aes128Cbc => Cipher::LARGE_BLOCK,
-            Cipher::Aes192Cbc => Cipher::LARGE_BLOCK,
-            Cipher::Aes256Cbc => Cipher::LARGE_BLOCK,
-            Cipher::Aes128Ctr => Cipher::LARGE_BLOCK,
-            Cipher::Aes192Ctr => Cipher::LARGE_BLOCK,
-            Cipher::Aes256Ctr => Cipher::LARGE_BLOCK,
-            Cipher::Aes128Gcm => Cipher::LARGE_BLOCK,
-            Cipher::Aes256Gcm => Cipher::LARGE_BLOCK,
+            Cipher::None | Cipher::TripleDesCbc => Cipher::SMALL_BLOCK,
+            _ => Cipher::LARGE_BLOCK,
         }
     }
 
@@ -125,45 +100,32 @@ impl Cipher {
         ensures { result ≡ tag_length self }
     {
         match self {
-            Cipher::None => 0,
-            Cipher::TripleDesCbc => 0,
-            Cipher::Aes128Cbc => 0,
-            Cipher::Aes192Cbc => 0,
-            Cipher::Aes256Cbc => 0,
-            Cipher::Aes128Ctr => 0,
-            Cipher::Aes192Ctr => 0,
-            Cipher::Aes256Ctr => 0,
-            Cipher::Aes128Gcm => Cipher::LARGE_BLOCK,
-            Cipher::Aes256Gcm => Cipher::LARGE_BLOCK,
+            Cipher::Aes128Gcm | Cipher::Aes256Gcm => Cipher::LARGE_BLOCK,
+            _ => 0,
         }
     }
 }
 
-#[derive(Clone, Copy)]
+#[derive(Clone, Copy, PartialEq, Eq)]
 pub enum Kdf {
     None,
     Bcrypt,
 }
 
-#[derive(Clone, Copy)]
-pub enum KdfName {
-    Known(Kdf),
-    Unknown,
-}
-
-pub fn kdf_named(name: &[u8]) -> KdfName
+#[tactic(auto, unfolding(crate::specs::Ciphers::kdf_named))]
+pub fn kdf_named(name: &[u8]) -> Option<Kdf>
     ensures { result ≡ kdf_named name.now }
 {
     if spells(b"none", name) {
-        return KdfName::Known(Kdf::None);
+        return Some(Kdf::None);
     }
     if spells(b"bcrypt", name) {
-        return KdfName::Known(Kdf::Bcrypt);
+        return Some(Kdf::Bcrypt);
     }
-    KdfName::Unknown
+    None
 }
 
-#[derive(Clone, Copy)]
+#[derive(Clone, Copy, PartialEq, Eq)]
 pub enum Curve {
     Nistp256,
     Nistp384,
@@ -186,73 +148,57 @@ impl Curve {
     pub fn point_length(self) -> usize
         ensures { result ≡ 1 + 2 * size_of self }
     {
-        match self {
-            Curve::Nistp256 => 65,
-            Curve::Nistp384 => 97,
-            Curve::Nistp521 => 133,
-        }
+        1 + 2 * self.size()
     }
 }
 
-#[derive(Clone, Copy)]
-pub enum CurveName {
-    Known(Curve),
-    Unknown,
-}
-
-pub fn curve_named(name: &[u8]) -> CurveName
+pub fn curve_named(name: &[u8]) -> Option<Curve>
     ensures { result ≡ curve_named name.now }
 {
     if spells(b"nistp256", name) {
-        return CurveName::Known(Curve::Nistp256);
+        return Some(Curve::Nistp256);
     }
     if spells(b"nistp384", name) {
-        return CurveName::Known(Curve::Nistp384);
+        return Some(Curve::Nistp384);
     }
     if spells(b"nistp521", name) {
-        return CurveName::Known(Curve::Nistp521);
+        return Some(Curve::Nistp521);
     }
-    CurveName::Unknown
+    None
 }
 
 // The four whose keys are a point and a scalar, or a public string and a seed, of a length that the name tells.
-#[derive(Clone, Copy)]
+#[derive(Clone, Copy, PartialEq, Eq)]
 pub enum Elliptic {
     Ed25519,
     Ecdsa(Curve),
 }
 
-#[derive(Clone, Copy)]
+#[derive(Clone, Copy, PartialEq, Eq)]
 pub enum Algorithm {
     Elliptic(Elliptic),
     Rsa,
 }
 
-#[derive(Clone, Copy)]
-pub enum AlgorithmName {
-    Known(Algorithm),
-    Unknown,
-}
-
-pub fn algorithm_named(name: &[u8]) -> AlgorithmName
+pub fn algorithm_named(name: &[u8]) -> Option<Algorithm>
     ensures { result ≡ algorithm_named name.now }
 {
     if spells(b"ssh-ed25519", name) {
-        return AlgorithmName::Known(Algorithm::Elliptic(Elliptic::Ed25519));
+        return Some(Algorithm::Elliptic(Elliptic::Ed25519));
     }
     if spells(b"ecdsa-sha2-nistp256", name) {
-        return AlgorithmName::Known(Algorithm::Elliptic(Elliptic::Ecdsa(Curve::Nistp256)));
+        return Some(Algorithm::Elliptic(Elliptic::Ecdsa(Curve::Nistp256)));
     }
     if spells(b"ecdsa-sha2-nistp384", name) {
-        return AlgorithmName::Known(Algorithm::Elliptic(Elliptic::Ecdsa(Curve::Nistp384)));
+        return Some(Algorithm::Elliptic(Elliptic::Ecdsa(Curve::Nistp384)));
     }
     if spells(b"ecdsa-sha2-nistp521", name) {
-        return AlgorithmName::Known(Algorithm::Elliptic(Elliptic::Ecdsa(Curve::Nistp521)));
+        return Some(Algorithm::Elliptic(Elliptic::Ecdsa(Curve::Nistp521)));
     }
     if spells(b"ssh-rsa", name) {
-        return AlgorithmName::Known(Algorithm::Rsa);
+        return Some(Algorithm::Rsa);
     }
-    AlgorithmName::Unknown
+    None
 }
 
 impl Algorithm {

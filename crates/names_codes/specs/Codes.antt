@@ -1,25 +1,19 @@
 -- docs/RULES.md, 15.1: the C interface's codes: algorithm 0 Ed25519, 1 P-256, 2 P-384, 3 P-521, 4 RSA; KDF 0 none, 1 bcrypt; ciphers 0 to 9
 -- in the order of 4.9. Any other number names nothing.
-use Rattle.std.specs.Prelude.{ℕ, ◌≡◌, refl, cond, List, [], ◌∷◌, eqb}
+use Rattle.std.specs.Prelude.{ℕ, ◌≡◌, refl, cond, List, [], ◌∷◌, eqb, Option, Some, None}
 use Rattle.std.proofs.Common.{sym, ◌∙◌, ap}
 use Rattle.names.specs.Algorithms.{algorithm_code, algorithms}
 use Rattle.names.specs.declared.Cipher.{Cipher}
-use Rattle.names.specs.declared.Cipher.TheVariants.{None, TripleDesCbc, Aes128Cbc, Aes192Cbc, Aes256Cbc, Aes128Ctr, Aes192Ctr, Aes256Ctr, Aes128Gcm, Aes256Gcm}
-use Rattle.names.specs.declared.CipherName.{CipherName}
-use Rattle.names.specs.declared.CipherName.TheVariants.{Known, Unknown}
+use Rattle.names.specs.declared.Cipher.TheVariants.{None as NoCipher, TripleDesCbc, Aes128Cbc, Aes192Cbc, Aes256Cbc, Aes128Ctr, Aes192Ctr, Aes256Ctr, Aes128Gcm, Aes256Gcm}
 use Rattle.names.specs.declared.Kdf.{Kdf}
 use Rattle.names.specs.declared.Kdf.TheVariants as kdf
-use Rattle.names.specs.declared.KdfName.{KdfName}
-use Rattle.names.specs.declared.KdfName.TheVariants as kdf-name
 use Rattle.names.specs.declared.Curve.TheVariants.{Nistp256, Nistp384, Nistp521}
 use Rattle.names.specs.declared.Elliptic.TheVariants.{Ed25519, Ecdsa}
 use Rattle.names.specs.declared.Algorithm.{Algorithm}
 use Rattle.names.specs.declared.Algorithm.TheVariants.{Elliptic as OnCurve, Rsa}
-use Rattle.names.specs.declared.AlgorithmName.{AlgorithmName}
-use Rattle.names.specs.declared.AlgorithmName.TheVariants as algorithm-name
 
 abbrev pub cipher_code : Cipher → ℕ
-cipher_code None = 0
+cipher_code NoCipher = 0
 cipher_code TripleDesCbc = 1
 cipher_code Aes128Cbc = 2
 cipher_code Aes192Cbc = 3
@@ -39,20 +33,20 @@ abbrev pub coded : {A R : Type 0} → (A → ℕ) → (A → R) → R → List A
 coded code known unknown [] n = unknown
 coded code known unknown (a ∷ rows) n = cond (eqb n (code a)) (known a) (coded code known unknown rows n)
 
-unfoldable pub algorithm_coded : ℕ → AlgorithmName
-algorithm_coded = coded algorithm_code algorithm-name.Known algorithm-name.Unknown algorithms
+unfoldable pub algorithm_coded : ℕ → Option Algorithm
+algorithm_coded = coded algorithm_code Some None algorithms
 
-unfoldable pub cipher_coded : ℕ → CipherName
+unfoldable pub cipher_coded : ℕ → Option Cipher
 cipher_coded =
-    coded cipher_code Known Unknown
-    (None ∷ TripleDesCbc ∷ Aes128Cbc ∷ Aes192Cbc ∷ Aes256Cbc ∷ Aes128Ctr ∷ Aes192Ctr ∷ Aes256Ctr ∷ Aes128Gcm ∷ Aes256Gcm ∷ [])
+    coded cipher_code Some None
+    (NoCipher ∷ TripleDesCbc ∷ Aes128Cbc ∷ Aes192Cbc ∷ Aes256Cbc ∷ Aes128Ctr ∷ Aes192Ctr ∷ Aes256Ctr ∷ Aes128Gcm ∷ Aes256Gcm ∷ [])
 
-unfoldable pub kdf_coded : ℕ → KdfName
-kdf_coded = coded kdf_code kdf-name.Known kdf-name.Unknown (kdf.None ∷ kdf.Bcrypt ∷ [])
+unfoldable pub kdf_coded : ℕ → Option Kdf
+kdf_coded = coded kdf_code Some None (kdf.None ∷ kdf.Bcrypt ∷ [])
 
 -- ---- laws: a code is its own thing's, and so no other's
 
-pub algorithm_coded_lem : (a : Algorithm) → algorithm_coded (algorithm_code a) ≡ algorithm-name.Known a
+pub algorithm_coded_lem : (a : Algorithm) → algorithm_coded (algorithm_code a) ≡ Some a
 unfolding algorithm_coded
 algorithm_coded_lem (OnCurve Ed25519) = refl
 algorithm_coded_lem (OnCurve (Ecdsa Nistp256)) = refl
@@ -60,9 +54,9 @@ algorithm_coded_lem (OnCurve (Ecdsa Nistp384)) = refl
 algorithm_coded_lem (OnCurve (Ecdsa Nistp521)) = refl
 algorithm_coded_lem Rsa = refl
 
-pub cipher_coded_lem : (c : Cipher) → cipher_coded (cipher_code c) ≡ Known c
+pub cipher_coded_lem : (c : Cipher) → cipher_coded (cipher_code c) ≡ Some c
 unfolding cipher_coded
-cipher_coded_lem None = refl
+cipher_coded_lem NoCipher = refl
 cipher_coded_lem TripleDesCbc = refl
 cipher_coded_lem Aes128Cbc = refl
 cipher_coded_lem Aes192Cbc = refl
@@ -73,17 +67,17 @@ cipher_coded_lem Aes256Ctr = refl
 cipher_coded_lem Aes128Gcm = refl
 cipher_coded_lem Aes256Gcm = refl
 
-pub kdf_coded_lem : (k : Kdf) → kdf_coded (kdf_code k) ≡ kdf-name.Known k
+pub kdf_coded_lem : (k : Kdf) → kdf_coded (kdf_code k) ≡ Some k
 unfolding kdf_coded
 kdf_coded_lem kdf.None = refl
 kdf_coded_lem kdf.Bcrypt = refl
 
 pub cipher_code_same : (c d : Cipher) → cipher_code c ≡ cipher_code d → c ≡ d
 cipher_code_same c d e =
-    let known : Known c ≡ Known d = sym (cipher_coded_lem c) ∙ ap cipher_coded e ∙ cipher_coded_lem d in
+    let known : Some c ≡ Some d = sym (cipher_coded_lem c) ∙ ap cipher_coded e ∙ cipher_coded_lem d in
     cc
 
 pub kdf_code_same : (k l : Kdf) → kdf_code k ≡ kdf_code l → k ≡ l
 kdf_code_same k l e =
-    let known : kdf-name.Known k ≡ kdf-name.Known l = sym (kdf_coded_lem k) ∙ ap kdf_coded e ∙ kdf_coded_lem l in
+    let known : Some k ≡ Some l = sym (kdf_coded_lem k) ∙ ap kdf_coded e ∙ kdf_coded_lem l in
     cc

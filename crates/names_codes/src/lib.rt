@@ -5,99 +5,60 @@
 ghost use Rattle.std.specs.Prelude.{◌≡◌};
 ghost use Rattle.names_codes.specs.Codes.{cipher_code, kdf_code, algorithm_coded, cipher_coded, kdf_coded};
 
-use names::{Algorithm, AlgorithmName, Cipher, CipherName, Curve, Elliptic, Kdf, KdfName};
+use names::{Algorithm, Cipher, Curve, Elliptic, Kdf};
 
 pub fn cipher_code(cipher: Cipher) -> u8
     ensures { result ≡ cipher_code cipher }
 {
-    match cipher {
-        Cipher::None => 0,
-        Cipher::TripleDesCbc => 1,
-        Cipher::Aes128Cbc => 2,
-        Cipher::Aes192Cbc => 3,
-        Cipher::Aes256Cbc => 4,
-        Cipher::Aes128Ctr => 5,
-        Cipher::Aes192Ctr => 6,
-        Cipher::Aes256Ctr => 7,
-        Cipher::Aes128Gcm => 8,
-        Cipher::Aes256Gcm => 9,
-    }
+    cipher as u8
 }
 
 pub fn kdf_code(kdf: Kdf) -> u8
     ensures { result ≡ kdf_code kdf }
 {
-    match kdf {
-        Kdf::None => 0,
-        Kdf::Bcrypt => 1,
-    }
+    kdf as u8
 }
 
-pub fn algorithm_coded(code: u8) -> AlgorithmName
+#[tactic(auto, unfolding(crate::specs::Codes::algorithm_coded))]
+pub fn algorithm_coded(code: u8) -> Option<Algorithm>
     ensures { result ≡ algorithm_coded code }
 {
-    if code == 0 {
-        return AlgorithmName::Known(Algorithm::Elliptic(Elliptic::Ed25519));
+    match code {
+        0 => Some(Algorithm::Elliptic(Elliptic::Ed25519)),
+        1 => Some(Algorithm::Elliptic(Elliptic::Ecdsa(Curve::Nistp256))),
+        2 => Some(Algorithm::Elliptic(Elliptic::Ecdsa(Curve::Nistp384))),
+        3 => Some(Algorithm::Elliptic(Elliptic::Ecdsa(Curve::Nistp521))),
+        4 => Some(Algorithm::Rsa),
+        _ => None,
     }
-    if code == 1 {
-        return AlgorithmName::Known(Algorithm::Elliptic(Elliptic::Ecdsa(Curve::Nistp256)));
-    }
-    if code == 2 {
-        return AlgorithmName::Known(Algorithm::Elliptic(Elliptic::Ecdsa(Curve::Nistp384)));
-    }
-    if code == 3 {
-        return AlgorithmName::Known(Algorithm::Elliptic(Elliptic::Ecdsa(Curve::Nistp521)));
-    }
-    if code == 4 {
-        return AlgorithmName::Known(Algorithm::Rsa);
-    }
-    AlgorithmName::Unknown
 }
 
-pub fn cipher_coded(code: u8) -> CipherName
+#[tactic(auto, unfolding(crate::specs::Codes::cipher_coded))]
+pub fn cipher_coded(code: u8) -> Option<Cipher>
     ensures { result ≡ cipher_coded code }
 {
-    if code == 0 {
-        return CipherName::Known(Cipher::None);
+    match code {
+        0 => Some(Cipher::None),
+        1 => Some(Cipher::TripleDesCbc),
+        2 => Some(Cipher::Aes128Cbc),
+        3 => Some(Cipher::Aes192Cbc),
+        4 => Some(Cipher::Aes256Cbc),
+        5 => Some(Cipher::Aes128Ctr),
+        6 => Some(Cipher::Aes192Ctr),
+        7 => Some(Cipher::Aes256Ctr),
+        8 => Some(Cipher::Aes128Gcm),
+        9 => Some(Cipher::Aes256Gcm),
+        _ => None,
     }
-    if code == 1 {
-        return CipherName::Known(Cipher::TripleDesCbc);
-    }
-    if code == 2 {
-        return CipherName::Known(Cipher::Aes128Cbc);
-    }
-    if code == 3 {
-        return CipherName::Known(Cipher::Aes192Cbc);
-    }
-    if code == 4 {
-        return CipherName::Known(Cipher::Aes256Cbc);
-    }
-    if code == 5 {
-        return CipherName::Known(Cipher::Aes128Ctr);
-    }
-    if code == 6 {
-        return CipherName::Known(Cipher::Aes192Ctr);
-    }
-    if code == 7 {
-        return CipherName::Known(Cipher::Aes256Ctr);
-    }
-    if code == 8 {
-        return CipherName::Known(Cipher::Aes128Gcm);
-    }
-    if code == 9 {
-        return CipherName::Known(Cipher::Aes256Gcm);
-    }
-    CipherName::Unknown
 }
 
-pub fn kdf_coded(code: u8) -> KdfName
+#[tactic(auto, unfolding(crate::specs::Codes::kdf_coded))]
+pub fn kdf_coded(code: u8) -> Option<Kdf>
     ensures { result ≡ kdf_coded code }
 {
-    if code == 0 {
-        return KdfName::Known(Kdf::None);
+    match code {
+        0 => Some(Kdf::None),
+        1 => Some(Kdf::Bcrypt),
+        _ => None,
     }
-    if code == 1 {
-        return KdfName::Known(Kdf::Bcrypt);
-    }
-    KdfName::Unknown
 }

@@ -14,10 +14,7 @@ use names::{Algorithm, Cipher, Curve, Elliptic, Kdf};
 fn named(start: usize, length: usize) -> Part
     ensures { result ≡ part start length }
 {
-    Part {
-        start: start,
-        length: length,
-    }
+    Part { start, length }
 }
 
 // Where each name stands in the table.
@@ -26,14 +23,10 @@ pub fn algorithm_name(algorithm: Algorithm) -> Part
     ensures { result ≡ algorithm_place algorithm }
 {
     match algorithm {
-        Algorithm::Elliptic(e) => match e {
-            Elliptic::Ed25519 => named(133, 11),
-            Elliptic::Ecdsa(curve) => match curve {
-                Curve::Nistp256 => named(145, 19),
-                Curve::Nistp384 => named(165, 19),
-                Curve::Nistp521 => named(185, 19),
-            },
-        },
+        Algorithm::Elliptic(Elliptic::Ed25519) => named(133, 11),
+        Algorithm::Elliptic(Elliptic::Ecdsa(Curve::Nistp256)) => named(145, 19),
+        Algorithm::Elliptic(Elliptic::Ecdsa(Curve::Nistp384)) => named(165, 19),
+        Algorithm::Elliptic(Elliptic::Ecdsa(Curve::Nistp521)) => named(185, 19),
         Algorithm::Rsa => named(205, 7),
     }
 }
@@ -76,6 +69,7 @@ pub fn put_name(out: &mut [u8], at: usize, name: Part) -> usize
 
 // A name as a string, as an image has it. It is put from bytes of its own: the table would be copied to the stack at each put.
 
+#[tactic(auto, unfolding(fields::specs::Bytes::string, fields::specs::Bytes::uint32))]
 pub fn put_cipher(out: &mut [u8], at: usize, cipher: Cipher) -> usize
     ensures { IsPut out.old at (string (cipher_name cipher)) result out.new }
 {
@@ -93,6 +87,7 @@ pub fn put_cipher(out: &mut [u8], at: usize, cipher: Cipher) -> usize
     }
 }
 
+#[tactic(auto, unfolding(fields::specs::Bytes::string, fields::specs::Bytes::uint32))]
 pub fn put_kdf(out: &mut [u8], at: usize, kdf: Kdf) -> usize
     ensures { IsPut out.old at (string (kdf_name kdf)) result out.new }
 {

@@ -1,8 +1,8 @@
 -- Reading back: blobs as the format writes them are read, with their keys.
-use Rattle.std.specs.Prelude.{ℕ, ◌+◌, ◌≤◌, ◌≡◌, refl, List, [], ◌∷◌, ◌++◌, map, length}
+use Rattle.std.specs.Prelude.{ℕ, ◌+◌, ◌≤◌, ◌≡◌, refl, List, [], ◌∷◌, ◌++◌, map, length, Result, Ok}
 use Rattle.std.proofs.Common.{arith, ◌∙◌, ap₂}
 use Rattle.fields.specs.Bytes.{string, join}
-use Rattle.fields.specs.Fields.{within, view_of}
+use Rattle.fields.specs.Fields.{within, view_of, Read}
 use Rattle.fields.specs.Place.{string_place}
 use Rattle.fields.specs.Rest.{rest, Good, rest-within}
 use Rattle.fields.specs.Back.{short_of, string_back}
@@ -15,17 +15,14 @@ use Rattle.format.proofs.Laws.{blob_field_then}
 use Rattle.key_public.specs.declared.Public.{Public}
 use Rattle.key_public.specs.Keys.{public_bytes}
 use Rattle.laws_keys.specs.Back.{blob_back}
-use Rattle.reader_blobs.specs.declared.BlobField.{BlobField}
-use Rattle.reader_blobs.specs.declared.BlobField.TheVariants as blob-field
-use Rattle.reader_blobs.specs.declared.Blobs.{Blobs}
-use Rattle.reader_blobs.specs.declared.Blobs.TheVariants as blobs
 use Rattle.reader_blobs.specs.Blobs.{blob_field_at, blobs_at, blob_bytes}
+use Rattle.fields.specs.declared.Fault.{Fault}
 
-pub record BlobFieldBack (s : List ℕ) (w : BlobField) (a : Algorithm) (key : PublicBytes) (t : List ℕ) : Type 0 where
+pub record BlobFieldBack (s : List ℕ) (w : Read (Algorithm × Part × Public)) (a : Algorithm) (key : PublicBytes) (t : List ℕ) : Type 0 where
   pub place : Part
   pub public : Public
   pub next : Cursor
-  pub read : w ≡ blob-field.Key a place public next
+  pub read : w ≡ Ok ((a, place, public), next)
   pub content : view_of s place ≡ blob a key
   pub seen : public_bytes s public ≡ key
   pub counted : public.bits ≡ bits key.modulus
@@ -61,10 +58,10 @@ AllPublic [] = Unit {0}
 AllPublic (k ∷ keys) = PublicFits k.algorithm k.public × AllPublic keys
 
 -- blobs, and what is left after them
-pub record BlobsBack (s : List ℕ) (c : Cursor) (w : Blobs) (keys : List Key) (t : List ℕ) : Type 0 where
+pub record BlobsBack (s : List ℕ) (c : Cursor) (w : Result Cursor Fault) (keys : List Key) (t : List ℕ) : Type 0 where
   pub next : Cursor
   pub held : blob_bytes s c (length keys) ≡ map key_blob keys
-  pub read : w ≡ blobs.After next
+  pub read : w ≡ Ok next
   pub good : Good s next
   pub more : rest s next ≡ t
   pub end : next.end ≡ length s

@@ -1,5 +1,5 @@
 -- Reading back: keys that stand in a section as the format writes them are read, each with its fields.
-use Rattle.std.specs.Prelude.{ℕ, suc, ◌≤◌, ◌<◌, ◌^◌, ◌≡◌, refl, true, List, [], ◌∷◌, ◌++◌, map, length}
+use Rattle.std.specs.Prelude.{ℕ, suc, ◌≤◌, ◌<◌, ◌^◌, ◌≡◌, refl, true, List, [], ◌∷◌, ◌++◌, map, length, Ok}
 use Rattle.std.proofs.Common.{arith, sym, ◌∙◌, ap, ap₂}
 use Rattle.fields.specs.Bytes.{string, join, same_self}
 use Rattle.fields.specs.Fields.{view_of}
@@ -18,10 +18,8 @@ use Rattle.key_pairs.specs.declared.Private.{Private}
 use Rattle.laws_keys.specs.Back.{keypair_back}
 use Rattle.laws_fields.specs.Fields.{After}
 use Rattle.laws_fields.specs.Pairs.{keypair_lies}
-use Rattle.reader_blobs.specs.declared.BlobField.TheVariants as blob-field
 use Rattle.reader_blobs.specs.Blobs.{blob_field_at}
 use Rattle.reader_blobs.specs.Back.{blob_field_back}
-use Rattle.reader_entries.specs.declared.Entry.TheVariants as entry
 use Rattle.reader_entries.specs.Entries.{Next-key, same_key, entry_at, next_at, more_at, keys_at, key_read_of}
 use Rattle.reader_entries.specs.Back.{KeyFits, EntryBack, place_at, AllFit, MoreBack, KeysBack}
 
@@ -74,7 +72,7 @@ entry_back s c good small q zeros k t public fits e =
 -- a key and its blob that were read
 next_is :
     (s : List ℕ) (c b : Cursor) (a : Algorithm) (p : Part) (q : Public) (e : Cursor) (x : Private) (m : Part) (d : Cursor)
-    → blob_field_at s b ≡ blob-field.Key a p q e → entry_at s c a q ≡ entry.Key x m d → next_at s c b ≡ Next-key d e
+    → blob_field_at s b ≡ Ok ((a, p, q), e) → entry_at s c a q ≡ Ok ((x, m), d) → next_at s c b ≡ Next-key d e
 unfolding next_at
 next_is s c b a p q e x m d w v = rw (w, v)
 

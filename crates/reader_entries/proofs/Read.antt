@@ -1,19 +1,18 @@
 -- Inversion: keys of a section that were read stand there as the format writes them, each scalar in the form that it had.
 use Prim.Native.Nat.{ℕ, zero, suc, ◌+◌, ◌-◌, ◌≤◌}
 use Rattle.std.proofs.Common.{arith, ◌∙◌, ap₂, length-append}
-use Rattle.std.specs.Prelude.{◌≡◌, refl, true}
+use Rattle.std.specs.Prelude.{◌≡◌, refl, true, Ok, Err, Some}
 use Rattle.std.proofs.Math.Path.{sym, ap}
 use mathlib.Core.List.{List, [], ◌∷◌, ◌++◌, map}
 use Rattle.std.proofs.Math.ListN.{length}
 use Rattle.std.proofs.Math.Seq.{length-slice}
 use Rattle.fields.specs.Bytes.{string, join, AllBytes, same_bytes, same_true, both_true}
-use Rattle.fields.specs.Fields.{string_at, view_of}
-use Rattle.fields.specs.Place.{clash, by_field, by_bool}
+use Rattle.fields.specs.Fields.{string_at, view_of, Read}
+use Rattle.fields.specs.Place.{clash, by_read, by_bool, same_pair, same_read}
 use Rattle.fields.specs.Rest.{rest, Good, length-string}
 use Rattle.fields.specs.Read.{StringRead, string_read}
 use Rattle.fields.specs.declared.Cursor.{Cursor}
 use Rattle.fields.specs.declared.Fault.{Fault}
-use Rattle.fields.specs.declared.Field.TheVariants as field
 use Rattle.fields.specs.declared.Part.{Part}
 use Rattle.names.specs.declared.Algorithm.{Algorithm}
 use Rattle.names.specs.Algorithms.{same_algorithm, algorithm_same}
@@ -23,17 +22,12 @@ use Rattle.format.proofs.Laws.{entry_then}
 use Rattle.key_public.specs.declared.Public.{Public}
 use Rattle.key_public.specs.Keys.{public_bytes}
 use Rattle.key_pairs.specs.declared.Private.{Private}
-use Rattle.key_pairs.specs.declared.Keypair.{Keypair}
-use Rattle.key_pairs.specs.declared.Keypair.TheVariants as keypair
 use Rattle.key_pairs.specs.Pairs.{private_bytes, keypair_at}
 use Rattle.laws_keys.specs.ReadPair.{PairRead, keypair_read}
 use Rattle.places.specs.declared.Places.{Places}
 use Rattle.places.specs.Places.{places_of}
 use Rattle.reader_blobs.specs.Blobs.{blob_field_at, blob_bytes}
 use Rattle.reader_blobs.specs.Read.{by_blob_field, blob-text}
-use Rattle.reader_entries.specs.declared.Entry.{Entry}
-use Rattle.reader_entries.specs.declared.Entry.TheVariants as entry
-use Rattle.reader_entries.specs.declared.KeyRead.TheVariants as key_read
 use Rattle.reader_entries.specs.Entries.{Listed, Are, Not, Keys, Keys-are, Keys-not, same_key, entry_at, next_at, more_at, keys_at, key_read_of, key_placed}
 use Rattle.reader_entries.specs.Back.{place_at}
 use Rattle.reader_entries.proofs.Back.{whole_place_lem}
@@ -47,15 +41,15 @@ by_keys (Keys-not f) refused read = refused f refl
 by_keys (Keys-are x m places c) refused read = read x m places c refl
 
 pub by_keypair :
-    {P : Type 0} (w : Keypair) → ((f : Fault) → w ≡ keypair.Refused f → P)
-    → ((a : Algorithm) (p : Public) (x : Private) (c : Cursor) → w ≡ keypair.Pair a p x c → P) → P
-by_keypair (keypair.Refused f) refused pair = refused f refl
-by_keypair (keypair.Pair a p x c) refused pair = pair a p x c refl
+    {P : Type 0} (w : Read (Algorithm × Public × Private)) → ((f : Fault) → w ≡ Err f → P)
+    → ((a : Algorithm) (p : Public) (x : Private) (c : Cursor) → w ≡ Ok ((a, p, x), c) → P) → P
+by_keypair (Err f) refused pair = refused f refl
+by_keypair (Ok ((a, p, x), c)) refused pair = pair a p x c refl
 
 pub by_entry :
-    {P : Type 0} (w : Entry) → ((f : Fault) → w ≡ entry.Refused f → P) → ((x : Private) (m : Part) (c : Cursor) → w ≡ entry.Key x m c → P) → P
-by_entry (entry.Refused f) refused key = refused f refl
-by_entry (entry.Key x m c) refused key = key x m c refl
+    {P : Type 0} (w : Read (Private × Part)) → ((f : Fault) → w ≡ Err f → P) → ((x : Private) (m : Part) (c : Cursor) → w ≡ Ok ((x, m), c) → P) → P
+by_entry (Err f) refused key = refused f refl
+by_entry (Ok ((x, m), c)) refused key = key x m c refl
 
 pub by_listed : {P : Type 0} (w : Listed) → ((f : Fault) → w ≡ Not f → P) → ((l : List ℕ) (c : Cursor) → w ≡ Are l c → P) → P
 by_listed (Not f) refused listed = refused f refl
@@ -113,32 +107,32 @@ module _ (s : List ℕ) (all : AllBytes s) where
       (algorithm_same j a e₁.0, rw (point, modulus, exponent))
 
   key_there :
-      (c : Cursor) (a : Algorithm) (p q : Public) (x : Private) (m : Part) (b d : Cursor) → keypair_at s c ≡ keypair.Pair a p x b
-      → public_bytes s p ≡ public_bytes s q → string_at s b ≡ field.Part m d → c.end ≡ length s
+      (c : Cursor) (a : Algorithm) (p q : Public) (x : Private) (m : Part) (b d : Cursor) → keypair_at s c ≡ Ok ((a, p, x), b)
+      → public_bytes s p ≡ public_bytes s q → string_at s b ≡ Ok (m, d) → c.end ≡ length s
       → key_read_of s c.at ≡ key_of a (public_bytes s q) (private_bytes s x) (view_of s m)
   unfolding key_read_of
   key_there c a p q x m b d pair_is same comment_is end = rw (whole_place_lem s c end, pair_is, comment_is, same)
 
-  pub entry_read : (c : Cursor) (a : Algorithm) (q : Public) (x : Private) (m : Part) (d : Cursor) → entry_at s c a q ≡ entry.Key x m d → EntryRead s all c a q x m d
+  pub entry_read : (c : Cursor) (a : Algorithm) (q : Public) (x : Private) (m : Part) (d : Cursor) → entry_at s c a q ≡ Ok ((x, m), d) → EntryRead s all c a q x m d
   unfolding entry_at
   entry_read c a q x m d e =
       by_keypair (keypair_at s c)
-      (λ f w. let g : entry.Refused f ≡ entry.Key x m d = rw w at e in clash cc)
+      (λ f w. let g : Err f ≡ Ok ((x, m), d) = rw w at e in clash cc)
       (λ j p y b w.
       let g = rw w at e in
       by_bool (same_key s j p a q)
       (λ v.
       let h = rw v at g in
-      by_field (string_at s b)
-      (λ f u. let i : entry.Refused f ≡ entry.Key x m d = rw u at h in clash cc)
+      by_read (string_at s b)
+      (λ f u. let i : Err f ≡ Ok ((x, m), d) = rw u at h in clash cc)
       (λ t z u.
       let i = rw u at h in
       by_bool (utf8 (view_of s t))
       (λ r.
-      let k : entry.Key y t z ≡ entry.Key x m d = rw r at i in
-      let o₁ : y ≡ x = cc in
-      let o₂ : t ≡ m = cc in
-      let o₃ : z ≡ d = cc in
+      let k : Ok ((y, t), z) ≡ Ok ((x, m), d) = rw r at i in
+      let o₁ : y ≡ x = (same_pair (same_read k).0).0 in
+      let o₂ : t ≡ m = (same_pair (same_read k).0).1 in
+      let o₃ : z ≡ d = (same_read k).1 in
       let same = key_same j a p q v in
       let pair_is = rw (same.0, o₁) at w in
       let comment_is = rw (o₂, o₃) at u in
@@ -148,7 +142,7 @@ module _ (s : List ℕ) (all : AllBytes s) where
       (λ v. let h = rw v at g in clash cc))
 
   pub stands_found :
-      (c b : Cursor) (zeros at : ℕ) (k : KeyStands s all c b zeros) → at ≡ c.at → c.end ≡ length s → key_placed s b at ≡ key_read.Key (found_key s all k) k.blob-after
+      (c b : Cursor) (zeros at : ℕ) (k : KeyStands s all c b zeros) → at ≡ c.at → c.end ≡ length s → key_placed s b at ≡ Some (found_key s all k, k.blob-after)
   unfolding key_placed
   stands_found c b z at k same end =
       let place : record { at = at; end = length s } ≡ c = ap (λ (i : ℕ). place_at i (length s)) same ∙ whole_place_lem s c end in

@@ -1,6 +1,6 @@
 -- What reading back says of keys that stand in a section as the format writes them: that they are read, each with its fields.
-use Rattle.std.specs.Prelude.{ℕ, ◌≡◌, true, List, [], ◌∷◌, map, length}
-use Rattle.fields.specs.Fields.{view_of}
+use Rattle.std.specs.Prelude.{ℕ, ◌≡◌, true, List, [], ◌∷◌, map, length, Ok}
+use Rattle.fields.specs.Fields.{view_of, Read}
 use Rattle.fields.specs.Rest.{rest, Good}
 use Rattle.fields.specs.declared.Cursor.{Cursor}
 use Rattle.fields.specs.declared.Part.{Part}
@@ -10,8 +10,6 @@ use Rattle.format.specs.Format.{PublicBytes, PrivateBytes, Key, PublicFits, Priv
 use Rattle.key_pairs.specs.declared.Private.{Private}
 use Rattle.key_pairs.specs.Pairs.{private_bytes}
 use Rattle.places.specs.Places.{AllWithin, places_of}
-use Rattle.reader_entries.specs.declared.Entry.{Entry}
-use Rattle.reader_entries.specs.declared.Entry.TheVariants as entry
 use Rattle.reader_entries.specs.Entries.{Listed, Are, Keys, Keys-are, key_read_of}
 
 -- a key that fits the format, a scalar in a form that it may have, and a comment that is UTF-8
@@ -21,11 +19,11 @@ pub record KeyFits (a : Algorithm) (zeros : ℕ) (key : PublicBytes) (x : Privat
   pub may : MayStand a zeros x
   pub text : utf8 comment ≡ true
 
-pub record EntryBack (s : List ℕ) (c : Cursor) (w : Entry) (k : Key) (t : List ℕ) : Type 0 where
+pub record EntryBack (s : List ℕ) (c : Cursor) (w : Read (Private × Part)) (k : Key) (t : List ℕ) : Type 0 where
   pub private : Private
   pub place : Part
   pub next : Cursor
-  pub read : w ≡ entry.Key private place next
+  pub read : w ≡ Ok ((private, place), next)
   pub kept : private_bytes s private ≡ k.private
   pub seen : view_of s place ≡ k.comment
   pub size : place.length ≡ length k.comment

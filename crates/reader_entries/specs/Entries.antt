@@ -1,11 +1,9 @@
 -- docs/RULES.md, 5.3 to 5.5, and of the places 7.3: what reading the keys of a plain section finds, in order. RSA keys are compared by n and e.
-use Rattle.std.specs.Prelude.{ℕ, zero, suc, List, [], ◌∷◌, Bool, cond, ◌&&◌, length}
+use Rattle.std.specs.Prelude.{ℕ, zero, suc, List, [], ◌∷◌, Bool, cond, ◌&&◌, length, Ok, Err, Option, Some, None}
 use Rattle.fields.specs.Bytes.{same_bytes}
-use Rattle.fields.specs.Fields.{fault, on_field, string_at, view_of}
+use Rattle.fields.specs.Fields.{fault, on_read, string_at, view_of, Read}
 use Rattle.fields.specs.declared.Cursor.{Cursor}
 use Rattle.fields.specs.declared.Fault.{Fault}
-use Rattle.fields.specs.declared.Field.{Field}
-use Rattle.fields.specs.declared.Field.TheVariants as field
 use Rattle.fields.specs.declared.Part.{Part}
 use Rattle.fields.specs.declared.Refusal.TheVariants.{PublicKey, CharacterEncoding}
 use Rattle.names.specs.declared.Algorithm.{Algorithm}
@@ -21,18 +19,12 @@ use Rattle.key_pairs.specs.Pairs.{on_keypair, private_bytes, keypair_at}
 use Rattle.places.specs.declared.Places.{Places}
 use Rattle.places.specs.Places.{places_of}
 use Rattle.reader_blobs.specs.Blobs.{on_blob_field, blob_field_at}
-use Rattle.reader_entries.specs.declared.Paired.{Paired}
-use Rattle.reader_entries.specs.declared.Paired.TheVariants as paired
-use Rattle.reader_entries.specs.declared.Entry.{Entry}
-use Rattle.reader_entries.specs.declared.Entry.TheVariants as entry
 use Rattle.reader_entries.specs.declared.KeyFields.{KeyFields}
-use Rattle.reader_entries.specs.declared.KeyRead.{KeyRead}
-use Rattle.reader_entries.specs.declared.KeyRead.TheVariants as key_read
 
 -- by what was read
-abbrev pub on_entry : {R : Type 0} → Entry → (Fault → R) → (Private → Part → Cursor → R) → R
-on_entry (entry.Refused f) refused key = refused f
-on_entry (entry.Key private comment c) refused key = key private comment c
+abbrev pub on_entry : {R : Type 0} → Read (Private × Part) → (Fault → R) → (Private → Part → Cursor → R) → R
+on_entry (Err f) refused key = refused f
+on_entry (Ok ((private, comment), c)) refused key = key private comment c
 
 -- the same public key, kind included: what a kind lacks has no bytes
 unfoldable pub same_key : List ℕ → Algorithm → Public → Algorithm → Public → Bool
@@ -43,13 +35,13 @@ same_key s a p b q =
     && same_bytes (view_of s p.exponent) (view_of s q.exponent)
 
 -- keypair; public key unlike the header's: 5, at the keypair's name; comment string; not UTF-8: 7
-unfoldable pub entry_at : List ℕ → Cursor → Algorithm → Public → Entry
+unfoldable pub entry_at : List ℕ → Cursor → Algorithm → Public → Read (Private × Part)
 entry_at s c algorithm public =
-    on_keypair (keypair_at s c) entry.Refused (λ a p private d.
+    on_keypair (keypair_at s c) Err (λ a p private d.
     cond (same_key s a p algorithm public)
-    (on_field (string_at s d) entry.Refused (λ comment e.
-    cond (utf8 (view_of s comment)) (entry.Key private comment e) (entry.Refused (fault CharacterEncoding d.at))))
-    (entry.Refused (fault PublicKey c.at)))
+    (on_read (string_at s d) Err (λ comment e.
+    cond (utf8 (view_of s comment)) (Ok ((private, comment), e)) (Err (fault CharacterEncoding d.at))))
+    (Err (fault PublicKey c.at)))
 
 -- a key, compared with the blob of its number: the places after both
 pub data Next : Type 0 where
@@ -107,36 +99,36 @@ no_key = key_of (OnCurve Ed25519) (of_point []) (of_scalar []) []
 unfoldable pub key_read_of : List ℕ → ℕ → Key
 key_read_of s at =
     on_keypair (keypair_at s (record { at = at; end = length s })) (λ f. no_key) (λ a public private d.
-    on_field (string_at s d) (λ f. no_key) (λ comment e.
+    on_read (string_at s d) (λ f. no_key) (λ comment e.
     key_of a (public_bytes s public) (private_bytes s private) (view_of s comment)))
 
 -- ---- a key by two places: its blob's string begins at b, its keypair at a place, and reading goes up to the image's end
 
-abbrev pub on_key_read : {R : Type 0} → KeyRead → R → (KeyFields → Cursor → R) → R
-on_key_read key_read.Nothing nothing key = nothing
-on_key_read (key_read.Key k d) nothing key = key k d
+abbrev pub on_key_read : {R : Type 0} → Option (KeyFields × Cursor) → R → (KeyFields → Cursor → R) → R
+on_key_read None nothing key = nothing
+on_key_read (Some (k, d)) nothing key = key k d
 
 -- with the place after its blob
-unfoldable pub key_placed : List ℕ → Cursor → ℕ → KeyRead
+unfoldable pub key_placed : List ℕ → Cursor → ℕ → Option (KeyFields × Cursor)
 key_placed s b at =
-    on_blob_field (blob_field_at s b) (λ f. key_read.Nothing) (λ a p public d.
-    on_entry (entry_at s (record { at = at; end = length s }) a public) (λ f. key_read.Nothing) (λ private comment e.
-    key_read.Key (record { algorithm = a; blob = p; public = public; begins = at; private = private; comment = comment }) d))
+    on_blob_field (blob_field_at s b) (λ f. None) (λ a p public d.
+    on_entry (entry_at s (record { at = at; end = length s }) a public) (λ f. None) (λ private comment e.
+    Some (record { algorithm = a; blob = p; public = public; begins = at; private = private; comment = comment }, d)))
 
 -- ---- as the code reads a key
 
 -- a keypair; public key unlike the blob's: 5, at the keypair's name
-abbrev pub on_paired : {R : Type 0} → Paired → (Fault → R) → (Private → Cursor → R) → R
-on_paired (paired.Refused f) refused key = refused f
-on_paired (paired.Key private d) refused key = key private d
+abbrev pub on_paired : {R : Type 0} → Read Private → (Fault → R) → (Private → Cursor → R) → R
+on_paired (Err f) refused key = refused f
+on_paired (Ok (private, d)) refused key = key private d
 
-unfoldable pub pair_at : List ℕ → Cursor → Algorithm → Public → Paired
+unfoldable pub pair_at : List ℕ → Cursor → Algorithm → Public → Read Private
 pair_at s c algorithm public =
-    on_keypair (keypair_at s c) paired.Refused (λ a p private d.
-    cond (same_key s a p algorithm public) (paired.Key private d) (paired.Refused (fault PublicKey c.at)))
+    on_keypair (keypair_at s c) Err (λ a p private d.
+    cond (same_key s a p algorithm public) (Ok (private, d)) (Err (fault PublicKey c.at)))
 
 -- a comment string; not UTF-8: 7
-unfoldable pub comment_at : List ℕ → Cursor → Field
+unfoldable pub comment_at : List ℕ → Cursor → Read Part
 comment_at s c =
-    on_field (string_at s c) field.Refused (λ comment d.
-    cond (utf8 (view_of s comment)) (field.Part comment d) (field.Refused (fault CharacterEncoding c.at)))
+    on_read (string_at s c) Err (λ comment d.
+    cond (utf8 (view_of s comment)) (Ok (comment, d)) (Err (fault CharacterEncoding c.at)))

@@ -1,6 +1,6 @@
 -- What inversion says of keys of a section that were read: that they stand there as the format writes them, each scalar in the form that it had.
 use Prim.Native.Nat.{ℕ, ◌+◌, ◌≤◌}
-use Rattle.std.specs.Prelude.{◌≡◌}
+use Rattle.std.specs.Prelude.{◌≡◌, Ok}
 use mathlib.Core.List.{List, [], ◌∷◌, ◌++◌, map}
 use Rattle.std.proofs.Math.ListN.{length}
 use Rattle.fields.specs.Bytes.{string, join, AllBytes}
@@ -18,9 +18,7 @@ use Rattle.laws_keys.specs.ReadPair.{IfScalar, Begins}
 use Rattle.places.specs.declared.Places.{Places}
 use Rattle.places.specs.Places.{AllWithin, places_of}
 use Rattle.reader_blobs.specs.Blobs.{blob_field_at, blob_bytes}
-use Rattle.reader_blobs.specs.declared.BlobField.TheVariants as blob-field
 use Rattle.reader_blobs.specs.Read.{BlobText}
-use Rattle.reader_entries.specs.declared.Entry.TheVariants as entry
 use Rattle.reader_entries.specs.declared.KeyFields.{KeyFields}
 use Rattle.reader_entries.specs.Entries.{entry_at, key_read_of}
 use Rattle.reader_entries.specs.Back.{KeyFits, AllFit}
@@ -48,9 +46,9 @@ module _ (s : List ℕ) (all : AllBytes s) where
     pub private : Private
     pub comment : Part
     pub after : Cursor
-    pub blob_read : blob_field_at s b ≡ blob-field.Key algorithm blob public blob-after
+    pub blob_read : blob_field_at s b ≡ Ok ((algorithm, blob, public), blob-after)
     pub blob-text : BlobText s all b algorithm blob public blob-after
-    pub entry_read : entry_at s c algorithm public ≡ entry.Key private comment after
+    pub entry_read : entry_at s c algorithm public ≡ Ok ((private, comment), after)
     pub entry_text : EntryRead c algorithm public private comment after
     pub same_zeros : entry_text.zeros ≡ zeros
     pub key : key_read_of s c.at ≡ key_of algorithm (public_bytes s public) (private_bytes s private) (view_of s comment)

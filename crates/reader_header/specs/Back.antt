@@ -1,14 +1,13 @@
 -- Reading back: a header that begins an image as the format writes it is read, with its fields.
-use Rattle.std.specs.Prelude.{ℕ, suc, ◌+◌, ◌-◌, ◌≤◌, ◌<◌, ◌^◌, ◌≡◌, refl, true, List, [], ◌∷◌, ◌++◌, map, length}
+use Rattle.std.specs.Prelude.{ℕ, suc, ◌+◌, ◌-◌, ◌≤◌, ◌<◌, ◌^◌, ◌≡◌, refl, true, List, [], ◌∷◌, ◌++◌, map, length, Ok}
 use Rattle.std.proofs.Common.{arith, sym, ◌∙◌, ap, append-nil, eq-eqb, le-ltb, length-append}
 use Rattle.std.proofs.Math.Seq.{slice}
 use Rattle.fields.specs.Bytes.{uint32, string, join, same_self}
-use Rattle.fields.specs.Fields.{absent, whole, within, bytes_at, view_of}
+use Rattle.fields.specs.Fields.{absent, whole, within, bytes_at, view_of, Read}
 use Rattle.fields.specs.Rest.{rest, Good, rest-whole, rest-within, view_absent, length-string}
 use Rattle.fields.specs.Back.{FieldBack, also, Uint32Back, short_of, bytes_back, string_back, uint32_back, end_back}
 use Rattle.fields.specs.declared.Cursor.{Cursor}
 use Rattle.fields.specs.declared.Part.{Part}
-use Rattle.fields.specs.declared.Field.TheVariants as field
 use Rattle.names.specs.declared.Cipher.{Cipher}
 use Rattle.names.specs.declared.Kdf.{Kdf}
 use Rattle.names.specs.declared.Kdf.TheVariants as kdf
@@ -18,18 +17,12 @@ use Rattle.format.specs.Format.{Key, magic, options, OptionsFit, blob_fields, ke
 use Rattle.key_public.specs.declared.Public.{Public}
 use Rattle.key_public.specs.Keys.{public_bytes}
 use Rattle.format.proofs.Laws.{header_then, blob_field_then}
-use Rattle.reader_blobs.specs.declared.BlobField.{BlobField}
-use Rattle.reader_blobs.specs.declared.BlobField.TheVariants as blob-field
 use Rattle.reader_blobs.specs.Blobs.{blob_bytes}
 use Rattle.reader_blobs.specs.Back.{AllPublic, blob_field_back, blobs_back}
-use Rattle.reader_header.specs.declared.CipherField.{CipherField}
-use Rattle.reader_header.specs.declared.CipherField.TheVariants as cipher-field
-use Rattle.reader_header.specs.declared.KdfField.{KdfField}
-use Rattle.reader_header.specs.declared.KdfField.TheVariants as kdf-field
 use Rattle.reader_header.specs.declared.Header.{Header}
-use Rattle.reader_header.specs.declared.HeaderRead.TheVariants as header_read
 use Rattle.reader_header.specs.Place.{cipher_place_lem, kdf_place_lem, count_place_lem, keys_most}
 use Rattle.reader_header.specs.Header.{on_kdf, magic_at, cipher_at, none_at, bcrypt_at, kdf_at, keys_allowed, count_at, keys_at, second_blob, header_at}
+use Rattle.names.specs.declared.Algorithm.{Algorithm}
 
 -- the magic begins the image
 length-magic : length magic ≡ 15
@@ -40,12 +33,12 @@ magic_back : (s t : List ℕ) → s ≡ magic ++ t → FieldBack s (magic_at s) 
 unfolding magic_at
 magic_back s t e =
     let k = bytes_back s (whole s) (omega arith) magic t (rest-whole s ∙ e) in
-    let read : bytes_at s (whole s) 15 ≡ field.Part k.place k.next = rw length-magic at k.read in
+    let read : bytes_at s (whole s) 15 ≡ Ok (k.place, k.next) = rw length-magic at k.read in
     also k (rw (read, k.seen, same_self magic))
 
-record CipherBack (s : List ℕ) (w : CipherField) (cipher : Cipher) (t : List ℕ) : Type 0 where
+record CipherBack (s : List ℕ) (w : Read Cipher) (cipher : Cipher) (t : List ℕ) : Type 0 where
   pub next : Cursor
-  pub read : w ≡ cipher-field.Cipher cipher next
+  pub read : w ≡ Ok (cipher, next)
   pub good : Good s next
   pub more : rest s next ≡ t
 
@@ -61,10 +54,10 @@ cipher_back s cipher t fits e =
       more = n.more;
     }
 
-record KdfBack (s : List ℕ) (w : KdfField) (k : Kdf) (salt : List ℕ) (rounds : ℕ) (t : List ℕ) : Type 0 where
+record KdfBack (s : List ℕ) (w : Read (Kdf × Part × ℕ)) (k : Kdf) (salt : List ℕ) (rounds : ℕ) (t : List ℕ) : Type 0 where
   pub place : Part
   pub next : Cursor
-  pub read : w ≡ kdf-field.Options k place rounds next
+  pub read : w ≡ Ok ((k, place, rounds), next)
   pub seen : view_of s place ≡ salt
   pub good : Good s next
   pub more : rest s next ≡ t
@@ -120,7 +113,7 @@ kdf_options_back s c good small k salt rounds t fit e =
     after :
         (k' : Kdf) (salt' : List ℕ) (rounds' : ℕ) → OptionsFit k' salt' rounds' → (d : Cursor) → Good s d → rest s d ≡ string (options k' salt' rounds') ++ t
         → (o : KdfBack s (on_kdf k' (none_at s d) (bcrypt_at s d)) k' salt' rounds' t)
-        × (on_kdf k' (none_at s d) (bcrypt_at s d) ≡ kdf-field.Options k' o.place rounds' o.next)
+        × (on_kdf k' (none_at s d) (bcrypt_at s d) ≡ Ok ((k', o.place, rounds'), o.next))
     after kdf.None salt' rounds' fit' d good' e' =
         rw (fit'.0, fit'.1) (let o = none_back s d good' t e' in (o, o.read))
     after kdf.Bcrypt salt' rounds' fit' d good' e' =
@@ -147,11 +140,11 @@ to_end : (s : List ℕ) (c : Cursor) (t : List ℕ) → c.end ≡ length s → r
 to_end s c t end e = ap (λ (i : ℕ). slice c.at i s) (sym end) ∙ e
 
 -- the first blob and the others
-record KeysBack (s : List ℕ) (w : BlobField) (k : Key) (others : List Key) (t : List ℕ) : Type 0 where
+record KeysBack (s : List ℕ) (w : Read (Algorithm × Part × Public)) (k : Key) (others : List Key) (t : List ℕ) : Type 0 where
   pub place : Part
   pub public : Public
   pub next : Cursor
-  pub read : w ≡ blob-field.Key k.algorithm place public next
+  pub read : w ≡ Ok ((k.algorithm, place, public), next)
   pub content : view_of s place ≡ key_blob k
   pub seen : public_bytes s public ≡ k.public
   pub counted : public.bits ≡ bits k.public.modulus
@@ -191,7 +184,7 @@ keys_back s c good end small k others t fits e =
 -- the fields that a header gives back
 pub record HeaderBack (s : List ℕ) (cipher : Cipher) (k : Kdf) (salt : List ℕ) (rounds : ℕ) (key : Key) (others : List Key) (t : List ℕ) : Type 0 where
   pub fields : Header
-  pub read : header_at s ≡ header_read.Header fields
+  pub read : header_at s ≡ Ok fields
   pub same_cipher : fields.cipher ≡ cipher
   pub same_kdf : fields.kdf ≡ k
   pub same_salt : view_of s fields.salt ≡ salt

@@ -1,16 +1,15 @@
 -- Inversion: an image whose header was read begins with that header as the format writes it, and the places of its parts follow from what they
 -- hold.
-use Rattle.std.specs.Prelude.{ℕ, ◌+◌, ◌-◌, ◌≤◌, ◌≡◌, true, List, [], ◌∷◌, ◌++◌, map, length}
+use Rattle.std.specs.Prelude.{ℕ, ◌+◌, ◌-◌, ◌≤◌, ◌≡◌, true, List, [], ◌∷◌, ◌++◌, map, length, Ok, Err}
 use Rattle.std.proofs.Common.{arith, sym, ◌∙◌, ap, ap₂, append-nil}
 use Rattle.std.proofs.Math.Seq.{slice}
 use Rattle.fields.specs.Bytes.{uint32, string, join, AllBytes, length-zero}
 use Rattle.fields.specs.Fields.{absent, part, whole, within, view_of}
-use Rattle.fields.specs.Place.{clash, by_uint32, bytes_place}
+use Rattle.fields.specs.Place.{clash, by_read, bytes_place}
 use Rattle.fields.specs.Rest.{rest, rest-whole, rest-within, view_absent}
 use Rattle.fields.specs.Read.{bytes_read, string_read, uint32_read, end_read}
 use Rattle.fields.specs.declared.Cursor.{Cursor}
 use Rattle.fields.specs.declared.Part.{Part}
-use Rattle.fields.specs.declared.Uint32.TheVariants as answer
 use Rattle.names.specs.declared.Algorithm.{Algorithm}
 use Rattle.names.specs.declared.Cipher.{Cipher}
 use Rattle.names.specs.declared.Kdf.{Kdf}
@@ -21,14 +20,10 @@ use Rattle.key_public.specs.declared.Public.{Public}
 use Rattle.key_public.specs.Keys.{public_bytes}
 use Rattle.format.proofs.Laws.{header_then, blob_field_then}
 use Rattle.laws_keys.specs.Read.{public_place}
-use Rattle.reader_blobs.specs.declared.BlobField.TheVariants as blob-field
 use Rattle.reader_blobs.specs.Blobs.{blob_bytes}
 use Rattle.reader_blobs.specs.Back.{AllPublic}
 use Rattle.reader_blobs.specs.Read.{by_blob_field, blob-text, blobs_text}
-use Rattle.reader_header.specs.declared.CipherField.TheVariants as cipher-field
-use Rattle.reader_header.specs.declared.KdfField.TheVariants as kdf-field
 use Rattle.reader_header.specs.declared.Header.{Header}
-use Rattle.reader_header.specs.declared.HeaderRead.TheVariants as header_read
 use Rattle.reader_header.specs.Header.{on_kdf, cipher_at, none_at, bcrypt_at, kdf_at, keys_allowed, count_at, keys_at, second_blob, header_at}
 use Rattle.reader_header.specs.Place.{by_cipher_field, by_kdf_field, cipher_place_lem, none_place, bcrypt_place, kdf_place_lem, count_place_lem, keys_some, keys_place}
 
@@ -45,7 +40,7 @@ salt_place cipher k n = salt_from (15 + 4 + length (cipher_name cipher) + 4 + le
 
 module _ (s : List ℕ) (all : AllBytes s) where
   cipher_text :
-      (cipher : Cipher) (d : Cursor) → cipher_at s ≡ cipher-field.Cipher cipher d
+      (cipher : Cipher) (d : Cursor) → cipher_at s ≡ Ok (cipher, d)
       → (s ≡ magic ++ (string (cipher_name cipher) ++ rest s d)) × (d.at ≡ 15 + 4 + length (cipher_name cipher))
   cipher_text cipher d e =
       let p = cipher_place_lem s cipher d e in
@@ -59,7 +54,7 @@ module _ (s : List ℕ) (all : AllBytes s) where
 
   -- the options' string, and what they must be
   options-text :
-      (k : Kdf) (c : Cursor) (salt : Part) (rounds : ℕ) (d : Cursor) → on_kdf k (none_at s c) (bcrypt_at s c) ≡ kdf-field.Options k salt rounds d
+      (k : Kdf) (c : Cursor) (salt : Part) (rounds : ℕ) (d : Cursor) → on_kdf k (none_at s c) (bcrypt_at s c) ≡ Ok ((k, salt, rounds), d)
       → (rest s c ≡ string (options k (view_of s salt) rounds) ++ rest s d) × OptionsFit k (view_of s salt) rounds
       × (salt ≡ salt_from c.at k (length (view_of s salt)))
   options-text kdf.None c salt rounds d e =
@@ -80,7 +75,7 @@ module _ (s : List ℕ) (all : AllBytes s) where
       (rw inner at r.text, b.1, ap₂ part start (sym a.size))
 
   kdf_text :
-      (c : Cursor) (k : Kdf) (salt : Part) (rounds : ℕ) (d : Cursor) → kdf_at s c ≡ kdf-field.Options k salt rounds d
+      (c : Cursor) (k : Kdf) (salt : Part) (rounds : ℕ) (d : Cursor) → kdf_at s c ≡ Ok ((k, salt, rounds), d)
       → (rest s c ≡ string (kdf_name k) ++ (string (options k (view_of s salt) rounds) ++ rest s d)) × OptionsFit k (view_of s salt) rounds
       × (salt ≡ salt_from (c.at + 4 + length (kdf_name k)) k (length (view_of s salt)))
   kdf_text c k salt rounds d e =
@@ -124,8 +119,8 @@ module _ (s : List ℕ) (all : AllBytes s) where
   -- the reads, one after the other
   joined :
       (cipher : Cipher) (c : Cursor) (k : Kdf) (salt : Part) (rounds : ℕ) (d : Cursor) (n : ℕ) (e : Cursor) (a : Algorithm) (b : Part) (public : Public) (g : Cursor)
-      → cipher_at s ≡ cipher-field.Cipher cipher c → kdf_at s c ≡ kdf-field.Options k salt rounds d → count_at s d cipher ≡ answer.Value n e
-      → keys_at s e (n - 1) ≡ blob-field.Key a b public g
+      → cipher_at s ≡ Ok (cipher, c) → kdf_at s c ≡ Ok ((k, salt, rounds), d) → count_at s d cipher ≡ Ok (n, e)
+      → keys_at s e (n - 1) ≡ Ok ((a, b, public), g)
       → HeaderText
       (record { cipher = cipher; kdf = k; salt = salt; rounds = rounds; count = n; algorithm = a; blob = b; public = public; section = g.at })
   joined cipher c k salt rounds d n e a b public g p₁ p₂ p₃ p₄ =
@@ -173,27 +168,27 @@ module _ (s : List ℕ) (all : AllBytes s) where
         public_lies = t₄.lies ∙ ap (λ (i : ℕ). public_place i a (public_bytes s public)) (sym t₄.ends);
       }
 
-  pub header-text : (h : Header) → header_at s ≡ header_read.Header h → HeaderText h
+  pub header-text : (h : Header) → header_at s ≡ Ok h → HeaderText h
   unfolding header_at
   header-text h e =
       by_cipher_field (cipher_at s)
-      (λ f w. let g : header_read.Refused f ≡ header_read.Header h = rw w at e in clash cc)
+      (λ f w. let g : Err f ≡ Ok h = rw w at e in clash cc)
       (λ cipher c p₁.
       let g₁ = rw p₁ at e in
       by_kdf_field (kdf_at s c)
-      (λ f w. let g : header_read.Refused f ≡ header_read.Header h = rw w at g₁ in clash cc)
+      (λ f w. let g : Err f ≡ Ok h = rw w at g₁ in clash cc)
       (λ k salt rounds d p₂.
       let g₂ = rw p₂ at g₁ in
-      by_uint32 (count_at s d cipher)
-      (λ f w. let g : header_read.Refused f ≡ header_read.Header h = rw w at g₂ in clash cc)
+      by_read (count_at s d cipher)
+      (λ f w. let g : Err f ≡ Ok h = rw w at g₂ in clash cc)
       (λ n i p₃.
       let g₃ = rw p₃ at g₂ in
       by_blob_field (keys_at s i (n - 1))
-      (λ f w. let g : header_read.Refused f ≡ header_read.Header h = rw w at g₃ in clash cc)
+      (λ f w. let g : Err f ≡ Ok h = rw w at g₃ in clash cc)
       (λ a b public j p₄.
       let g₄ :
-      header_read.Header
+      Ok
       (record { cipher = cipher; kdf = k; salt = salt; rounds = rounds; count = n; algorithm = a; blob = b; public = public; section = j.at })
-      ≡ header_read.Header h = rw p₄ at g₃ in
+      ≡ Ok h = rw p₄ at g₃ in
       let o : record { cipher = cipher; kdf = k; salt = salt; rounds = rounds; count = n; algorithm = a; blob = b; public = public; section = j.at } ≡ h = cc in
       rw (← o) (joined cipher c k salt rounds d n i a b public j p₁ p₂ p₃ p₄)))))

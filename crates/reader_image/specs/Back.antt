@@ -1,5 +1,5 @@
 -- Reading back what the format writes gives its fields, for plain and for encrypted images.
-use Rattle.std.specs.Prelude.{ℕ, suc, ◌+◌, ◌-◌, ◌%◌, ◌≤◌, ◌<◌, ◌^◌, ◌≡◌, refl, true, false, List, [], ◌∷◌, ◌++◌, map, length, take}
+use Rattle.std.specs.Prelude.{ℕ, suc, ◌+◌, ◌-◌, ◌%◌, ◌≤◌, ◌<◌, ◌^◌, ◌≡◌, refl, true, false, List, [], ◌∷◌, ◌++◌, map, length, take, Ok}
 use Rattle.std.proofs.Common.{arith, ◌∙◌, ap, ap₂, append-nil}
 use Rattle.fields.specs.Bytes.{string}
 use Rattle.fields.specs.Fields.{view_of}
@@ -22,13 +22,12 @@ use Rattle.reader_entries.specs.Back.{KeyFits, AllFit}
 use Rattle.reader_section.specs.declared.Kind.TheVariants.{Plain, Encrypted}
 use Rattle.reader_section.specs.Back.{PlainBack, plain_back, encrypted_back}
 use Rattle.reader_image.specs.declared.Fields.{Fields}
-use Rattle.reader_image.specs.declared.ImageRead.TheVariants as read
 use Rattle.reader_image.specs.Container.{public_in, private_in, first_in, other_places, keys_in, section_at, read_at}
 
 -- what a plain image gives back
 pub record KeysImageBack (s : List ℕ) (n : ℕ) (k : Key) (others : List Key) (padding : ℕ) : Type 0 where
   pub fields : Fields
-  pub read : read_at s ≡ read.Record fields
+  pub read : read_at s ≡ Ok fields
   pub plain : fields.section.kind ≡ Plain
   pub no_cipher : fields.header.cipher ≡ cipher.None
   pub no_kdf : fields.header.kdf ≡ kdf.None
@@ -109,7 +108,7 @@ keys_image_back s n k others zeros zs small fit fits allowed e =
 -- of one key
 pub record PlainImageBack (s : List ℕ) (n : ℕ) (a : Algorithm) (key : PublicBytes) (x : PrivateBytes) (comment : List ℕ) (padding : ℕ) : Type 0 where
   pub fields : Fields
-  pub read : read_at s ≡ read.Record fields
+  pub read : read_at s ≡ Ok fields
   pub plain : fields.section.kind ≡ Plain
   pub no_cipher : fields.header.cipher ≡ cipher.None
   pub no_kdf : fields.header.kdf ≡ kdf.None
@@ -156,7 +155,7 @@ plain_image_back s n a zeros key x comment small fit fits e =
 pub record EncryptedImageBack
     (s : List ℕ) (cipher : Cipher) (k : Kdf) (salt : List ℕ) (rounds : ℕ) (a : Algorithm) (key : PublicBytes) (ciphertext tag : List ℕ) : Type 0 where
   pub fields : Fields
-  pub read : read_at s ≡ read.Record fields
+  pub read : read_at s ≡ Ok fields
   pub encrypted : fields.section.kind ≡ Encrypted
   pub same_cipher : fields.header.cipher ≡ cipher
   pub same_kdf : fields.header.kdf ≡ k

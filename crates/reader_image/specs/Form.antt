@@ -1,6 +1,6 @@
 -- docs/RULES.md, 11.1: an image is in the writer's form if writing its record with its own checkint gives it back. The writer gives the
 -- minimal mpint (10.2), and the form follows from that.
-use Rattle.std.specs.Prelude.{ℕ, ◌+◌, ◌-◌, ◌≡◌, Bool, true, false, ◌&&◌, List, [], ◌∷◌, map, length, take}
+use Rattle.std.specs.Prelude.{ℕ, ◌+◌, ◌-◌, ◌≡◌, Bool, true, false, ◌&&◌, List, [], ◌∷◌, map, length, take, Result, Ok, Err}
 use Rattle.fields.specs.Bytes.{same_bytes}
 use Rattle.fields.specs.Fields.{view_of}
 use Rattle.fields.specs.declared.Cursor.{Cursor}
@@ -18,10 +18,6 @@ use Rattle.reader_header.specs.declared.Header.{Header}
 use Rattle.reader_section.specs.declared.Kind.{Kind}
 use Rattle.reader_section.specs.declared.Kind.TheVariants.{Plain, Encrypted}
 use Rattle.reader_image.specs.declared.Fields.{Fields}
-use Rattle.reader_image.specs.declared.FormRead.{FormRead}
-use Rattle.reader_image.specs.declared.FormRead.TheVariants as form-read
-use Rattle.reader_image.specs.declared.ImageRead.{ImageRead}
-use Rattle.reader_image.specs.declared.ImageRead.TheVariants as read
 use Rattle.reader_image.specs.Container.{keys_in, on_read, read_at, section_read_at, ToldRead, told_read}
 
 abbrev pub on_kind : {R : Type 0} → Kind → R → R → R
@@ -41,31 +37,31 @@ unfoldable pub form_of : List ℕ → Fields → Bool
 form_of s f = same_bytes (rewritten s f) s
 
 -- what a read of the image answered, with the form
-abbrev pub with_form : List ℕ → ImageRead → FormRead
-with_form s r = on_read r form-read.Refused (λ f. form-read.Record f (form_of s f))
+abbrev pub with_form : List ℕ → Result Fields Fault → Result (Fields × Bool) Fault
+with_form s r = on_read r Err (λ f. Ok (f, form_of s f))
 
-unfoldable pub form_read_at : List ℕ → FormRead
+unfoldable pub form_read_at : List ℕ → Result (Fields × Bool) Fault
 form_read_at s = with_form s (read_at s)
 
-unfoldable pub section_form_at : List ℕ → Header → FormRead
+unfoldable pub section_form_at : List ℕ → Header → Result (Fields × Bool) Fault
 section_form_at s half = with_form s (section_read_at s half)
 
 -- the rules' reply, and whether the image is in the form
-abbrev pub on_form : {R : Type 0} → FormRead → (Fault → R) → (Fields → Bool → R) → R
-on_form (form-read.Refused f) refused accepted = refused f
-on_form (form-read.Record x form) refused accepted = accepted x form
+abbrev pub on_form : {R : Type 0} → Result (Fields × Bool) Fault → (Fault → R) → (Fields → Bool → R) → R
+on_form (Err f) refused accepted = refused f
+on_form (Ok (x, form)) refused accepted = accepted x form
 
-unfoldable pub told_form : FormRead → ToldRead × Bool
-told_form r = on_form r (λ f. (told_read (read.Refused f), false)) (λ x form. (told_read (read.Record x), form))
+unfoldable pub told_form : Result (Fields × Bool) Fault → ToldRead × Bool
+told_form r = on_form r (λ f. (told_read (Err f), false)) (λ x form. (told_read (Ok x), form))
 
 -- the promise of a read with the form
-abbrev AnswersThis : FormRead → FormRead → Type 0
+abbrev AnswersThis : Result (Fields × Bool) Fault → Result (Fields × Bool) Fault → Type 0
 AnswersThis w r = (r ≡ w) × (told_form r ≡ told_form w)
 
-abbrev pub AnswersForm : List ℕ → FormRead → Type 0
+abbrev pub AnswersForm : List ℕ → Result (Fields × Bool) Fault → Type 0
 AnswersForm s r = AnswersThis (form_read_at s) r
 
-abbrev pub AnswersSectionForm : List ℕ → Header → FormRead → Type 0
+abbrev pub AnswersSectionForm : List ℕ → Header → Result (Fields × Bool) Fault → Type 0
 AnswersSectionForm s half r = AnswersThis (section_form_at s half) r
 
 -- ---- the form by the scalars alone, which is what the code looks at; `form_scalar` says that it is the same

@@ -1,6 +1,6 @@
 -- The form by the scalars alone: for an accepted image, writing its record again gives it back exactly where each scalar stands by
 -- the writer's rule.
-use Rattle.std.specs.Prelude.{ℕ, suc, ◌+◌, ◌-◌, ◌≤◌, ◌<◌, ◌≡◌, refl, Bool, true, false, ◌&&◌, List, [], ◌∷◌, map, eqb, length, take, drop, get_or}
+use Rattle.std.specs.Prelude.{ℕ, suc, ◌+◌, ◌-◌, ◌≤◌, ◌<◌, ◌≡◌, refl, Bool, true, false, ◌&&◌, List, [], ◌∷◌, map, eqb, length, take, drop, get_or, Result, Ok, Err}
 use Rattle.std.proofs.Common.{arith, sym, ◌∙◌, ap, eq-eqb}
 use Rattle.fields.specs.Bytes.{AllBytes, same_bytes, same_true, same_self}
 use Rattle.fields.specs.Fields.{view_of}
@@ -27,8 +27,6 @@ use Rattle.reader_entries.specs.Read.{AllStand}
 use Rattle.reader_entries.proofs.Read.{stands_found}
 use Rattle.reader_header.specs.Header.{second_blob}
 use Rattle.reader_image.specs.declared.Fields.{Fields}
-use Rattle.reader_image.specs.declared.ImageRead.{ImageRead}
-use Rattle.reader_image.specs.declared.ImageRead.TheVariants as read
 use Rattle.reader_image.specs.Container.{other_places, keys_in, read_at}
 use Rattle.reader_image.specs.Form.{on_kind, rewritten, form_of, scalar_stands, scalar_in_form, others_in_form, scalars_in_form, record_in_form}
 use Rattle.reader_image.specs.Read.{KeysText, EncryptedText, ImageText, plain_text, encrypted_text, image_text}
@@ -171,7 +169,7 @@ scalar_encrypted s f p encrypted =
     let none : f.header.count - 1 ≡ 0 = omega (arith, p.one_key) in
     rw (encrypted, none)
 
-pub form_scalar : (s : List ℕ) → AllBytes s → (f : Fields) → read_at s ≡ read.Record f → form_of s f ≡ record_in_form s f
+pub form_scalar : (s : List ℕ) → AllBytes s → (f : Fields) → read_at s ≡ Ok f → form_of s f ≡ record_in_form s f
 form_scalar s all f e = go (image_text s all f e)
   where
     go : ImageText s all f e → form_of s f ≡ record_in_form s f
@@ -180,12 +178,12 @@ form_scalar s all f e = go (image_text s all f e)
 
 -- ---- by what a read answered
 
-pub by_read : {P : Type 0} (w : ImageRead) → ((g : Fault) → w ≡ read.Refused g → P) → ((f : Fields) → w ≡ read.Record f → P) → P
-by_read (read.Refused g) refused record' = refused g refl
-by_read (read.Record f) refused record' = record' f refl
+pub by_read : {P : Type 0} (w : Result Fields Fault) → ((g : Fault) → w ≡ Err g → P) → ((f : Fields) → w ≡ Ok f → P) → P
+by_read (Err g) refused record' = refused g refl
+by_read (Ok f) refused record' = record' f refl
 
 -- an accepted image whose record is plain
-pub keys_of : (s : List ℕ) (all : AllBytes s) (f : Fields) → read_at s ≡ read.Record f → f.section.kind ≡ Plain → KeysText s f
+pub keys_of : (s : List ℕ) (all : AllBytes s) (f : Fields) → read_at s ≡ Ok f → f.section.kind ≡ Plain → KeysText s f
 keys_of s all f e plain = go (image_text s all f e)
   where
     go : ImageText s all f e → KeysText s f

@@ -1,7 +1,7 @@
 -- Inversion: an accepted image is the join of its fields, its scalar in the form that it had, for plain and for encrypted images.
 use Prim.Native.Nat.{ℕ, suc, ◌+◌, ◌-◌, ◌≤◌, ◌<◌, ◌^◌}
 use Rattle.std.proofs.Common.{arith, ◌∙◌, length-append}
-use Rattle.std.specs.Prelude.{◌≡◌, true, false}
+use Rattle.std.specs.Prelude.{◌≡◌, true, false, Ok, Err}
 use Rattle.std.proofs.Math.Path.{refl, sym, ap, ap₂}
 use mathlib.Core.List.{List, [], ◌∷◌, ◌++◌, map, append-nil}
 use Rattle.std.proofs.Math.ListN.{length}
@@ -23,7 +23,6 @@ use Rattle.format.specs.Format.{key_blob, alone, blob, keypair, blob_fields, sta
 use Rattle.format.proofs.Lengths.{blobs_length_lem, plain_header-length}
 use Rattle.laws_keys.specs.ReadPair.{IfScalar, Begins}
 use Rattle.reader_header.specs.declared.Header.{Header}
-use Rattle.reader_header.specs.declared.HeaderRead.TheVariants as header_read
 use Rattle.reader_blobs.specs.Blobs.{blob_bytes}
 use Rattle.reader_header.specs.Header.{on_kdf, keys_allowed, header_at, second_blob}
 use Rattle.reader_header.specs.Place.{keys_sealed, keys_some, header_second}
@@ -31,7 +30,6 @@ use Rattle.reader_header.specs.Read.{HeaderText, header-text}
 use Rattle.handed_header.specs.Halves.{by_header}
 use Rattle.reader_section.specs.declared.Kind.TheVariants.{Plain, Encrypted}
 use Rattle.reader_section.specs.declared.Section.{Section}
-use Rattle.reader_section.specs.declared.SectionRead.TheVariants as section_read
 use Rattle.reader_section.specs.Section.{plain_at, encrypted_at}
 use Rattle.places.specs.Places.{places_of, within_more}
 use Rattle.reader_entries.specs.Entries.{key_read_of}
@@ -41,37 +39,36 @@ use Rattle.reader_section.specs.Read.{by_section, before_comment, PlainRead}
 use Rattle.reader_section.proofs.Read.{plain_read}
 use Rattle.reader_section.specs.ReadEncrypted.{EncryptedRead, encrypted_read}
 use Rattle.reader_image.specs.declared.Fields.{Fields}
-use Rattle.reader_image.specs.declared.ImageRead.TheVariants as read
 use Rattle.reader_image.specs.Container.{public_in, private_in, first_in, other_places, keys_in, kdf_name_place, section_at, read_at}
 use Rattle.reader_image.specs.Back.{SealFits, others_told}
 
 -- the two reads of an accepted image
-pub halves : (s : List ℕ) (f : Fields) → read_at s ≡ read.Record f → (header_at s ≡ header_read.Header f.header) × (section_at s f.header ≡ section_read.Section f.section)
+pub halves : (s : List ℕ) (f : Fields) → read_at s ≡ Ok f → (header_at s ≡ Ok f.header) × (section_at s f.header ≡ Ok f.section)
 unfolding read_at
 halves s f e =
     by_header (header_at s)
-    (λ g w. let i : read.Refused g ≡ read.Record f = rw w at e in clash cc)
+    (λ g w. let i : Err g ≡ Ok f = rw w at e in clash cc)
     (λ h w.
     let i = rw w at e in
     by_section (section_at s h)
-    (λ g v. let j : read.Refused g ≡ read.Record f = rw v at i in clash cc)
+    (λ g v. let j : Err g ≡ Ok f = rw v at i in clash cc)
     (λ x v.
-    let j : read.Record (record { header = h; section = x }) ≡ read.Record f = rw v at i in
+    let j : Ok (record { header = h; section = x }) ≡ Ok f = rw v at i in
     let o : record { header = h; section = x } ≡ f = cc in
     let oh : h ≡ f.header = ap (λ (y : Fields). y.header) o in
     let ox : x ≡ f.section = ap (λ (y : Fields). y.section) o in
-    (w ∙ ap header_read.Header oh, rw (oh, ox) at v)))
+    (w ∙ ap Ok oh, rw (oh, ox) at v)))
 
 -- its first blob lies within it
-pub first_within : (s : List ℕ) (f : Fields) → read_at s ≡ read.Record f → f.header.blob.start + f.header.blob.length ≤ length s
+pub first_within : (s : List ℕ) (f : Fields) → read_at s ≡ Ok f → f.header.blob.start + f.header.blob.length ≤ length s
 first_within s f e = (header_second s f.header (halves s f e).0).0
 
 -- an accepted section is plain where there is no cipher and no KDF, and encrypted where there is a cipher
 data Sections (s : List ℕ) (h : Header) (x : Section) : Type 0 where
-  plain : cipher.None ≡ h.cipher → kdf.None ≡ h.kdf → plain_at s (record { at = h.section; end = length s }) h.algorithm h.public (second_blob s h) (h.count - 1) ≡ section_read.Section x → Sections s h x
-  encrypted : is_none h.cipher ≡ false → encrypted_at s (record { at = h.section; end = length s }) h.cipher ≡ section_read.Section x → Sections s h x
+  plain : cipher.None ≡ h.cipher → kdf.None ≡ h.kdf → plain_at s (record { at = h.section; end = length s }) h.algorithm h.public (second_blob s h) (h.count - 1) ≡ Ok x → Sections s h x
+  encrypted : is_none h.cipher ≡ false → encrypted_at s (record { at = h.section; end = length s }) h.cipher ≡ Ok x → Sections s h x
 
-sections : (s : List ℕ) (h : Header) (x : Section) → section_at s h ≡ section_read.Section x → Sections s h x
+sections : (s : List ℕ) (h : Header) (x : Section) → section_at s h ≡ Ok x → Sections s h x
 unfolding section_at
 sections s h x e =
     by_bool (is_none h.cipher)
@@ -83,7 +80,7 @@ sections s h x e =
 
     by_kdf :
         (k : Kdf) → k ≡ h.kdf → is_none h.cipher ≡ true
-        → on_kdf k (plain_at s c h.algorithm h.public (second_blob s h) (h.count - 1)) (section_read.Refused (fault Crypto kdf_name_place)) ≡ section_read.Section x → Sections s h x
+        → on_kdf k (plain_at s c h.algorithm h.public (second_blob s h) (h.count - 1)) (Err (fault Crypto kdf_name_place)) ≡ Ok x → Sections s h x
     by_kdf kdf.None q w g = plain (none_only h.cipher w) q g
     by_kdf kdf.Bcrypt q w g = clash cc
 
@@ -153,7 +150,7 @@ first_starts :
 first_starts b first others section size ends placed =
     omega (arith, size, ends, placed, plain_header-length (first ∷ others), blobs_length_lem others)
 
-module _ (s : List ℕ) (all : AllBytes s) (f : Fields) (e : read_at s ≡ read.Record f) where
+module _ (s : List ℕ) (all : AllBytes s) (f : Fields) (e : read_at s ≡ Ok f) where
   head : HeaderText s all f.header
   head = header-text s all f.header (halves s f e).0
 

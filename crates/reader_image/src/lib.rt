@@ -2,18 +2,16 @@
 // section step. The record's fields are plain data, places in the image among them.
 #![tactic(auto)]
 
-ghost use Rattle.std.specs.Prelude.{◌≡◌, ◌+◌, ◌≤◌, ◌<◌, length, take, drop};
+ghost use Rattle.std.specs.Prelude.{◌≡◌, ◌+◌, ◌≤◌, ◌<◌, length};
 ghost use Rattle.reader_image.specs.Container.{section_at, AnswersRead, AnswersSection};
 ghost use Rattle.reader_image.specs.Form.{scalar_stands, scalar_in_form, others_in_form, scalars_in_form, record_in_form, AnswersForm, AnswersSectionForm};
-ghost use Rattle.places.specs.Places.{list_of};
 ghost use Rattle.key_pairs.specs.Pairs.{begins_before};
 
 use fields::{Cursor, Fault, Part, Refusal};
 use names::{Algorithm, Elliptic, Kdf};
 use places::Places;
-use reader_entries::KeyRead;
-use reader_header::{Header, HeaderRead};
-use reader_section::{Kind, Section, SectionRead};
+use reader_header::Header;
+use reader_section::{Kind, Section};
 
 // What an accepted image holds.
 #[derive(Clone, Copy)]
@@ -22,79 +20,54 @@ pub struct Fields {
     pub section: Section,
 }
 
-#[derive(Clone, Copy)]
-pub enum ImageRead {
-    Record(Fields),
-    Refused(Fault),
-}
-
 // The section that goes on from a header. A plain one needs the KDF `none`, whose name begins at 23 after
 // the cipher's.
-fn section_step(image: &[u8], header: Header) -> SectionRead
+#[tactic(auto, unfolding(crate::specs::Container::section_at, format::specs::Format::magic, fields::specs::Bytes::string, fields::specs::Bytes::uint32))]
+fn section_step(image: &[u8], header: Header) -> Result<Section, Fault>
     requires { (header.blob.start + header.blob.length ≤ length image.now) × (0 < header.count) }
     ensures { result ≡ section_at image.now header }
 {
-    let at = header.section;
     let end = image.len();
-    let c = Cursor { at: at, end: end };
-    let cipher = header.cipher;
-    let kdf = header.kdf;
-    let algorithm = header.algorithm;
-    let public = header.public;
-    let count = header.count;
-    let first = header.blob;
-    if cipher.is_none() {
-        match kdf {
-            Kdf::None => {
-                let second = Cursor {
-                    at: first.start + first.length,
-                    end: end,
-                };
-                return reader_section::read_plain(c, image, algorithm, public, second, count - 1);
-            }
-            Kdf::Bcrypt => {
-                return SectionRead::Refused(Fault {
-                    why: Refusal::Crypto,
-                    at: 23,
-                });
-            }
-        }
+    let c = Cursor {
+        at: header.section,
+        end,
+    };
+    if !header.cipher.is_none() {
+        return reader_section::read_encrypted(c, image, header.cipher);
     }
-    reader_section::read_encrypted(c, image, cipher)
+    match header.kdf {
+        Kdf::None => {
+            let at = header.blob.start + header.blob.length;
+            let second = Cursor { at, end };
+            let more = header.count - 1;
+            reader_section::read_plain(c, image, header.algorithm, header.public, second, more)
+        }
+        Kdf::Bcrypt => Err(Refusal::Crypto.at(23)),
+    }
 }
 
 // The full read: the header read, then the section.
-pub fn read(image: &[u8]) -> ImageRead
+#[tactic(auto, unfolding(crate::specs::Container::read_at))]
+pub fn read(image: &[u8]) -> Result<Fields, Fault>
     ensures { AnswersRead image.now result }
 {
-    match reader_header::read_header(image) {
-        HeaderRead::Refused(f) => ImageRead::Refused(f),
-        HeaderRead::Header(h) => match section_step(image, h) {
-            SectionRead::Refused(f) => ImageRead::Refused(f),
-            SectionRead::Section(x) => ImageRead::Record(Fields {
-                header: h,
-                section: x,
-            }),
-        },
-    }
+    let header = reader_header::read_header(image)?;
+    let section = section_step(image, header)?;
+    Ok(Fields { header, section })
 }
 
 // The section read. The half is judged first, by a header read of the image.
-pub fn read_section(image: &[u8], half: Header) -> ImageRead
+#[tactic(auto, unfolding(crate::specs::Container::section_read_at))]
+pub fn read_section(image: &[u8], half: Header) -> Result<Fields, Fault>
     ensures { AnswersSection image.now half result }
 {
-    if handed_header::is_header(image, half) {
-        return match section_step(image, half) {
-            SectionRead::Refused(f) => ImageRead::Refused(f),
-            SectionRead::Section(x) => ImageRead::Record(Fields {
-                header: half,
-                section: x,
-            }),
-        };
+    if !handed_header::is_header(image, half) {
+        return Err(Refusal::Length.at(0));
     }
-    ImageRead::Refused(Fault {
-        why: Refusal::Length,
-        at: 0,
+    let section = section_step(image, half)?;
+    Ok(Fields {
+        header: half,
+        section,
     })
 }
 
@@ -103,19 +76,18 @@ fn begins_before(image: &[u8], part: Part, zeros: usize) -> bool
     requires { zeros < 2 }
     ensures { result ≡ begins_before image.now part zeros }
 {
-    let start = part.start;
-    let length = part.length;
-    if start <= zeros {
+    if part.start <= zeros {
         return false;
     }
-    let last = fields::byte(image, start - (zeros + 1)) as usize;
+    let last = fields::byte(image, part.start - (zeros + 1)) as usize;
     if last < zeros {
         return false;
     }
-    last - zeros == length
+    last - zeros == part.length
 }
 
 // Does a scalar stand as the writer would write it? A seed always does.
+#[tactic(auto, unfolding(crate::specs::Form::scalar_stands))]
 fn scalar_stands(image: &[u8], e: Elliptic, scalar: Part) -> bool
     ensures { result ≡ scalar_stands image.now e scalar }
 {
@@ -132,6 +104,7 @@ fn scalar_stands(image: &[u8], e: Elliptic, scalar: Part) -> bool
 
 // Does it stand so, in a section of this kind and of a key of this algorithm? RSA has none, and of an encrypted image none is
 // known.
+#[tactic(auto, unfolding(crate::specs::Form::scalar_in_form))]
 fn scalar_in_form(image: &[u8], kind: Kind, algorithm: Algorithm, scalar: Part) -> bool
     ensures { result ≡ scalar_in_form image.now kind algorithm scalar }
 {
@@ -144,30 +117,26 @@ fn scalar_in_form(image: &[u8], kind: Kind, algorithm: Algorithm, scalar: Part) 
     }
 }
 
-// Do the scalars of so many keys stand so, whose places are from `index` on and whose blobs from b on?
-fn others_in_form(image: &[u8], b: Cursor, places: Places, index: usize, remaining: usize) -> bool
-    requires { index + remaining ≤ 16 }
-    ensures { result ≡ others_in_form image.now b (take remaining (drop index (list_of places))) }
+// Do the scalars of keys stand so that begin at these places, their blobs from b on?
+fn others_in_form(image: &[u8], b: Cursor, places: &[u16]) -> bool
+    ensures { result ≡ others_in_form image.now b places.now }
 {
-    if remaining == 0 {
-        return true;
-    }
-    let at = places.get(index) as usize;
-    match reader_entries::read_key(b, image, at) {
-        KeyRead::Nothing => false,
-        KeyRead::Key(k, d) => {
-            let algorithm = k.algorithm;
-            let private = k.private;
-            if !scalar_in_form(image, Kind::Plain, algorithm, private.scalar) {
-                return false;
-            }
-            others_in_form(image, d, places, index + 1, remaining - 1)
+    let mut blob = b;
+    for at in places {
+        let Some((key, next)) = reader_entries::read_key(blob, image, *at as usize) else {
+            return false;
+        };
+        if !scalar_in_form(image, Kind::Plain, key.algorithm, key.private.scalar) {
+            return false;
         }
+        blob = next;
     }
+    true
 }
 
 // Do all scalars of a record stand so, the first key's and those of the others, whose blobs are from `second` on? Of an
 // image's own record, that is whether the image is in the writer's form.
+#[tactic(auto, unfolding(crate::specs::Form::scalars_in_form), using(places::specs::Places::others_listed))]
 pub fn scalars_in_form(
     image: &[u8],
     kind: Kind,
@@ -189,10 +158,7 @@ pub fn scalars_in_form(
         at: second,
         end: image.len(),
     };
-    if 16 < count {
-        return others_in_form(image, b, places, 1, 15);
-    }
-    others_in_form(image, b, places, 1, count - 1)
+    others_in_form(image, b, &places.all[1..][..(count - 1).min(15)])
 }
 
 // The same of a record. With one key its places aren't looked at, nor copied.
@@ -200,51 +166,36 @@ fn record_in_form(image: &[u8], f: Fields) -> bool
     requires { f.header.blob.start + f.header.blob.length ≤ length image.now }
     ensures { result ≡ record_in_form image.now f }
 {
-    let header = f.header;
-    let section = f.section;
-    let private = section.private;
-    let kind = section.kind;
-    let algorithm = header.algorithm;
-    let count = header.count;
-    if count < 2 {
-        return scalar_in_form(image, kind, algorithm, private.scalar);
+    let Fields { header, section } = f;
+    let scalar = section.private.scalar;
+    if header.count < 2 {
+        return scalar_in_form(image, section.kind, header.algorithm, scalar);
     }
-    let first = header.blob;
-    let second = first.start + first.length;
-    let places = section.places;
     scalars_in_form(
         image,
-        kind,
-        algorithm,
-        private.scalar,
-        second,
-        count,
-        places,
+        section.kind,
+        header.algorithm,
+        scalar,
+        header.blob.start + header.blob.length,
+        header.count,
+        section.places,
     )
 }
 
-#[derive(Clone, Copy)]
-pub enum FormRead {
-    Record(Fields, bool),
-    Refused(Fault),
-}
-
 // The full read, and whether the image is in the writer's form.
-pub fn read_with_form(image: &[u8]) -> FormRead
+#[tactic(auto, unfolding(crate::specs::Form::form_read_at))]
+pub fn read_with_form(image: &[u8]) -> Result<(Fields, bool), Fault>
     ensures { AnswersForm image.now result }
 {
-    match read(image) {
-        ImageRead::Refused(f) => FormRead::Refused(f),
-        ImageRead::Record(fields) => FormRead::Record(fields, record_in_form(image, fields)),
-    }
+    let fields = read(image)?;
+    Ok((fields, record_in_form(image, fields)))
 }
 
 // The section read, and whether the image is in the writer's form.
-pub fn read_section_with_form(image: &[u8], half: Header) -> FormRead
+#[tactic(auto, unfolding(crate::specs::Form::section_form_at))]
+pub fn read_section_with_form(image: &[u8], half: Header) -> Result<(Fields, bool), Fault>
     ensures { AnswersSectionForm image.now half result }
 {
-    match read_section(image, half) {
-        ImageRead::Refused(f) => FormRead::Refused(f),
-        ImageRead::Record(fields) => FormRead::Record(fields, record_in_form(image, fields)),
-    }
+    let fields = read_section(image, half)?;
+    Ok((fields, record_in_form(image, fields)))
 }

@@ -2,7 +2,7 @@
 -- place, with the blob of its number.
 use Prim.Native.Nat.{ℕ, zero, suc, ◌+◌, ◌-◌, ◌≤◌, ◌<◌}
 use native.Mathlib.Omega.{arith}
-use Rattle.std.specs.Prelude.{◌≡◌, refl, take, get_or}
+use Rattle.std.specs.Prelude.{◌≡◌, refl, take, get_or, Ok, Some}
 use Rattle.std.proofs.Math.Path.{sym, ap}
 use Rattle.std.proofs.Common.{◌∙◌, length-take, get_or-take}
 use mathlib.Core.List.{List, [], ◌∷◌, map}
@@ -16,12 +16,11 @@ use Rattle.format.specs.Format.{Key, key_of, key_blob, entry, standing_entry, st
 use Rattle.format.specs.Lengths.{blobs_length, entries_length}
 use Rattle.key_public.specs.Keys.{public_bytes}
 use Rattle.key_pairs.specs.Pairs.{private_bytes}
-use Rattle.reader_blobs.specs.declared.Blobs.TheVariants as blobs
 use Rattle.reader_blobs.specs.Blobs.{blobs_at}
+use Rattle.std.proofs.lemmas.Grind.{get_or_after_one}
 use Rattle.places.specs.declared.Places.{Places}
 use Rattle.places.specs.Places.{list_of, kept_place, after_first}
 use Rattle.reader_entries.specs.declared.KeyFields.{KeyFields}
-use Rattle.reader_entries.specs.declared.KeyRead.TheVariants as key_read
 use Rattle.reader_entries.specs.Entries.{no_key, key_read_of, key_placed}
 use Rattle.reader_entries.specs.Read.{KeyStands, AllStand, found_key}
 use Rattle.reader_entries.proofs.Read.{stands_found}
@@ -29,7 +28,6 @@ use Rattle.reader_header.specs.Header.{second_blob}
 use Rattle.reader_image.specs.declared.Fields.{Fields}
 use Rattle.reader_image.specs.Container.{first_in, other_places, keys_in}
 use Rattle.reader_image.specs.Read.{KeysText}
-use Rattle.reader_keys.specs.declared.Looked.TheVariants as looked
 use Rattle.reader_keys.specs.Keys.{place_of, first_fields, other_key, key_numbered}
 
 -- the key that a key's fields tell
@@ -86,8 +84,8 @@ module _ (s : List ℕ) (all : AllBytes s) where
     pub fields : KeyFields
     pub blob : Cursor
     pub after : Cursor
-    pub blob_read : blobs_at s b i ≡ blobs.After blob
-    pub key_read : key_placed s blob (get_or l i 0) ≡ key_read.Key fields after
+    pub blob_read : blobs_at s b i ≡ Ok blob
+    pub key_read : key_placed s blob (get_or l i 0) ≡ Some (fields, after)
     pub lies : Lies s (map (key_read_of s) l) zs b.at c.at i fields
 
   nth_first :
@@ -137,7 +135,7 @@ module _ (s : List ℕ) (all : AllBytes s) where
 
 pub record KeyLies (s : List ℕ) (f : Fields) (p : KeysText s f) (k : ℕ) : Type 0 where
   pub fields : KeyFields
-  pub looked : key_numbered s f k ≡ looked.Key fields
+  pub looked : key_numbered s f k ≡ Some fields
   pub lies : Lies s (keys_in s f) (p.zeros ∷ p.more_zeros) 39 (f.header.section + 12) (k - 1) fields
 
 module _ (s : List ℕ) (f : Fields) (p : KeysText s f) where
@@ -165,8 +163,9 @@ module _ (s : List ℕ) (f : Fields) (p : KeysText s f) where
   other_place : (i : ℕ) → i < length (other_places f) → place_of f (suc (suc i)) ≡ get_or (other_places f) i 0
   other_place i h =
       let few : i < f.header.count - 1 = omega (arith, h, length-take (f.header.count - 1) (after_first f.section.places)) in
-      let less : suc (suc i) - 1 ≡ suc i = omega arith in
-      ap (λ (j : ℕ). get_or (list_of f.section.places) j 0) less ∙ sym (get_or-take (f.header.count - 1) (after_first f.section.places) i 0 few)
+      let less : suc (suc i) - 1 ≡ 1 + i = omega arith in
+      ap (λ (j : ℕ). get_or (list_of f.section.places) j 0) less ∙ sym (get_or_after_one (list_of f.section.places) i 0)
+      ∙ sym (get_or-take (f.header.count - 1) (after_first f.section.places) i 0 few)
 
   other_known : (i : ℕ) → i < length (other_places f) → KeyLies s f p (suc (suc i))
   unfolding key_numbered other_key keys_in

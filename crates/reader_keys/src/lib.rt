@@ -6,80 +6,52 @@ ghost use Rattle.std.specs.Prelude.{◌≡◌};
 ghost use Rattle.reader_keys.specs.Keys.{first_fields, other_key, key_numbered};
 
 use fields::{Cursor, Part};
-use reader_blobs::Blobs;
-use reader_entries::{KeyFields, KeyRead};
+use reader_entries::KeyFields;
 use reader_image::Fields;
-
-#[derive(Clone, Copy)]
-pub enum Looked {
-    Key(KeyFields),
-    Nothing,
-}
 
 fn first_key(f: Fields) -> KeyFields
     ensures { result ≡ first_fields f }
 {
-    let header = f.header;
-    let section = f.section;
-    let places = section.places;
-    let algorithm = header.algorithm;
-    let blob = header.blob;
-    let public = header.public;
-    let private = section.private;
-    let comment = section.comment;
+    let Fields { header, section } = f;
     KeyFields {
-        algorithm: algorithm,
-        blob: blob,
-        public: public,
-        begins: places.get(0) as usize,
-        private: private,
-        comment: comment,
+        algorithm: header.algorithm,
+        blob: header.blob,
+        public: header.public,
+        begins: section.places.get(0) as usize,
+        private: section.private,
+        comment: section.comment,
     }
 }
 
 // A key after the first: so many blobs stand between the first one's and its own, and its keypair begins at a place.
-fn other_key(image: &[u8], first: Part, between: usize, at: usize) -> Looked
+#[tactic(auto, unfolding(crate::specs::Keys::other_key))]
+fn other_key(image: &[u8], first: Part, between: usize, at: usize) -> Option<KeyFields>
     ensures { result ≡ other_key image.now first between at }
 {
-    let start = first.start;
-    let length = first.length;
-    if image.len() < start {
-        return Looked::Nothing;
-    }
-    if image.len() - start < length {
-        return Looked::Nothing;
+    let Part { start, length } = first;
+    if image.len() < start || image.len() - start < length {
+        return None;
     }
     let second = Cursor {
         at: start + length,
         end: image.len(),
     };
-    match reader_blobs::read_blobs(second, image, between) {
-        Blobs::Refused(_) => Looked::Nothing,
-        Blobs::After(b) => match reader_entries::read_key(b, image, at) {
-            KeyRead::Nothing => Looked::Nothing,
-            KeyRead::Key(key, _) => Looked::Key(key),
-        },
-    }
+    let blob = reader_blobs::read_blobs(second, image, between).ok()?;
+    let (key, _) = reader_entries::read_key(blob, image, at)?;
+    Some(key)
 }
 
 // Key k of a record. Keys count from 1.
-pub fn key_of(image: &[u8], f: Fields, k: usize) -> Looked
+#[tactic(auto, unfolding(crate::specs::Keys::key_numbered))]
+pub fn key_of(image: &[u8], f: Fields, k: usize) -> Option<KeyFields>
     ensures { result ≡ key_numbered image.now f k }
 {
-    let header = f.header;
-    let section = f.section;
-    let first = header.blob;
-    let places = section.places;
-    let count = header.count;
-    if k == 0 {
-        return Looked::Nothing;
-    }
-    if count < k {
-        return Looked::Nothing;
+    if k == 0 || f.header.count < k {
+        return None;
     }
     if k == 1 {
-        return Looked::Key(first_key(f));
+        return Some(first_key(f));
     }
-    let at = places.get(k - 1) as usize;
-    other_key(image, first, k - 2, at)
+    let at = f.section.places.get(k - 1) as usize;
+    other_key(image, f.header.blob, k - 2, at)
 }

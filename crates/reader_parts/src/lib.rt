@@ -6,6 +6,7 @@ ghost use Rattle.std.specs.Prelude.{◌≡◌};
 ghost use Rattle.fields.specs.Fields.{IsView};
 ghost use Rattle.reader_parts.specs.Parts.{place_of};
 
+use fields::Part;
 use reader_image::Fields;
 
 // Which part of a record: the blob's fields, the section's, and an RSA key's six numbers.
@@ -26,27 +27,23 @@ pub enum Which {
     Q,
 }
 
-fn place(f: Fields, which: Which) -> fields::Part
+fn place(f: Fields, which: Which) -> Part
     ensures { result ≡ place_of which f }
 {
-    let header = f.header;
-    let public = header.public;
-    let section = f.section;
-    let private = section.private;
     match which {
-        Which::Blob => header.blob,
-        Which::Point => public.point,
-        Which::Salt => header.salt,
-        Which::Scalar => private.scalar,
-        Which::Comment => section.comment,
-        Which::Ciphertext => section.ciphertext,
-        Which::Tag => section.tag,
-        Which::Modulus => public.modulus,
-        Which::Exponent => public.exponent,
-        Which::D => private.d,
-        Which::Iqmp => private.iqmp,
-        Which::P => private.p,
-        Which::Q => private.q,
+        Which::Blob => f.header.blob,
+        Which::Point => f.header.public.point,
+        Which::Salt => f.header.salt,
+        Which::Scalar => f.section.private.scalar,
+        Which::Comment => f.section.comment,
+        Which::Ciphertext => f.section.ciphertext,
+        Which::Tag => f.section.tag,
+        Which::Modulus => f.header.public.modulus,
+        Which::Exponent => f.header.public.exponent,
+        Which::D => f.section.private.d,
+        Which::Iqmp => f.section.private.iqmp,
+        Which::P => f.section.private.p,
+        Which::Q => f.section.private.q,
     }
 }
 
@@ -59,6 +56,5 @@ pub fn part(image: &[u8], f: Fields, which: Which) -> &[u8]
 pub fn comment(image: &[u8], f: Fields) -> &[u8]
     ensures { IsView result image.entry f.section.comment }
 {
-    let section = f.section;
-    fields::view(image, section.comment)
+    fields::view(image, f.section.comment)
 }

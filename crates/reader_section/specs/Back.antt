@@ -1,5 +1,5 @@
 -- Reading back: a section that ends an image as the format writes it is read, with its fields.
-use Rattle.std.specs.Prelude.{ℕ, ◌+◌, ◌-◌, ◌%◌, ◌≤◌, ◌<◌, ◌^◌, ◌≡◌, refl, eqb}
+use Rattle.std.specs.Prelude.{ℕ, ◌+◌, ◌-◌, ◌%◌, ◌≤◌, ◌<◌, ◌^◌, ◌≡◌, refl, eqb, Result, Ok, Err}
 use native.Mathlib.Omega.{arith}
 use Rattle.std.proofs.Math.Path.{sym, ap}
 use Rattle.std.proofs.Common.{◌∙◌, eq-eqb, eqb-true, lt-ltb}
@@ -9,13 +9,11 @@ use Rattle.std.proofs.Math.Seq.{slice, length-slice}
 use Rattle.fields.specs.Bytes.{uint32, string, join, same_self, length-zero}
 use Rattle.fields.specs.Fields.{part, within, uint32_at, view_of}
 use Rattle.fields.specs.Room.{view_in}
-use Rattle.fields.specs.Place.{clash, by_bool, by_uint32, uint32_place, string_place}
+use Rattle.fields.specs.Place.{clash, by_bool, by_read, uint32_place, string_place, same_read}
 use Rattle.fields.specs.Rest.{rest, Good, rest-within, view_absent}
 use Rattle.fields.specs.Back.{Uint32Back, short_of, bytes_back, string_back, uint32_back, end_back}
 use Rattle.fields.specs.declared.Cursor.{Cursor}
 use Rattle.fields.specs.declared.Part.{Part}
-use Rattle.fields.specs.declared.Ending.TheVariants as ending
-use Rattle.fields.specs.declared.Uint32.TheVariants as uint32_read
 use Rattle.names.specs.declared.Cipher.{Cipher}
 use Rattle.names.specs.Ciphers.{block_size, tag_length}
 use Rattle.format.specs.Format.{Key, Entry, key_blob, blob_fields, entry_fields, standing_entries, content, section, padding_length, padding_bytes}
@@ -29,9 +27,8 @@ use Rattle.reader_entries.specs.Back.{AllFit}
 use Rattle.reader_entries.proofs.Back.{keys_back}
 use Rattle.reader_section.specs.declared.Kind.TheVariants.{Plain, Encrypted}
 use Rattle.reader_section.specs.declared.Section.{Section}
-use Rattle.reader_section.specs.declared.SectionRead.{SectionRead}
-use Rattle.reader_section.specs.declared.SectionRead.TheVariants as section_read
 use Rattle.reader_section.specs.Section.{checkints_at, padding_at, plain_of, closed_at, content_at, ended_at, plain_at, encrypted_of, present_of, encrypted_at}
+use Rattle.fields.specs.declared.Fault.{Fault}
 
 pub checkints_back : (s : List ℕ) (c : Cursor) → Good s c → (n : ℕ) (t : List ℕ) → n < 2 ^ 32 → rest s c ≡ uint32 n ++ (uint32 n ++ t) → Uint32Back s (checkints_at s c) n t
 unfolding checkints_at
@@ -45,21 +42,21 @@ checkints_back s c good n t fits e =
       more = b.more;
     }
 
-checkints_end : (s : List ℕ) (c : Cursor) (n : ℕ) (d : Cursor) → checkints_at s c ≡ uint32_read.Value n d → d.end ≡ c.end
+checkints_end : (s : List ℕ) (c : Cursor) (n : ℕ) (d : Cursor) → checkints_at s c ≡ Ok (n, d) → d.end ≡ c.end
 unfolding checkints_at
 checkints_end s c n d e =
-    by_uint32 (uint32_at s c)
-    (λ f w. let g : uint32_read.Refused f ≡ uint32_read.Value n d = rw w at e in clash cc)
+    by_read (uint32_at s c)
+    (λ f w. let g : Err f ≡ Ok (n, d) = rw w at e in clash cc)
     (λ a b w.
     let g = rw w at e in
-    by_uint32 (uint32_at s b)
-    (λ f v. let h : uint32_read.Refused f ≡ uint32_read.Value n d = rw v at g in clash cc)
+    by_read (uint32_at s b)
+    (λ f v. let h : Err f ≡ Ok (n, d) = rw v at g in clash cc)
     (λ m x v.
     let h = rw v at g in
     by_bool (eqb m a)
     (λ u.
-    let i : uint32_read.Value a x ≡ uint32_read.Value n d = rw u at h in
-    let last : x ≡ d = cc in
+    let i : Ok (a, x) ≡ Ok (n, d) = rw u at h in
+    let last : x ≡ d = (same_read i).1 in
     ap (λ (y : Cursor). y.end) (sym last) ∙ (uint32_place s b m x v).end ∙ (uint32_place s c a b w).end)
     (λ u. let i = rw u at h in clash cc)))
 
@@ -70,7 +67,7 @@ rest_padding s c good =
     view_in s (part c.at (c.end - c.at)) (omega arith) ∙ ap (λ (e : ℕ). slice c.at e s) ends
 
 padding_back :
-    (s : List ℕ) (c : Cursor) → Good s c → (n : ℕ) → rest s c ≡ take (padding_length n) padding_bytes → (padding_at s c ≡ ending.Clean) × (c.end - c.at ≡ padding_length n)
+    (s : List ℕ) (c : Cursor) → Good s c → (n : ℕ) → rest s c ≡ take (padding_length n) padding_bytes → (padding_at s c ≡ Ok tt) × (c.end - c.at ≡ padding_length n)
 unfolding padding_at
 padding_back s c good n e =
     let left : c.end - c.at ≡ padding_length n = sym (length-slice c.at c.end s good.1) ∙ ap length e ∙ padding_length_lem n in
@@ -78,11 +75,11 @@ padding_back s c good n e =
     (rw (seen, left, lt-ltb (padding_length n) 8 (omega arith), same_self (take (padding_length n) padding_bytes)), left)
 
 -- what a plain section gives back: the first key's fields, and where the others begin
-pub record PlainBack (s : List ℕ) (w : SectionRead) (n : ℕ) (k : Key) (others : List Key) (padding : ℕ) : Type 0 where
+pub record PlainBack (s : List ℕ) (w : Result Section Fault) (n : ℕ) (k : Key) (others : List Key) (padding : ℕ) : Type 0 where
   pub fields : Section
   pub first : ℕ
   pub places : List ℕ
-  pub read : w ≡ section_read.Section fields
+  pub read : w ≡ Ok fields
   pub plain : fields.kind ≡ Plain
   pub same_checkint : fields.checkint ≡ n
   pub same_private : private_bytes s fields.private ≡ k.private
@@ -177,9 +174,9 @@ present_size p n l =
     (λ v. rw v l)
 
 -- what an encrypted section gives back
-pub record EncryptedBack (s : List ℕ) (w : SectionRead) (ciphertext tag : List ℕ) : Type 0 where
+pub record EncryptedBack (s : List ℕ) (w : Result Section Fault) (ciphertext tag : List ℕ) : Type 0 where
   pub fields : Section
-  pub read : w ≡ section_read.Section fields
+  pub read : w ≡ Ok fields
   pub encrypted : fields.kind ≡ Encrypted
   pub same_ciphertext : view_of s fields.ciphertext ≡ ciphertext
   pub same_tag : view_of s fields.tag ≡ tag

@@ -1,5 +1,5 @@
 -- Inversion: a plain section that was read ends the image as the format writes it, each scalar in the form that it had.
-use Rattle.std.specs.Prelude.{ℕ, ◌+◌, ◌-◌, ◌%◌, ◌≤◌, ◌<◌, ◌^◌, ◌≡◌, refl, eqb, ltb}
+use Rattle.std.specs.Prelude.{ℕ, ◌+◌, ◌-◌, ◌%◌, ◌≤◌, ◌<◌, ◌^◌, ◌≡◌, refl, eqb, ltb, Result, Ok, Err}
 use Rattle.std.proofs.Common.{arith, ◌∙◌, length-take-le}
 use Rattle.std.proofs.Math.Path.{sym, ap}
 use mathlib.Core.List.{List, ◌∷◌, ◌++◌, map, append-nil}
@@ -8,13 +8,11 @@ use Rattle.std.proofs.Math.ListN.{length, take, length-append}
 use Rattle.std.proofs.Math.Seq.{length-slice}
 use Rattle.fields.specs.Bytes.{uint32, string, join, AllBytes, same_bytes, same_true}
 use Rattle.fields.specs.Fields.{part, within, uint32_at, string_at, end_at, view_of}
-use Rattle.fields.specs.Place.{clash, by_field, by_uint32, by_ending, by_bool, uint32_place}
+use Rattle.fields.specs.Place.{clash, by_read, by_tested, by_bool, uint32_place, same_read}
 use Rattle.fields.specs.Rest.{rest, Good, rest-within}
 use Rattle.fields.specs.Read.{uint32_read, string_read, end_read}
 use Rattle.fields.specs.declared.Cursor.{Cursor}
 use Rattle.fields.specs.declared.Fault.{Fault}
-use Rattle.fields.specs.declared.Uint32.TheVariants as answer
-use Rattle.fields.specs.declared.Ending.TheVariants as ending
 use Rattle.names.specs.declared.Algorithm.{Algorithm}
 use Rattle.format.specs.Format.{Key, Entry, key_blob, keypair as pair, entry_fields, standing_entries, content, section, padding_length, padding_bytes}
 use Rattle.key_public.specs.declared.Public.{Public}
@@ -30,22 +28,20 @@ use Rattle.reader_entries.specs.Read.{first_key, AllStand}
 use Rattle.reader_entries.proofs.Read.{by_keys, keys_read}
 use Rattle.reader_section.specs.declared.Kind.TheVariants.{Plain}
 use Rattle.reader_section.specs.declared.Section.{Section}
-use Rattle.reader_section.specs.declared.SectionRead.{SectionRead}
-use Rattle.reader_section.specs.declared.SectionRead.TheVariants as section_read
 use Rattle.reader_section.specs.Section.{checkints_at, padding_at, plain_of, closed_at, content_at, ended_at, plain_at}
 use Rattle.reader_section.specs.Back.{rest_padding}
 
 -- by cases, with the equation in hand
-pub by_section : {P : Type 0} (w : SectionRead) → ((f : Fault) → w ≡ section_read.Refused f → P) → ((x : Section) → w ≡ section_read.Section x → P) → P
-by_section (section_read.Refused f) refused read = refused f refl
-by_section (section_read.Section x) refused read = read x refl
+pub by_section : {P : Type 0} (w : Result Section Fault) → ((f : Fault) → w ≡ Err f → P) → ((x : Section) → w ≡ Ok x → P) → P
+by_section (Err f) refused read = refused f refl
+by_section (Ok x) refused read = read x refl
 
 -- how many bytes stand before the comment's string in a section
 abbrev pub before_comment : List ℕ → ℕ
 before_comment pair = 8 + length pair
 
 -- a padding that was read
-pub padding_read : (s : List ℕ) (c : Cursor) → Good s c → padding_at s c ≡ ending.Clean → (rest s c ≡ take (c.end - c.at) padding_bytes) × (c.end - c.at < 8)
+pub padding_read : (s : List ℕ) (c : Cursor) → Good s c → padding_at s c ≡ Ok tt → (rest s c ≡ take (c.end - c.at) padding_bytes) × (c.end - c.at < 8)
 unfolding padding_at
 padding_read s c good e =
     by_bool (ltb (c.end - c.at) 8)
@@ -58,24 +54,24 @@ padding_read s c good e =
 
 module _ (s : List ℕ) (all : AllBytes s) where
   pub checkints_read :
-      (c : Cursor) (n : ℕ) (d : Cursor) → checkints_at s c ≡ answer.Value n d → (rest s c ≡ uint32 n ++ (uint32 n ++ rest s d)) × (n < 2 ^ 32)
+      (c : Cursor) (n : ℕ) (d : Cursor) → checkints_at s c ≡ Ok (n, d) → (rest s c ≡ uint32 n ++ (uint32 n ++ rest s d)) × (n < 2 ^ 32)
       × (d.at ≡ c.at + 8) × (d.end ≡ c.end)
   unfolding checkints_at
   checkints_read c n d e =
-      by_uint32 (uint32_at s c)
-      (λ f w. let g : answer.Refused f ≡ answer.Value n d = rw w at e in clash cc)
+      by_read (uint32_at s c)
+      (λ f w. let g : Err f ≡ Ok (n, d) = rw w at e in clash cc)
       (λ a b w.
       let g = rw w at e in
-      by_uint32 (uint32_at s b)
-      (λ f v. let h : answer.Refused f ≡ answer.Value n d = rw v at g in clash cc)
+      by_read (uint32_at s b)
+      (λ f v. let h : Err f ≡ Ok (n, d) = rw v at g in clash cc)
       (λ m x v.
       let h = rw v at g in
       by_bool (eqb m a)
       (λ u.
-      let i : answer.Value a x ≡ answer.Value n d = rw u at h in
+      let i : Ok (a, x) ≡ Ok (n, d) = rw u at h in
       let same : m ≡ a = eqb-true m a u in
-      let o : a ≡ n = cc in
-      let j : x ≡ d = cc in
+      let o : a ≡ n = (same_read i).0 in
+      let j : x ≡ d = (same_read i).1 in
       let p₁ = uint32_place s c a b w in
       let p₂ = uint32_place s b m x v in
       let r₁ = uint32_read s all c n b (rw o at w) in

@@ -1,5 +1,5 @@
 -- Inversion: an encrypted section that was read ends the image as the format writes it.
-use Rattle.std.specs.Prelude.{ℕ, ◌+◌, ◌-◌, ◌%◌, ◌≡◌, eqb}
+use Rattle.std.specs.Prelude.{ℕ, ◌+◌, ◌-◌, ◌%◌, ◌≡◌, eqb, Ok, Err}
 use Rattle.std.proofs.Common.{arith, ◌∙◌}
 use Rattle.std.proofs.Math.Path.{refl, sym, ap}
 use mathlib.Core.List.{List, ◌++◌, append-nil}
@@ -7,7 +7,7 @@ use borrow.Author.Tests.{eqb-true}
 use Rattle.std.proofs.Math.ListN.{length}
 use Rattle.fields.specs.Bytes.{string, AllBytes}
 use Rattle.fields.specs.Fields.{bytes_at, string_at, end_at, view_of}
-use Rattle.fields.specs.Place.{clash, by_field, by_ending, by_bool, bytes_place}
+use Rattle.fields.specs.Place.{clash, by_read, by_tested, by_bool, bytes_place}
 use Rattle.fields.specs.Rest.{rest, view_length}
 use Rattle.fields.specs.Read.{bytes_read, string_read, end_read}
 use Rattle.fields.specs.declared.Cursor.{Cursor}
@@ -15,7 +15,6 @@ use Rattle.names.specs.declared.Cipher.{Cipher}
 use Rattle.names.specs.Ciphers.{block_size, tag_length}
 use Rattle.reader_section.specs.declared.Kind.TheVariants.{Encrypted}
 use Rattle.reader_section.specs.declared.Section.{Section}
-use Rattle.reader_section.specs.declared.SectionRead.TheVariants as section_read
 use Rattle.reader_section.specs.Section.{encrypted_of, present_of, encrypted_at}
 use Rattle.reader_section.specs.Back.{present_seen}
 
@@ -27,24 +26,24 @@ module _ (s : List ℕ) (all : AllBytes s) where
     pub blocks : length (view_of s x.ciphertext) % block_size cipher ≡ 0
     pub long : length (view_of s x.tag) ≡ tag_length cipher
 
-  pub encrypted_read : (c : Cursor) (cipher : Cipher) (x : Section) → encrypted_at s c cipher ≡ section_read.Section x → EncryptedRead c cipher x
+  pub encrypted_read : (c : Cursor) (cipher : Cipher) (x : Section) → encrypted_at s c cipher ≡ Ok x → EncryptedRead c cipher x
   unfolding encrypted_at
   encrypted_read c cipher x e =
-      by_field (string_at s c)
-      (λ f w. let g : section_read.Refused f ≡ section_read.Section x = rw w at e in clash cc)
+      by_read (string_at s c)
+      (λ f w. let g : Err f ≡ Ok x = rw w at e in clash cc)
       (λ p d w.
       let g = rw w at e in
       by_bool (eqb (p.length % block_size cipher) 0)
       (λ v.
       let h = rw v at g in
-      by_field (bytes_at s d (tag_length cipher))
-      (λ f u. let i : section_read.Refused f ≡ section_read.Section x = rw u at h in clash cc)
+      by_read (bytes_at s d (tag_length cipher))
+      (λ f u. let i : Err f ≡ Ok x = rw u at h in clash cc)
       (λ t b u.
       let i = rw u at h in
-      by_ending (end_at b)
-      (λ f r. let k : section_read.Refused f ≡ section_read.Section x = rw r at i in clash cc)
+      by_tested (end_at b)
+      (λ f r. let k : Err f ≡ Ok x = rw r at i in clash cc)
       (λ r.
-      let k : section_read.Section (encrypted_of p (present_of t)) ≡ section_read.Section x = rw r at i in
+      let k : Ok (encrypted_of p (present_of t)) ≡ Ok x = rw r at i in
       let o : encrypted_of p (present_of t) ≡ x = cc in
       let a = string_read s all c p d w in
       let place = bytes_place s d (tag_length cipher) t b u in

@@ -5,17 +5,15 @@ ghost use Rattle.std.specs.Prelude.{◌≡◌, ◌<◌, take};
 ghost use Rattle.fields.specs.Bytes.{same_bytes};
 ghost use Rattle.format.specs.Format.{padding_bytes};
 ghost use Rattle.reader_entries.specs.Entries.{keys_at};
-ghost use Rattle.reader_section.specs.Section.{checkints_at, padding_at, plain_of, closed_at, read_more, ends_at, followed_at, content_at, ended_at, plain_at, encrypted_of, present_of, encrypted_at};
+ghost use Rattle.reader_section.specs.Section.{checkints_at, padding_at, plain_of, closed_at, read_more, ends_at, content_at, ended_at, plain_at, encrypted_of, present_of, encrypted_at};
 
-use fields::{Cursor, Ending, Fault, Field, Part, Refusal, Uint32};
+use fields::{Cursor, Fault, Part, Read, Refusal};
 use key_pairs::Private;
 use key_public::Public;
 use names::{Algorithm, Cipher};
 use places::Places;
-use reader_blobs::BlobField;
-use reader_entries::{Entry, Paired};
 
-#[derive(Clone, Copy)]
+#[derive(Clone, Copy, PartialEq, Eq)]
 pub enum Kind {
     Plain,
     Encrypted,
@@ -37,77 +35,45 @@ pub struct Section {
     pub tag: Part,
 }
 
-#[derive(Clone, Copy)]
-pub enum SectionRead {
-    Section(Section),
-    Refused(Fault),
-}
-
 // Two checkints, which must be equal.
-fn read_checkints(c: Cursor, image: &[u8]) -> Uint32
+#[tactic(auto, unfolding(crate::specs::Section::checkints_at))]
+fn read_checkints(c: Cursor, image: &[u8]) -> Read<u32>
     ensures { result ≡ checkints_at image.now c }
 {
-    match c.uint32(image) {
-        Uint32::Refused(f) => Uint32::Refused(f),
-        Uint32::Value(first, d) => {
-            let at = d.at;
-            match d.uint32(image) {
-                Uint32::Refused(f) => Uint32::Refused(f),
-                Uint32::Value(second, e) => {
-                    if second == first {
-                        return Uint32::Value(first, e);
-                    }
-                    Uint32::Refused(Fault {
-                        why: Refusal::Crypto,
-                        at: at,
-                    })
-                }
-            }
-        }
+    let (first, c) = c.uint32(image)?;
+    let (second, next) = c.uint32(image)?;
+    if second == first {
+        return Ok((first, next));
     }
+    Err(Refusal::Crypto.at(c.at))
 }
 
 // Are they the padding of so many bytes, which are 1, 2, 3 and so on?
+#[tactic(auto, unfolding(format::specs::Format::padding_bytes))]
 fn counts_up(bytes: &[u8], count: usize) -> bool
     requires { count < 8 }
     ensures { result ≡ same_bytes bytes.now (take count padding_bytes) }
 {
-    if bytes.len() != count {
-        return false;
-    }
-    let mut i: usize = 0;
-    while i < count {
-        if bytes[i] != (i + 1) as u8 {
-            return false;
-        }
-        i += 1;
-    }
-    true
+    let padding: [u8; 7] = [1, 2, 3, 4, 5, 6, 7];
+    fields::same(bytes, &padding[..count])
 }
 
 // The padding is what remains: fewer than 8 bytes, which are 1, 2, 3 and so on.
-fn read_padding(c: Cursor, image: &[u8]) -> Ending
+#[tactic(auto, unfolding(crate::specs::Section::padding_at))]
+fn read_padding(c: Cursor, image: &[u8]) -> Result<(), Fault>
     ensures { result ≡ padding_at image.now c }
 {
-    let at = c.at;
-    let left = c.remaining();
-    if left < 8 {
-        let padding = Part {
-            start: at,
-            length: left,
-        };
-        if counts_up(fields::view(image, padding), left) {
-            return Ending::Clean;
-        }
-        return Ending::Refused(Fault {
-            why: Refusal::FormatEncoding,
-            at: at,
-        });
+    let padding = Part {
+        start: c.at,
+        length: c.remaining(),
+    };
+    if 8 <= padding.length {
+        return Err(Refusal::Length.at(c.at));
     }
-    Ending::Refused(Fault {
-        why: Refusal::Length,
-        at: at,
-    })
+    if counts_up(fields::view(image, padding), padding.length) {
+        return Ok(());
+    }
+    Err(Refusal::FormatEncoding.at(c.at))
 }
 
 fn plain(checkint: u32, padding: usize, private: Private, comment: Part, places: Places) -> Section
@@ -115,124 +81,51 @@ fn plain(checkint: u32, padding: usize, private: Private, comment: Part, places:
 {
     Section {
         kind: Kind::Plain,
-        checkint: checkint,
-        padding: padding,
-        private: private,
-        comment: comment,
-        places: places,
-        ciphertext: Part {
-            start: 0,
-            length: 0,
-        },
-        tag: Part {
-            start: 0,
-            length: 0,
-        },
+        checkint,
+        padding,
+        private,
+        comment,
+        places,
+        ciphertext: Part::ABSENT,
+        tag: Part::ABSENT,
     }
 }
 
-// Where keys begin, and the place after the last.
-#[derive(Clone, Copy)]
-enum More {
-    Keys(Places, Cursor),
-    Refused(Fault),
-}
-
-// So many keys from c on, their blobs from b on.
-fn read_more(c: Cursor, image: &[u8], b: Cursor, remaining: usize) -> More
+// Where so many keys from c on begin, their blobs from b on, and the place after the last.
+fn read_more(c: Cursor, image: &[u8], b: Cursor, remaining: usize) -> Read<Places>
     ensures { result ≡ read_more image.now c b remaining }
 {
-    let at = c.at;
     if remaining == 0 {
-        return More::Keys(Places::none(), c);
+        return Ok((Places::none(), c));
     }
-    match reader_blobs::read_blob_field(b, image) {
-        BlobField::Refused(f) => More::Refused(f),
-        BlobField::Key(a, _, q, e) => match reader_entries::read_entry(c, image, a, q) {
-            Entry::Refused(f) => More::Refused(f),
-            Entry::Key(_, _, d) => match read_more(d, image, e, remaining - 1) {
-                More::Refused(f) => More::Refused(f),
-                More::Keys(places, g) => More::Keys(places.push(at), g),
-            },
-        },
+    let ((algorithm, _, public), b) = reader_blobs::read_blob_field(b, image)?;
+    let (_, next) = reader_entries::read_entry(c, image, algorithm, public)?;
+    let (places, end) = read_more(next, image, b, remaining - 1)?;
+    Ok((places.push(c.at), end))
+}
+
+// The same. After a key alone nothing is called.
+fn read_others(c: Cursor, image: &[u8], b: Cursor, more: usize) -> Read<Places>
+    ensures { result ≡ read_more image.now c b more }
+{
+    if more == 0 {
+        return Ok((Places::none(), c));
     }
+    read_more(c, image, b, more)
 }
 
 // What is left after the last key is padding; past the section the image ends.
-fn read_end(c: Cursor, image: &[u8], past: Cursor) -> Ending
+#[tactic(auto, unfolding(crate::specs::Section::ends_at))]
+fn read_end(c: Cursor, image: &[u8], past: Cursor) -> Result<(), Fault>
     ensures { result ≡ ends_at image.now c past }
 {
-    match read_padding(c, image) {
-        Ending::Refused(f) => Ending::Refused(f),
-        Ending::Clean => past.finish(),
-    }
-}
-
-// A key that began at a place, the keys after it, from c on, and the end.
-fn read_others(
-    c: Cursor,
-    image: &[u8],
-    b: Cursor,
-    more: usize,
-    checkint: u32,
-    at: usize,
-    private: Private,
-    comment: Part,
-    past: Cursor,
-) -> SectionRead
-    ensures { result ≡ followed_at image.now c b more checkint at private comment past }
-{
-    match read_more(c, image, b, more) {
-        More::Refused(f) => return SectionRead::Refused(f),
-        More::Keys(places, d) => match read_end(d, image, past) {
-            Ending::Refused(f) => return SectionRead::Refused(f),
-            Ending::Clean => {
-                return SectionRead::Section(plain(
-                    checkint,
-                    d.remaining(),
-                    private,
-                    comment,
-                    places.push(at),
-                ));
-            }
-        },
-    }
-}
-
-// The same. After a key alone comes the end, without the copies that the others' function costs.
-fn read_rest(
-    c: Cursor,
-    image: &[u8],
-    b: Cursor,
-    more: usize,
-    checkint: u32,
-    at: usize,
-    private: Private,
-    comment: Part,
-    past: Cursor,
-) -> SectionRead
-    ensures { result ≡ followed_at image.now c b more checkint at private comment past }
-{
-    if more != 0 {
-        return read_others(c, image, b, more, checkint, at, private, comment, past);
-    }
-    match read_end(c, image, past) {
-        Ending::Refused(f) => return SectionRead::Refused(f),
-        Ending::Clean => {
-            let places = Places::none();
-            return SectionRead::Section(plain(
-                checkint,
-                c.remaining(),
-                private,
-                comment,
-                places.push(at),
-            ));
-        }
-    }
+    read_padding(c, image)?;
+    past.finish()
 }
 
 // The keys from c on, the padding after the last and the image's end: one key of this algorithm and public key, and
 // so many more, their blobs from b on. The first key's two parts are read one by one: as one entry they would be copied once more.
+#[tactic(auto, unfolding(crate::specs::Section::followed_at), using(crate::specs::Section::keys_followed, reader_entries::proofs::Pairing::entry_paired))]
 fn read_keys(
     c: Cursor,
     image: &[u8],
@@ -242,23 +135,25 @@ fn read_keys(
     more: usize,
     checkint: u32,
     past: Cursor,
-) -> SectionRead
+) -> Result<Section, Fault>
     ensures { result ≡ ended_at past (closed_at image.now checkint (keys_at image.now c algorithm public b more)) }
 {
-    let at = c.at;
-    match reader_entries::read_pair(c, image, algorithm, public) {
-        Paired::Refused(f) => return SectionRead::Refused(f),
-        Paired::Key(private, d) => match reader_entries::read_comment(d, image) {
-            Field::Refused(f) => return SectionRead::Refused(f),
-            Field::Part(comment, e) => {
-                return read_rest(e, image, b, more, checkint, at, private, comment, past);
-            }
-        },
-    }
+    let (private, next) = reader_entries::read_pair(c, image, algorithm, public)?;
+    let (comment, next) = reader_entries::read_comment(next, image)?;
+    let (others, end) = read_others(next, image, b, more)?;
+    read_end(end, image, past)?;
+    Ok(plain(
+        checkint,
+        end.remaining(),
+        private,
+        comment,
+        others.push(c.at),
+    ))
 }
 
 // The inside of a plain section, of which c is the whole, and the image's end. The first key is of this algorithm
 // and public key; so many more have their blobs from b on.
+#[tactic(auto, unfolding(crate::specs::Section::content_at, crate::specs::Section::ended_at))]
 fn read_content(
     c: Cursor,
     image: &[u8],
@@ -267,23 +162,18 @@ fn read_content(
     b: Cursor,
     more: usize,
     past: Cursor,
-) -> SectionRead
+) -> Result<Section, Fault>
     ensures { result ≡ ended_at past (content_at image.now c algorithm public b more) }
 {
-    let at = c.at;
     if c.remaining() % 8 != 0 {
-        return SectionRead::Refused(Fault {
-            why: Refusal::Length,
-            at: at,
-        });
+        return Err(Refusal::Length.at(c.at));
     }
-    match read_checkints(c, image) {
-        Uint32::Refused(f) => return SectionRead::Refused(f),
-        Uint32::Value(n, d) => return read_keys(d, image, algorithm, public, b, more, n, past),
-    }
+    let (checkint, next) = read_checkints(c, image)?;
+    read_keys(next, image, algorithm, public, b, more, checkint, past)
 }
 
 // A plain section and the image's end; what is wrong within the section comes first.
+#[tactic(auto, unfolding(crate::specs::Section::plain_at))]
 pub fn read_plain(
     c: Cursor,
     image: &[u8],
@@ -291,23 +181,18 @@ pub fn read_plain(
     public: Public,
     b: Cursor,
     more: usize,
-) -> SectionRead
+) -> Result<Section, Fault>
     ensures { result ≡ plain_at image.now c algorithm public b more }
 {
-    match c.string(image) {
-        Field::Refused(f) => return SectionRead::Refused(f),
-        Field::Part(p, d) => {
-            let start = p.start;
-            let length = p.length;
-            let inside = Cursor {
-                at: start,
-                end: start + length,
-            };
-            return read_content(inside, image, algorithm, public, b, more, d);
-        }
-    }
+    let (section, past) = c.string(image)?;
+    let inside = Cursor {
+        at: section.start,
+        end: section.start + section.length,
+    };
+    read_content(inside, image, algorithm, public, b, more, past)
 }
 
+#[tactic(auto, unfolding(key_pairs::specs::Pairs::scalar_place))]
 fn encrypted(ciphertext: Part, tag: Part) -> Section
     ensures { result ≡ encrypted_of ciphertext tag }
 {
@@ -315,56 +200,32 @@ fn encrypted(ciphertext: Part, tag: Part) -> Section
         kind: Kind::Encrypted,
         checkint: 0,
         padding: 0,
-        private: key_pairs::at_scalar(Part {
-            start: 0,
-            length: 0,
-        }),
-        comment: Part {
-            start: 0,
-            length: 0,
-        },
+        private: key_pairs::at_scalar(Part::ABSENT),
+        comment: Part::ABSENT,
         places: Places::none(),
-        ciphertext: ciphertext,
-        tag: tag,
+        ciphertext,
+        tag,
     }
 }
 
 // A tag of no bytes is absent.
+#[tactic(auto, unfolding(crate::specs::Section::present_of))]
 fn present(tag: Part) -> Part
     ensures { result ≡ present_of tag }
 {
-    let length = tag.length;
-    if length == 0 {
-        return Part {
-            start: 0,
-            length: 0,
-        };
-    }
-    tag
+    if tag.length == 0 { Part::ABSENT } else { tag }
 }
 
 // The ciphertext and, outside its string, the tag of a cipher that has one.
-pub fn read_encrypted(c: Cursor, image: &[u8], cipher: Cipher) -> SectionRead
+#[tactic(auto, unfolding(crate::specs::Section::encrypted_at))]
+pub fn read_encrypted(c: Cursor, image: &[u8], cipher: Cipher) -> Result<Section, Fault>
     ensures { result ≡ encrypted_at image.now c cipher }
 {
-    let at = c.at;
-    match c.string(image) {
-        Field::Refused(f) => SectionRead::Refused(f),
-        Field::Part(p, d) => {
-            let length = p.length;
-            if length % cipher.block_size() != 0 {
-                return SectionRead::Refused(Fault {
-                    why: Refusal::Crypto,
-                    at: at,
-                });
-            }
-            match d.bytes(image, cipher.tag_length()) {
-                Field::Refused(f) => SectionRead::Refused(f),
-                Field::Part(tag, e) => match e.finish() {
-                    Ending::Refused(f) => SectionRead::Refused(f),
-                    Ending::Clean => SectionRead::Section(encrypted(p, present(tag))),
-                },
-            }
-        }
+    let (ciphertext, next) = c.string(image)?;
+    if ciphertext.length % cipher.block_size() != 0 {
+        return Err(Refusal::Crypto.at(c.at));
     }
+    let (tag, end) = next.bytes(image, cipher.tag_length())?;
+    end.finish()?;
+    Ok(encrypted(ciphertext, present(tag)))
 }

@@ -1,19 +1,18 @@
 -- docs/RULES.md, 2.2: each refusal returns its number, a count that is 0 except for number 6, and an empty record, over no
 -- bytes and with no field.
-use Rattle.std.specs.Prelude.{ℕ, ◌≡◌, refl, cond, List, eqb, length}
+use Rattle.std.specs.Prelude.{ℕ, ◌≡◌, refl, cond, List, eqb, length, Result, Err}
 use Rattle.fields.specs.Fields.{part, absent}
 use Rattle.fields.specs.Refusals.{number_of, count_of}
 use Rattle.fields.specs.declared.Fault.{Fault}
 use Rattle.fields.specs.declared.Part.{Part}
 use Rattle.reader_header.specs.declared.Header.{Header}
 use Rattle.reader_header.specs.Header.{header_at, told_header}
-use Rattle.reader_image.specs.declared.ImageRead.{ImageRead}
-use Rattle.reader_image.specs.declared.ImageRead.TheVariants as read
 use Rattle.reader_image.specs.Container.{read_at, section_read_at, told_read}
 use Rattle.record_found.specs.declared.Found.{Found}
 use Rattle.record_found.specs.declared.FoundHeader.{FoundHeader}
+use Rattle.reader_image.specs.declared.Fields.{Fields}
 
-abbrev pub found_of : ImageRead → Found
+abbrev pub found_of : Result Fields Fault → Found
 found_of r = record { number = (told_read r).number; count = (told_read r).count; at = (told_read r).at; fields = (told_read r).fields }
 
 unfoldable pub found_at : List ℕ → Found
@@ -37,7 +36,7 @@ abbrev pub Tells : Fault → ℕ → ℕ → ℕ → Type 0
 Tells g number count at = (number ≡ number_of g.why) × (count ≡ count_of g.why) × (at ≡ g.at)
 
 -- those of a refused read, and of what is found of it
-pub found_told : (r : ImageRead) (g : Fault) → r ≡ read.Refused g → Tells g (found_of r).number (found_of r).count (found_of r).at
+pub found_told : (r : Result Fields Fault) (g : Fault) → r ≡ Err g → Tells g (found_of r).number (found_of r).count (found_of r).at
 unfolding told_read
 found_told r g e = rw e (refl, refl, refl)
 

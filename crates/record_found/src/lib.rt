@@ -3,16 +3,16 @@
 #![tactic(auto)]
 
 ghost use Rattle.std.specs.Prelude.{◌≡◌};
-ghost use Rattle.fields.specs.Fields.{absent, IsView};
+ghost use Rattle.fields.specs.Fields.{IsView};
 ghost use Rattle.reader_header.specs.Header.{no_header};
 ghost use Rattle.reader_image.specs.Container.{no_fields};
 ghost use Rattle.record_found.specs.Found.{found_of, found_at, section_found_at, header_found_at, held_part};
 
-use fields::Part;
+use fields::{Fault, Part};
 use names::{Algorithm, Cipher, Elliptic, Kdf};
 use places::Places;
-use reader_header::{Header, HeaderRead};
-use reader_image::{Fields, ImageRead};
+use reader_header::Header;
+use reader_image::Fields;
 use reader_section::{Kind, Section};
 
 // The refusal's number, count and place, 0 where the image is accepted, and the fields.
@@ -33,33 +33,26 @@ pub struct FoundHeader {
     pub half: Header,
 }
 
-fn nowhere() -> Part
-    ensures { result ≡ absent }
-{
-    Part {
-        start: 0,
-        length: 0,
-    }
-}
-
 // The half of a refused image has no field.
+#[tactic(auto, unfolding(key_public::specs::Keys::point_place))]
 fn no_header() -> Header
     ensures { result ≡ no_header }
 {
     Header {
         cipher: Cipher::None,
         kdf: Kdf::None,
-        salt: nowhere(),
+        salt: Part::ABSENT,
         rounds: 0,
         count: 0,
         algorithm: Algorithm::Elliptic(Elliptic::Ed25519),
-        blob: nowhere(),
-        public: key_public::at_point(nowhere()),
+        blob: Part::ABSENT,
+        public: key_public::at_point(Part::ABSENT),
         section: 0,
     }
 }
 
 // Nor has its record.
+#[tactic(auto, unfolding(key_pairs::specs::Pairs::scalar_place))]
 fn no_fields() -> Fields
     ensures { result ≡ no_fields }
 {
@@ -67,77 +60,74 @@ fn no_fields() -> Fields
         kind: Kind::Plain,
         checkint: 0,
         padding: 0,
-        private: key_pairs::at_scalar(nowhere()),
-        comment: nowhere(),
+        private: key_pairs::at_scalar(Part::ABSENT),
+        comment: Part::ABSENT,
         places: Places::none(),
-        ciphertext: nowhere(),
-        tag: nowhere(),
+        ciphertext: Part::ABSENT,
+        tag: Part::ABSENT,
     };
     Fields {
         header: no_header(),
-        section: section,
+        section,
     }
 }
 
-fn found_of(read: ImageRead) -> Found
+#[tactic(auto, unfolding(reader_image::specs::Container::told_read))]
+fn found_of(read: Result<Fields, Fault>) -> Found
     ensures { result ≡ found_of read }
 {
     match read {
-        ImageRead::Record(f) => Found {
+        Ok(fields) => Found {
             number: 0,
             count: 0,
             at: 0,
-            fields: f,
+            fields,
         },
-        ImageRead::Refused(f) => {
-            let why = f.why;
-            let at = f.at;
-            Found {
-                number: why.number(),
-                count: why.count(),
-                at: at,
-                fields: no_fields(),
-            }
-        }
+        Err(Fault { why, at }) => Found {
+            number: why.number(),
+            count: why.count(),
+            at,
+            fields: no_fields(),
+        },
     }
 }
 
+#[tactic(auto, unfolding(crate::specs::Found::found_at))]
 pub fn find(image: &[u8]) -> Found
     ensures { result ≡ found_at image.now }
 {
     found_of(reader_image::read(image))
 }
 
+#[tactic(auto, unfolding(crate::specs::Found::section_found_at))]
 pub fn find_section(image: &[u8], half: Header) -> Found
     ensures { result ≡ section_found_at image.now half }
 {
     found_of(reader_image::read_section(image, half))
 }
 
+#[tactic(auto, unfolding(crate::specs::Found::header_found_at, reader_header::specs::Header::told_header))]
 pub fn find_header(image: &[u8]) -> FoundHeader
     ensures { result ≡ header_found_at image.now }
 {
     match reader_header::read_header(image) {
-        HeaderRead::Header(h) => FoundHeader {
+        Ok(half) => FoundHeader {
             number: 0,
             count: 0,
             at: 0,
-            half: h,
+            half,
         },
-        HeaderRead::Refused(f) => {
-            let why = f.why;
-            let at = f.at;
-            FoundHeader {
-                number: why.number(),
-                count: why.count(),
-                at: at,
-                half: no_header(),
-            }
-        }
+        Err(Fault { why, at }) => FoundHeader {
+            number: why.number(),
+            count: why.count(),
+            at,
+            half: no_header(),
+        },
     }
 }
 
 // The image itself where it was accepted, else no bytes of it.
+#[tactic(auto, unfolding(crate::specs::Found::held_part))]
 fn held_by(image: &[u8], number: u8) -> &[u8]
     ensures { IsView result image.entry (held_part image.now number) }
 {
@@ -148,7 +138,7 @@ fn held_by(image: &[u8], number: u8) -> &[u8]
         };
         return fields::view(image, whole);
     }
-    fields::view(image, nowhere())
+    fields::view(image, Part::ABSENT)
 }
 
 pub fn held(image: &[u8], found: Found) -> &[u8]

@@ -1,6 +1,6 @@
 -- Read, then an accessor: the answer is that part of the caller's own image, in its bytes and by its pointer. Two halves read one after the other are
 -- the full read. What is refused is told with the refusal's number, count and place.
-use Rattle.std.specs.Prelude.{ℕ, ◌+◌, ◌≤◌, ◌≡◌, refl, true, false, List, [], eqb, length}
+use Rattle.std.specs.Prelude.{ℕ, ◌+◌, ◌≤◌, ◌≡◌, refl, true, false, List, [], eqb, length, Ok, Err}
 use Rattle.std.proofs.Common.{add-zero, arith, sym, ◌∙◌, ap, ap₂, subst, eq-eqb, take_all}
 use Rattle.std.specs.Borrow.{Bor}
 use Rattle.fields.specs.Fields.{part, absent, view_of, view_start, IsView}
@@ -9,11 +9,9 @@ use Rattle.fields.specs.Refusals.{number_of, never_zero}
 use Rattle.fields.specs.declared.Part.{Part}
 use Rattle.fields.specs.declared.Fault.{Fault}
 use Rattle.reader_image.specs.declared.Fields.{Fields}
-use Rattle.reader_image.specs.declared.ImageRead.TheVariants as read
 use Rattle.reader_image.specs.Container.{read_at, section_read_at, no_fields, told_read}
 use Rattle.reader_image.specs.FormLaws.{by_read}
 use Rattle.reader_header.specs.declared.Header.{Header}
-use Rattle.reader_header.specs.declared.HeaderRead.TheVariants as header_read
 use Rattle.reader_header.specs.Header.{header_at, told_header}
 use Rattle.handed_header.specs.Halves.{by_header}
 use Rattle.reader_image.specs.Halves.{section_own}
@@ -74,11 +72,11 @@ absent-absent image over v o w = (
   w.2 ∙ ap (λ (i : ℕ). over.ref_ptr.1 + i) (absent_view over.now).1 ∙ add-zero over.ref_ptr.1 ∙ o.2,
 )
 
-found_none : (s : List ℕ) (g : Fault) → read_at s ≡ read.Refused g → ((found_at s).fields ≡ no_fields) × (eqb (found_at s).number 0 ≡ false)
+found_none : (s : List ℕ) (g : Fault) → read_at s ≡ Err g → ((found_at s).fields ≡ no_fields) × (eqb (found_at s).number 0 ≡ false)
 unfolding found_at told_read
 found_none s g e = rw e (refl, never_zero g.why)
 
-found_zero : (s : List ℕ) (f : Fields) → read_at s ≡ read.Record f → (found_at s).number ≡ 0
+found_zero : (s : List ℕ) (f : Fields) → read_at s ≡ Ok f → (found_at s).number ≡ 0
 unfolding found_at told_read
 found_zero s f e = rw e
 
@@ -102,14 +100,14 @@ read_then_comment image over v number count at fields r w =
 -- ---- a header read, then the section read of the header that it gave, is the full read
 
 -- a header without a refusal was accepted
-found_header : (s : List ℕ) → (header_found_at s).number ≡ 0 → header_at s ≡ header_read.Header (header_found_at s).half
+found_header : (s : List ℕ) → (header_found_at s).number ≡ 0 → header_at s ≡ Ok (header_found_at s).half
 unfolding header_found_at told_header
 found_header s accepted =
     by_header (header_at s)
     (λ f e. clash (let z : number_of f.why ≡ 0 = rw e at accepted in let y : true ≡ false = sym (eq-eqb (number_of f.why) 0 z) ∙ never_zero f.why in cc))
     (λ h e. rw e)
 
-found_section : (s : List ℕ) (half : Header) → header_at s ≡ header_read.Header half → section_found_at s half ≡ found_at s
+found_section : (s : List ℕ) (half : Header) → header_at s ≡ Ok half → section_found_at s half ≡ found_at s
 unfolding section_found_at found_at
 found_section s half e = ap found_of (section_own s half e)
 
@@ -119,7 +117,7 @@ pub header_then_section :
 header_then_section image over v n c a m d b half fields h accepted r =
     let zero : (header_found_at image.now).number ≡ 0 = sym h.0 ∙ accepted in
     let same : over.now ≡ image.now = (held_whole image over (header_found_at image.now).number zero h.4).0 in
-    let read : header_at image.now ≡ header_read.Header half = found_header image.now zero ∙ ap header_read.Header (sym h.3) in
+    let read : header_at image.now ≡ Ok half = found_header image.now zero ∙ ap Ok (sym h.3) in
     let found : section_found_at over.now half ≡ found_at image.now = ap (λ (s : List ℕ). section_found_at s half) same ∙ found_section image.now half read in
     let p : Part = held_part image.now (found_at image.now).number in
     let w : IsView v over p = subst (λ (x : Part). IsView v over x) (ap₂ (λ (s : List ℕ) (f : Found). held_part s f.number) same found) r.4 in (
@@ -134,7 +132,7 @@ header_then_section image over v n c a m d b half fields h accepted r =
 
 pub refused_told :
     (image over : Bor (List ℕ)) (number count at : ℕ) (fields : Fields) (g : Fault) → IsReply number count at over fields image
-    → read_at image.now ≡ read.Refused g → Tells g number count at
+    → read_at image.now ≡ Err g → Tells g number count at
 unfolding found_at
 refused_told image over number count at fields g r e =
     let k = found_told (read_at image.now) g e in
@@ -142,7 +140,7 @@ refused_told image over number count at fields g r e =
 
 pub section_refused_told :
     (image over : Bor (List ℕ)) (number count at : ℕ) (fields : Fields) (half : Header) (g : Fault)
-    → IsSectionReply number count at over fields image half → section_read_at image.now half ≡ read.Refused g → Tells g number count at
+    → IsSectionReply number count at over fields image half → section_read_at image.now half ≡ Err g → Tells g number count at
 unfolding section_found_at
 section_refused_told image over number count at fields half g r e =
     let k = found_told (section_read_at image.now half) g e in
@@ -150,6 +148,6 @@ section_refused_told image over number count at fields half g r e =
 
 pub header_refused_told :
     (image over : Bor (List ℕ)) (number count at : ℕ) (half : Header) (g : Fault) → IsHeaderReply number count at over half image
-    → header_at image.now ≡ header_read.Refused g → Tells g number count at
+    → header_at image.now ≡ Err g → Tells g number count at
 unfolding header_found_at told_header
 header_refused_told image over number count at half g r e = (r.0 ∙ rw e, r.1 ∙ rw e, r.2 ∙ rw e)

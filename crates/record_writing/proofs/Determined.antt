@@ -4,8 +4,8 @@ use mathlib.Core.Path.{◌≡◌, sym, ◌∙◌}
 use Prim.Native.Nat.{ℕ}
 use mathlib.Core.List.{List}
 use Rattle.reader_image.specs.declared.Fields.{Fields}
-use Rattle.writer_reply.specs.declared.Written.{Written}
 use Rattle.writer_again.specs.Rewrite.{IsHanded}
+use Rattle.writer_reply.specs.Reply.{Written}
 
 pub rewrite_determined :
     (s : List ℕ) (f : Fields) (old : List ℕ) (v w : Written) (a b : List ℕ) → IsHanded s f old v a → IsHanded s f old w b → (v ≡ w) × (a ≡ b)

@@ -32,12 +32,16 @@ fn renew(file: &mut impl Read, buf: &mut [u8]) -> io::Result<usize> {
 // ---- the calls
 
 fn call(out: &mut impl Write, code: u32, given: &[u8], lent: &mut [u8]) -> io::Result<Written> {
-    if code == 1 {
-        word(out, b"export   ")?;
-        return Ok(armour_export::export(given, lent));
+    match code {
+        1 => {
+            word(out, b"export   ")?;
+            Ok(armour_export::export(given, lent))
+        }
+        _ => {
+            word(out, b"import   ")?;
+            Ok(armour_import::import(given, lent))
+        }
     }
-    word(out, b"import   ")?;
-    Ok(armour_import::import(given, lent))
 }
 
 fn called(out: &mut impl Write, code: u32, given: &[u8], lent: &mut [u8]) -> io::Result<()> {
@@ -65,10 +69,7 @@ fn one(
     if room > lent.len() {
         return Ok(false);
     }
-    let part = Part {
-        start: 0,
-        length: length,
-    };
+    let part = Part { start: 0, length };
     called(
         out,
         number_at(&head, 0),

@@ -19,7 +19,7 @@
 ghost use Rattle.std.specs.Prelude.{◌≡◌, IfOk};
 
 use key_material::Material;
-use replay_telling::{checkint_of, number_at, read_full, text_of};
+use replay_telling::{Entry, checkint_of, number_at, read_full, text_of};
 use std::io;
 use std::io::{Read, Write};
 use std::rt::Files;
@@ -36,10 +36,7 @@ fn number(file: &mut impl Read) -> io::Result<u32> {
 
 // Each byte from `from` up to `end` becomes the one that stands `unit` before it.
 fn repeat(buf: &mut [u8], from: usize, end: usize, unit: usize) {
-    if buf.len() < end {
-        return;
-    }
-    if from < unit {
+    if buf.len() < end || from < unit {
         return;
     }
     for i in from..end {
@@ -55,13 +52,7 @@ fn repeated(
     unit: usize,
     length: usize,
 ) -> io::Result<usize> {
-    if buf.len() < at {
-        return Ok(at);
-    }
-    if buf.len() - at < length {
-        return Ok(at);
-    }
-    if length < unit {
+    if buf.len() < at || buf.len() - at < length || length < unit {
         return Ok(at);
     }
     read_full(file, &mut buf[at..at + unit])?;
@@ -148,27 +139,27 @@ fn call_rsa(head: &[u8], texts: &[u8], lent: &mut [u8]) -> Written {
 
 // ---- the calls
 
-// The entry with the head's code.
-fn call(head: &[u8], n: usize, texts: &[u8], lent: &mut [u8]) -> Written {
-    match given(head, 0) {
-        0 => call_plain(head, texts, lent),
-        1 => call_encrypted(head, texts, lent),
-        2 => writer_again::rewrite(text_of(head, texts, 0), lent),
-        4 => call_rsa(head, texts, lent),
+fn call(entry: Entry, head: &[u8], n: usize, texts: &[u8], lent: &mut [u8]) -> Written {
+    match entry {
+        Entry::Plain => call_plain(head, texts, lent),
+        Entry::Encrypted => call_encrypted(head, texts, lent),
+        Entry::Rewrite => writer_again::rewrite(text_of(head, texts, 0), lent),
+        Entry::Rsa => call_rsa(head, texts, lent),
         _ => comment_change::change_comment(lent, length_of(head, n), text_of(head, texts, 0)),
     }
 }
 
-// Reads the texts that the head's entry is to be given, and calls it.
+// Reads the texts that the entry is to be given, and calls it.
 fn stored_call(
     file: &mut impl Read,
+    entry: Entry,
     head: &[u8],
     n: usize,
     lent: &mut [u8],
 ) -> io::Result<Written> {
     let mut texts = [0u8; 70000];
     text(file, &mut texts)?;
-    Ok(call(head, n, &texts, lent))
+    Ok(call(entry, head, n, &texts, lent))
 }
 
 // ---- the rows
@@ -176,14 +167,6 @@ fn stored_call(
 fn say_call(out: &mut impl Write, written: Written, lent: &[u8]) -> io::Result<()> {
     replay_telling::say_written(out, written)?;
     replay_telling::say_buffer(out, lent)
-}
-
-// The length of the image in the buffer from now on.
-fn length_after(written: Written, n: usize) -> usize {
-    match written {
-        Written::Refused(_) => n,
-        Written::Length(length) => length,
-    }
 }
 
 // One call on the lent buffer; answers the length of the image in it from now on.
@@ -195,10 +178,11 @@ fn called(
 ) -> io::Result<usize> {
     let mut head = [0u8; 72];
     read_full(file, &mut head)?;
-    replay_telling::say_entry(out, given(&head, 0))?;
-    let written = stored_call(file, &head, n, lent)?;
+    let entry = Entry::from(given(&head, 0));
+    replay_telling::say_entry(out, entry)?;
+    let written = stored_call(file, entry, &head, n, lent)?;
     say_call(out, written, lent)?;
-    Ok(length_after(written, n))
+    Ok(written.unwrap_or(n))
 }
 
 fn all_calls(

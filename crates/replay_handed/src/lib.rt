@@ -45,10 +45,10 @@ fn place(head: &[u8], i: u8, j: u8) -> Part {
 // ---- the record
 
 fn kind_of(code: u32) -> Kind {
-    if code == 1 {
-        return Kind::Plain;
+    match code {
+        1 => Kind::Plain,
+        _ => Kind::Encrypted,
     }
-    Kind::Encrypted
 }
 
 fn public_of(head: &[u8]) -> Public {
@@ -76,24 +76,11 @@ fn short(head: &[u8], i: u8) -> u16 {
 }
 
 fn places_of(head: &[u8]) -> Places {
-    Places {
-        p1: short(head, 36),
-        p2: short(head, 37),
-        p3: short(head, 38),
-        p4: short(head, 39),
-        p5: short(head, 40),
-        p6: short(head, 41),
-        p7: short(head, 42),
-        p8: short(head, 43),
-        p9: short(head, 44),
-        p10: short(head, 45),
-        p11: short(head, 46),
-        p12: short(head, 47),
-        p13: short(head, 48),
-        p14: short(head, 49),
-        p15: short(head, 50),
-        p16: short(head, 51),
+    let mut places = Places::none();
+    for i in 0..16u8 {
+        places.all[i as usize] = short(head, 36 + i);
     }
+    places
 }
 
 fn header_of(head: &[u8]) -> Header {
@@ -174,12 +161,8 @@ fn replay(out: &mut impl Write, image: &[u8], head: &[u8]) -> io::Result<()> {
 // A vector, of which all but the image has been read.
 fn vector(out: &mut impl Write, file: &mut impl Read, head: &[u8]) -> io::Result<()> {
     let mut room = [0u8; 66000];
-    let n = image_into(file, &mut room, number_at(head, 0) as usize)?;
-    let whole = Part {
-        start: 0,
-        length: n,
-    };
-    replay(out, fields::view(&room, whole), head)
+    let length = image_into(file, &mut room, number_at(head, 0) as usize)?;
+    replay(out, fields::view(&room, Part { start: 0, length }), head)
 }
 
 // One vector; whether there was one.

@@ -19,7 +19,7 @@
 ghost use Rattle.std.specs.Prelude.{◌≡◌, IfOk};
 
 use fields::Part;
-use replay_telling::{checkint_of, number_at, read_full, text_of};
+use replay_telling::{Entry, checkint_of, number_at, read_full, text_of};
 use std::io;
 use std::io::{Read, Write};
 use std::rt::Files;
@@ -31,36 +31,26 @@ fn given(head: &[u8], i: u8) -> u32 {
     number_at(head, (i as usize) * 4)
 }
 
-// The number of eight bytes at a place.
-fn wide_at(bytes: &[u8], at: usize) -> usize {
-    if bytes.len() <= at {
-        return 0;
-    }
-    replay_telling::halves(number_at(bytes, at), number_at(bytes, at + 4))
+// The number of the first eight bytes.
+fn wide(bytes: &[u8]) -> usize {
+    replay_telling::halves(number_at(bytes, 0), number_at(bytes, 4))
 }
 
 // ---- the writers
 
-// The numbers of eight bytes each, and then zeros.
-fn numbers_into(table: &mut [usize], bytes: &[u8]) {
-    let mut at: usize = 0;
-    for number in table.iter_mut() {
-        *number = wide_at(bytes, at);
-        at = at.wrapping_add(8);
-    }
-}
-
 fn call_keys(head: &[u8], texts: &[u8], lent: &mut [u8]) -> Written {
     let mut table = [0usize; 640];
     let numbers = text_of(head, texts, 0);
-    numbers_into(&mut table, numbers);
+    for (number, eight) in table.iter_mut().zip(numbers.chunks(8)) {
+        *number = wide(eight);
+    }
     let count = numbers.len() / 8;
     if count > 640 {
-        return Written::Length(0);
+        return Ok(0);
     }
     writer_keys::write_keys(
         text_of(head, texts, 1),
-        &table[0..count],
+        &table[..count],
         checkint_of(given(head, 2), given(head, 3)),
         lent,
     )
@@ -93,31 +83,25 @@ fn call_add_rsa(head: &[u8], n: usize, texts: &[u8], lent: &mut [u8]) -> Written
     )
 }
 
-fn call_edit(head: &[u8], n: usize, texts: &[u8], lent: &mut [u8]) -> Written {
-    let k = wide_at(text_of(head, texts, 0), 0);
-    match given(head, 0) {
-        6 => comment_change::change_comment_of(lent, n, k, text_of(head, texts, 1)),
-        7 => call_add(head, n, texts, lent),
-        8 => call_add_rsa(head, n, texts, lent),
-        9 => key_remove::remove_key(lent, n, k),
+// ---- the calls
+
+fn call(entry: Entry, head: &[u8], texts: &[u8], lent: &mut [u8]) -> Written {
+    let n = replay_telling::halves(given(head, 2), given(head, 3));
+    let k = wide(text_of(head, texts, 0));
+    match entry {
+        Entry::Keys => call_keys(head, texts, lent),
+        Entry::ChangeOf => comment_change::change_comment_of(lent, n, k, text_of(head, texts, 1)),
+        Entry::Add => call_add(head, n, texts, lent),
+        Entry::AddRsa => call_add_rsa(head, n, texts, lent),
+        Entry::Remove => key_remove::remove_key(lent, n, k),
         _ => comment_change::change_comment(lent, n, text_of(head, texts, 0)),
     }
 }
 
-// ---- the calls
-
-// The entry with the head's code.
-fn call(head: &[u8], texts: &[u8], lent: &mut [u8]) -> Written {
-    let n = replay_telling::halves(given(head, 2), given(head, 3));
-    match given(head, 0) {
-        5 => call_keys(head, texts, lent),
-        _ => call_edit(head, n, texts, lent),
-    }
-}
-
 fn called(out: &mut impl Write, head: &[u8], texts: &[u8], lent: &mut [u8]) -> io::Result<()> {
-    replay_telling::say_entry(out, given(head, 0))?;
-    replay_telling::say_written(out, call(head, texts, lent))?;
+    let entry = Entry::from(given(head, 0));
+    replay_telling::say_entry(out, entry)?;
+    replay_telling::say_written(out, call(entry, head, texts, lent))?;
     replay_telling::say_buffer(out, lent)
 }
 
@@ -163,12 +147,13 @@ fn stored(
     lent: &mut [u8],
 ) -> io::Result<()> {
     let mut room = [0u8; 140000];
-    let n = vector_into(file, &mut room, length)?;
-    let whole = Part {
-        start: 0,
-        length: n,
-    };
-    replay(out, fields::view(&room, whole), texts, lent)
+    let length = vector_into(file, &mut room, length)?;
+    replay(
+        out,
+        fields::view(&room, Part { start: 0, length }),
+        texts,
+        lent,
+    )
 }
 
 // One vector; whether there was one.

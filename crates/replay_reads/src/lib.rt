@@ -8,8 +8,8 @@ ghost use Rattle.std.specs.Prelude.{◌≡◌, IfOk};
 use fields::{Fault, Part};
 use key_pairs::Private;
 use key_public::Public;
-use reader_header::{Header, HeaderRead};
-use reader_image::{Fields, ImageRead};
+use reader_header::Header;
+use reader_image::Fields;
 use reader_parts::Which;
 use replay_telling::{say_number, say_place, word};
 use std::io;
@@ -57,46 +57,38 @@ fn say_places(out: &mut impl Write, f: Fields) -> io::Result<()> {
 }
 
 fn total(view: &[u8]) -> usize {
-    let mut sum: usize = 0;
-    for byte in view {
-        sum = sum.wrapping_add(usize::from(*byte));
-    }
-    sum
+    view.iter()
+        .fold(0, |sum: usize, byte| sum.wrapping_add(usize::from(*byte)))
 }
 
 fn say_sum(out: &mut impl Write, view: &[u8]) -> io::Result<()> {
     say_number(out, total(view))
 }
 
+fn say_sums(out: &mut impl Write, image: &[u8], f: Fields, parts: &[Which]) -> io::Result<()> {
+    for which in parts {
+        say_sum(out, reader_parts::part(image, f, *which))?;
+    }
+    Ok(())
+}
+
 // The sum of the bytes of each view; the comment's by the record that holds the image.
 fn say_views(out: &mut impl Write, image: &[u8], f: Fields) -> io::Result<()> {
     word(out, b"\nviews")?;
-    say_sum(out, reader_parts::part(image, f, Which::Blob))?;
-    say_sum(out, reader_parts::part(image, f, Which::Point))?;
-    say_sum(out, reader_parts::part(image, f, Which::Scalar))?;
+    say_sums(out, image, f, &[Which::Blob, Which::Point, Which::Scalar])?;
     say_sum(out, record_comment::comment_of(image))?;
-    say_later_views(out, image, f)
-}
-
-fn say_later_views(out: &mut impl Write, image: &[u8], f: Fields) -> io::Result<()> {
-    say_sum(out, reader_parts::part(image, f, Which::Salt))?;
-    say_sum(out, reader_parts::part(image, f, Which::Ciphertext))?;
-    say_sum(out, reader_parts::part(image, f, Which::Tag))?;
+    say_sums(out, image, f, &[Which::Salt, Which::Ciphertext, Which::Tag])?;
     word(out, b"\n")
 }
 
 // ---- RSA's fields
 
-fn absent(part: Part) -> bool {
-    (part.start == 0) & (part.length == 0)
-}
-
 fn no_public(public: Public) -> bool {
-    (public.bits == 0) & absent(public.modulus) & absent(public.exponent)
+    public.bits == 0 && public.modulus == Part::ABSENT && public.exponent == Part::ABSENT
 }
 
-fn no_private(private: Private) -> bool {
-    absent(private.d) & absent(private.iqmp) & absent(private.p) & absent(private.q)
+fn numbers_of(private: Private) -> [Part; 4] {
+    [private.d, private.iqmp, private.p, private.q]
 }
 
 fn say_public(out: &mut impl Write, public: Public) -> io::Result<()> {
@@ -105,31 +97,29 @@ fn say_public(out: &mut impl Write, public: Public) -> io::Result<()> {
     say_place(out, public.exponent)
 }
 
-fn say_private(out: &mut impl Write, private: Private) -> io::Result<()> {
-    say_place(out, private.d)?;
-    say_place(out, private.iqmp)?;
-    say_place(out, private.p)?;
-    say_place(out, private.q)
-}
-
 fn say_rsa_views(out: &mut impl Write, image: &[u8], f: Fields) -> io::Result<()> {
-    say_sum(out, reader_parts::part(image, f, Which::Modulus))?;
-    say_sum(out, reader_parts::part(image, f, Which::Exponent))?;
-    say_sum(out, reader_parts::part(image, f, Which::D))?;
-    say_sum(out, reader_parts::part(image, f, Which::Iqmp))?;
-    say_sum(out, reader_parts::part(image, f, Which::P))?;
-    say_sum(out, reader_parts::part(image, f, Which::Q))
+    let numbers = [
+        Which::Modulus,
+        Which::Exponent,
+        Which::D,
+        Which::Iqmp,
+        Which::P,
+        Which::Q,
+    ];
+    say_sums(out, image, f, &numbers)
 }
 
 fn say_rsa(out: &mut impl Write, image: &[u8], f: Fields) -> io::Result<()> {
     let public = f.header.public;
-    let private = f.section.private;
-    if no_public(public) & no_private(private) {
+    let numbers = numbers_of(f.section.private);
+    if no_public(public) && numbers.iter().all(|part| *part == Part::ABSENT) {
         return Ok(());
     }
     word(out, b"rsa")?;
     say_public(out, public)?;
-    say_private(out, private)?;
+    for part in numbers {
+        say_place(out, part)?;
+    }
     say_rsa_views(out, image, f)?;
     word(out, b"\n")
 }
@@ -150,8 +140,8 @@ pub fn say_read(out: &mut impl Write, image: &[u8]) -> io::Result<()>
 {
     word(out, b"read")?;
     match reader_image::read(image) {
-        ImageRead::Refused(f) => say_refused(out, f),
-        ImageRead::Record(f) => {
+        Err(f) => say_refused(out, f),
+        Ok(f) => {
             say_names(out, f)?;
             say_numbers(out, f)?;
             say_places(out, f)?;
@@ -179,7 +169,7 @@ pub fn say_header_read(out: &mut impl Write, image: &[u8]) -> io::Result<()>
 {
     word(out, b"header")?;
     match reader_header::read_header(image) {
-        HeaderRead::Refused(f) => say_refused(out, f),
-        HeaderRead::Header(h) => say_half(out, h),
+        Err(f) => say_refused(out, f),
+        Ok(h) => say_half(out, h),
     }
 }

@@ -8,7 +8,7 @@ ghost use Rattle.std.specs.Prelude.{◌≡◌, IfOk};
 use fields::Part;
 use key_pairs::Private;
 use reader_header::Header;
-use reader_image::{Fields, ImageRead};
+use reader_image::Fields;
 use reader_parts::Which;
 use reader_section::Section;
 use replay_telling::{say_number, say_place, word};
@@ -20,75 +20,58 @@ use std::io::Write;
 // A view's length, and where that isn't 0 what remains of it modulo the prime.
 fn say_view(out: &mut impl Write, view: &[u8]) -> io::Result<()> {
     say_number(out, view.len())?;
-    if view.len() > 0 {
+    if !view.is_empty() {
         say_number(out, replay_telling::rest_of(view) as usize)?;
+    }
+    Ok(())
+}
+
+fn say_parts(out: &mut impl Write, image: &[u8], f: Fields, parts: &[Which]) -> io::Result<()> {
+    for which in parts {
+        say_view(out, reader_parts::part(image, f, *which))?;
     }
     Ok(())
 }
 
 fn say_views(out: &mut impl Write, image: &[u8], f: Fields) -> io::Result<()> {
     word(out, b"views")?;
-    say_view(out, reader_parts::part(image, f, Which::Blob))?;
-    say_view(out, reader_parts::part(image, f, Which::Point))?;
-    say_view(out, reader_parts::part(image, f, Which::Scalar))?;
-    say_later_views(out, image, f)?;
+    say_parts(out, image, f, &[Which::Blob, Which::Point, Which::Scalar])?;
+    say_view(out, reader_parts::comment(image, f))?;
+    say_parts(out, image, f, &[Which::Salt, Which::Ciphertext, Which::Tag])?;
     word(out, b"\n")
 }
 
-fn say_later_views(out: &mut impl Write, image: &[u8], f: Fields) -> io::Result<()> {
-    say_view(out, reader_parts::comment(image, f))?;
-    say_view(out, reader_parts::part(image, f, Which::Salt))?;
-    say_view(out, reader_parts::part(image, f, Which::Ciphertext))?;
-    say_view(out, reader_parts::part(image, f, Which::Tag))
-}
-
-fn empty(view: &[u8]) -> bool {
-    view.len() == 0
-}
-
-// Whether each view of RSA's numbers is empty.
-fn no_rsa_views(image: &[u8], f: Fields) -> bool {
-    empty(reader_parts::part(image, f, Which::Modulus))
-        & empty(reader_parts::part(image, f, Which::Exponent))
-        & empty(reader_parts::part(image, f, Which::D))
-        & empty(reader_parts::part(image, f, Which::Iqmp))
-        & empty(reader_parts::part(image, f, Which::P))
-        & empty(reader_parts::part(image, f, Which::Q))
-}
-
 fn say_rsa_views(out: &mut impl Write, image: &[u8], f: Fields) -> io::Result<()> {
-    if no_rsa_views(image, f) {
+    let numbers = [
+        Which::Modulus,
+        Which::Exponent,
+        Which::D,
+        Which::Iqmp,
+        Which::P,
+        Which::Q,
+    ];
+    if numbers
+        .iter()
+        .all(|which| reader_parts::part(image, f, *which).is_empty())
+    {
         return Ok(());
     }
     word(out, b"views-rsa")?;
-    say_view(out, reader_parts::part(image, f, Which::Modulus))?;
-    say_view(out, reader_parts::part(image, f, Which::Exponent))?;
-    say_view(out, reader_parts::part(image, f, Which::D))?;
-    say_view(out, reader_parts::part(image, f, Which::Iqmp))?;
-    say_view(out, reader_parts::part(image, f, Which::P))?;
-    say_view(out, reader_parts::part(image, f, Which::Q))?;
+    say_parts(out, image, f, &numbers)?;
     word(out, b"\n")
 }
 
 // ---- what the section read says of its header half
 
-fn absent(part: Part) -> bool {
-    (part.start == 0) & (part.length == 0)
-}
-
-fn no_rsa(private: Private) -> bool {
-    absent(private.d) & absent(private.iqmp) & absent(private.p) & absent(private.q)
-}
-
 fn say_rsa(out: &mut impl Write, private: Private) -> io::Result<()> {
-    if no_rsa(private) {
+    let numbers = [private.d, private.iqmp, private.p, private.q];
+    if numbers.iter().all(|part| *part == Part::ABSENT) {
         return Ok(());
     }
     word(out, b"section-rsa")?;
-    say_place(out, private.d)?;
-    say_place(out, private.iqmp)?;
-    say_place(out, private.p)?;
-    say_place(out, private.q)?;
+    for part in numbers {
+        say_place(out, part)?;
+    }
     word(out, b"\n")
 }
 
@@ -109,11 +92,11 @@ fn say_section(out: &mut impl Write, section: Section) -> io::Result<()> {
 fn say_section_read(out: &mut impl Write, image: &[u8], half: Header) -> io::Result<()> {
     word(out, b"section")?;
     match reader_image::read_section(image, half) {
-        ImageRead::Refused(f) => {
+        Err(f) => {
             replay_telling::say_refused(out, f)?;
             word(out, b"\n")
         }
-        ImageRead::Record(g) => say_section(out, g.section),
+        Ok(g) => say_section(out, g.section),
     }
 }
 

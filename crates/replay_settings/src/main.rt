@@ -7,11 +7,11 @@
 //   1 read   2 write   3 get   4 put   5 move
 #![tactic(auto)]
 
-use replay_telling::{number_at, read_full, word};
-use setting_record::Answer;
+use fields::Refusal;
+use replay_telling::{number_at, read_full, say_reply, say_written, word};
+use setting_record::Setting;
 use std::io;
 use std::io::{Read, Write};
-use writer_reply::Written;
 
 // ---- what a call's head says
 
@@ -34,48 +34,42 @@ fn device(head: &[u8]) -> u64 {
 
 // ---- the calls
 
-fn find(out: &mut impl Write, head: &[u8], lent: &[u8]) -> io::Result<Answer> {
-    if given(head, 0) == 1 {
-        word(out, b"read     ")?;
-        return Ok(setting_record::read(lent));
-    }
-    word(out, b"get      ")?;
-    Ok(setting_store::get(lent, device(head)))
-}
-
-fn change(out: &mut impl Write, head: &[u8], lent: &mut [u8]) -> io::Result<Written> {
-    let version = byte(head, 1);
-    let kind = byte(head, 2);
-    if given(head, 0) == 2 {
-        word(out, b"write    ")?;
-        return Ok(setting_record::write(version, kind, milliseconds(head), lent));
-    }
-    if given(head, 0) == 4 {
-        word(out, b"put      ")?;
-        return Ok(setting_store::put(lent, device(head), version, kind, milliseconds(head)));
-    }
-    word(out, b"move     ")?;
-    Ok(setting_store::move_to_v2(lent))
-}
-
 // The refusal's number; whether there is a setting, its kind and its milliseconds.
-fn say_found(out: &mut impl Write, answer: Answer) -> io::Result<()> {
+fn say_found(out: &mut impl Write, answer: Result<Option<Setting>, Refusal>) -> io::Result<()> {
     match answer {
-        Answer::Setting(s) => {
-            replay_telling::say_reply(out, 0, 1, s.kind as usize, s.milliseconds as usize)
-        }
-        Answer::Empty => replay_telling::say_reply(out, 0, 0, 0, 0),
-        Answer::Refused(why) => replay_telling::say_reply(out, why.number(), 0, 0, 0),
+        Ok(Some(s)) => say_reply(out, 0, 1, s.kind as usize, s.milliseconds as usize),
+        Ok(None) => say_reply(out, 0, 0, 0, 0),
+        Err(why) => say_reply(out, why.number(), 0, 0, 0),
     }
 }
 
 fn reply(out: &mut impl Write, head: &[u8], lent: &mut [u8]) -> io::Result<()> {
-    if given(head, 0) == 1 || given(head, 0) == 3 {
-        let answer = find(out, head, lent)?;
-        return say_found(out, answer);
+    let version = byte(head, 1);
+    let kind = byte(head, 2);
+    let delay = milliseconds(head);
+    match given(head, 0) {
+        1 => {
+            word(out, b"read     ")?;
+            say_found(out, setting_record::read(lent))
+        }
+        2 => {
+            word(out, b"write    ")?;
+            say_written(out, setting_record::write(version, kind, delay, lent))
+        }
+        3 => {
+            word(out, b"get      ")?;
+            say_found(out, setting_store::get(lent, device(head)))
+        }
+        4 => {
+            word(out, b"put      ")?;
+            let put = setting_store::put(lent, device(head), version, kind, delay);
+            say_written(out, put)
+        }
+        _ => {
+            word(out, b"move     ")?;
+            say_written(out, setting_store::move_to_v2(lent))
+        }
     }
-    let written = change(out, head, lent)?;
-    replay_telling::say_written(out, written)
 }
 
 // ---- the vectors

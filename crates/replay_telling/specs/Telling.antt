@@ -1,46 +1,38 @@
 -- What the replaying programs take from bytes: a number at a place, the places of a call's texts, what a stored code stands for, and
 -- what remains of all of the bytes modulo a prime.
-use Rattle.std.specs.Prelude.{ℕ, ◌+◌, ◌*◌, ◌%◌, cond, List, [], ◌∷◌, eqb, length}
-use Rattle.fields.specs.Fields.{uint32_at, on_uint32}
+use Rattle.std.specs.Prelude.{ℕ, ◌+◌, ◌*◌, ◌%◌, cond, List, [], ◌∷◌, eqb, length, Option, Some, None}
+use Rattle.fields.specs.Fields.{uint32_at, on_read}
 use Rattle.fields.specs.declared.Part.{Part}
-use Rattle.key_material.specs.declared.Checkint.{Checkint}
-use Rattle.key_material.specs.declared.Checkint.TheVariants as checkint
 use Rattle.names.specs.declared.Algorithm.{Algorithm}
 use Rattle.names.specs.declared.Algorithm.TheVariants.{Elliptic as OnCurve, Rsa}
 use Rattle.names.specs.declared.Elliptic.{Elliptic}
 use Rattle.names.specs.declared.Elliptic.TheVariants.{Ed25519}
-use Rattle.names.specs.declared.AlgorithmName.{AlgorithmName}
-use Rattle.names.specs.declared.AlgorithmName.TheVariants as algorithm-name
 use Rattle.names.specs.declared.Cipher.{Cipher}
 use Rattle.names.specs.declared.Cipher.TheVariants as cipher
-use Rattle.names.specs.declared.CipherName.{CipherName}
-use Rattle.names.specs.declared.CipherName.TheVariants as cipher-name
 use Rattle.names.specs.declared.Kdf.{Kdf}
 use Rattle.names.specs.declared.Kdf.TheVariants as kdf
-use Rattle.names.specs.declared.KdfName.{KdfName}
-use Rattle.names.specs.declared.KdfName.TheVariants as kdf-name
 use Rattle.names_codes.specs.Codes.{algorithm_coded, cipher_coded, kdf_coded}
 
 -- the big-endian number of four bytes at a place; 0 where they aren't all there
 unfoldable pub number_in : List ℕ → ℕ → ℕ
-number_in s at = on_uint32 (uint32_at s (record { at = at; end = length s })) (λ f. 0) (λ n d. n)
+number_in s at = on_read (uint32_at s (record { at = at; end = length s })) (λ f. 0) (λ n d. n)
 
 -- of a call's head, the i-th text's place and length, which stand after four numbers
 unfoldable pub text_in : List ℕ → ℕ → Part
 text_in s i = record { start = number_in s (i * 8 + 16); length = number_in s (i * 8 + 20) }
 
 -- what is named, or the first of its kind
-abbrev pub known_algorithm : AlgorithmName → Algorithm
-known_algorithm (algorithm-name.Known a) = a
-known_algorithm algorithm-name.Unknown = OnCurve Ed25519
+abbrev pub known_algorithm : Option Algorithm → Algorithm
+known_algorithm (Some a) = a
+known_algorithm None = OnCurve Ed25519
 
-abbrev pub known_cipher : CipherName → Cipher
-known_cipher (cipher-name.Known c) = c
-known_cipher cipher-name.Unknown = cipher.None
+abbrev pub known_cipher : Option Cipher → Cipher
+known_cipher (Some c) = c
+known_cipher None = cipher.None
 
-abbrev pub known_kdf : KdfName → Kdf
-known_kdf (kdf-name.Known k) = k
-known_kdf kdf-name.Unknown = kdf.None
+abbrev pub known_kdf : Option Kdf → Kdf
+known_kdf (Some k) = k
+known_kdf None = kdf.None
 
 -- what a number's lowest byte is the code of
 unfoldable pub algorithm_of : ℕ → Algorithm
@@ -55,8 +47,8 @@ unfoldable pub elliptic_of : ℕ → Elliptic
 elliptic_of n = known_elliptic (algorithm_of n)
 
 -- 1 and any number for the derived checkint, another number and the given one
-unfoldable pub checkint_of : ℕ → ℕ → Checkint
-checkint_of derive value = cond (eqb derive 1) checkint.Derived (checkint.Given value)
+unfoldable pub checkint_of : ℕ → ℕ → Option ℕ
+checkint_of derive value = cond (eqb derive 1) None (Some value)
 
 unfoldable pub cipher_of : ℕ → Cipher
 cipher_of n = known_cipher (cipher_coded (n % 256))

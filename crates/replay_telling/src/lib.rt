@@ -7,14 +7,14 @@ ghost use Rattle.std.specs.Prelude.{◌≡◌, ◌≤◌, ◌+◌, ◌*◌, ◌%
 ghost use Rattle.fields.specs.Fields.{IsView};
 ghost use Rattle.replay_telling.specs.Telling.{number_in, text_in, algorithm_of, elliptic_of, checkint_of, cipher_of, kdf_of, next_rest, rest_of};
 
-use fields::{Cursor, Fault, Part, Uint32};
-use key_material::Checkint;
-use names::{Algorithm, AlgorithmName, Cipher, CipherName, Elliptic, Kdf, KdfName};
+use fields::{Cursor, Fault, Part};
+use names::{Algorithm, Cipher, Elliptic, Kdf};
 use places::Places;
 use standard_streams::Said;
+use std::fmt::{Display, Formatter};
 use std::io::{Read, Write};
 use std::rt::Files;
-use std::{fs, io};
+use std::{fmt, fs, io};
 use writer_reply::Written;
 
 // ---- the file
@@ -35,6 +35,7 @@ pub fn read_full(file: &mut impl Read, buf: &mut [u8]) -> io::Result<usize>
     ensures { IfOk result (λ n. n ≤ length buf.new) }
 {
     let mut done = 0;
+    // A loop by hand: std's read_exact answers no count where the file ends before it.
     while done < buf.len() {
         let n = file.read(&mut buf[done..])?;
         if n == 0 {
@@ -48,15 +49,12 @@ pub fn read_full(file: &mut impl Read, buf: &mut [u8]) -> io::Result<usize>
 // ---- numbers that were read
 
 // The big-endian number of four bytes at a place; 0 where they aren't all there.
+#[tactic(auto, unfolding(crate::specs::Telling::number_in))]
 pub fn number_at(bytes: &[u8], at: usize) -> u32
     ensures { result ≡ number_in bytes.now at }
 {
     let end = bytes.len();
-    let c = Cursor { at: at, end: end };
-    match c.uint32(bytes) {
-        Uint32::Value(n, _) => n,
-        Uint32::Refused(_) => 0,
-    }
+    Cursor { at, end }.uint32(bytes).map_or(0, |(n, _)| n)
 }
 
 // A number of 64 bits from its halves.
@@ -67,18 +65,13 @@ pub fn halves(upper: u32, lower: u32) -> usize
 }
 
 // The i-th text of a call, whose place and length stand in its head after four numbers.
+#[tactic(auto, unfolding(crate::specs::Telling::text_in))]
 pub fn text_of<'a>(head: &[u8], texts: &'a [u8], i: u8) -> &'a [u8]
     ensures { IsView result texts.entry (text_in head.now i) }
 {
     let start = number_at(head, (i as usize) * 8 + 16) as usize;
     let length = number_at(head, (i as usize) * 8 + 20) as usize;
-    fields::view(
-        texts,
-        Part {
-            start: start,
-            length: length,
-        },
-    )
+    fields::view(texts, Part { start, length })
 }
 
 // ---- codes that were read: the lowest byte of a number. One that names nothing isn't stored.
@@ -89,52 +82,44 @@ fn code(n: u32) -> u8
     (n % 256) as u8
 }
 
+#[tactic(auto, unfolding(crate::specs::Telling::algorithm_of))]
 pub fn algorithm_of(n: u32) -> Algorithm
     ensures { result ≡ algorithm_of n }
 {
-    match names_codes::algorithm_coded(code(n)) {
-        AlgorithmName::Known(algorithm) => algorithm,
-        AlgorithmName::Unknown => Algorithm::Elliptic(Elliptic::Ed25519),
-    }
+    names_codes::algorithm_coded(code(n)).unwrap_or(Algorithm::Elliptic(Elliptic::Ed25519))
 }
 
 // The kind of a key over a curve. A code of RSA isn't stored where one is wanted.
+#[tactic(auto, unfolding(crate::specs::Telling::elliptic_of))]
 pub fn elliptic_of(n: u32) -> Elliptic
     ensures { result ≡ elliptic_of n }
 {
-    let algorithm = algorithm_of(n);
-    match algorithm {
+    match algorithm_of(n) {
         Algorithm::Elliptic(kind) => kind,
         Algorithm::Rsa => Elliptic::Ed25519,
     }
 }
 
-// 1 is for the derived checkint.
-pub fn checkint_of(derive: u32, value: u32) -> Checkint
+// 1 is for the derived checkint, which is None.
+#[tactic(auto, unfolding(crate::specs::Telling::checkint_of))]
+pub fn checkint_of(derive: u32, value: u32) -> Option<u32>
     ensures { result ≡ checkint_of derive value }
 {
-    if derive == 1 {
-        return Checkint::Derived;
-    }
-    Checkint::Given(value)
+    if derive == 1 { None } else { Some(value) }
 }
 
+#[tactic(auto, unfolding(crate::specs::Telling::cipher_of))]
 pub fn cipher_of(n: u32) -> Cipher
     ensures { result ≡ cipher_of n }
 {
-    match names_codes::cipher_coded(code(n)) {
-        CipherName::Known(cipher) => cipher,
-        CipherName::Unknown => Cipher::None,
-    }
+    names_codes::cipher_coded(code(n)).unwrap_or(Cipher::None)
 }
 
+#[tactic(auto, unfolding(crate::specs::Telling::kdf_of))]
 pub fn kdf_of(n: u32) -> Kdf
     ensures { result ≡ kdf_of n }
 {
-    match names_codes::kdf_coded(code(n)) {
-        KdfName::Known(kdf) => kdf,
-        KdfName::Unknown => Kdf::None,
-    }
+    names_codes::kdf_coded(code(n)).unwrap_or(Kdf::None)
 }
 
 // ---- what is said
@@ -152,17 +137,61 @@ pub fn say_number(out: &mut impl Write, n: usize) -> io::Result<()>
     write!(out, " {n}")
 }
 
+// What is called by a stored call, named by its code there.
+#[derive(Clone, Copy, Debug, PartialEq, Eq)]
+pub enum Entry {
+    Plain,
+    Encrypted,
+    Rewrite,
+    Change,
+    Rsa,
+    Keys,
+    ChangeOf,
+    Add,
+    AddRsa,
+    Remove,
+}
+
+// By a code that was read, which is never another than these.
+impl From<u32> for Entry {
+    fn from(code: u32) -> Entry {
+        match code {
+            0 => Entry::Plain,
+            1 => Entry::Encrypted,
+            2 => Entry::Rewrite,
+            4 => Entry::Rsa,
+            5 => Entry::Keys,
+            6 => Entry::ChangeOf,
+            7 => Entry::Add,
+            8 => Entry::AddRsa,
+            9 => Entry::Remove,
+            _ => Entry::Change,
+        }
+    }
+}
+
+impl Display for Entry {
+    fn fmt<W: fmt::Write>(&self, f: &mut Formatter<W>) -> fmt::Result {
+        f.write_str(match self {
+            Entry::Plain => "plain    ",
+            Entry::Encrypted => "encrypted",
+            Entry::Rewrite => "rewrite  ",
+            Entry::Change => "change   ",
+            Entry::Rsa => "rsa      ",
+            Entry::Keys => "keys     ",
+            Entry::ChangeOf => "change_of",
+            Entry::Add => "add      ",
+            Entry::AddRsa => "add_rsa  ",
+            Entry::Remove => "remove   ",
+        })
+    }
+}
+
 // The entry that a stored call is of.
-pub fn say_entry(out: &mut impl Write, code: u32) -> io::Result<()>
+pub fn say_entry(out: &mut impl Write, entry: Entry) -> io::Result<()>
     ensures { IfOk result (λ done. done ≡ tt) }
 {
-    let names =
-        b"plain    encryptedrewrite  change   rsa      keys     change_ofadd      add_rsa  remove   ";
-    let name = Part {
-        start: (code as usize) * 9,
-        length: 9,
-    };
-    word(out, fields::view(names, name))
+    write!(out, "{entry}")
 }
 
 // Where a part begins, and its length.
@@ -196,26 +225,22 @@ pub fn say_written(out: &mut impl Write, written: Written) -> io::Result<()>
     ensures { IfOk result (λ done. done ≡ tt) }
 {
     match written {
-        Written::Refused(f) => say_refused(out, f),
-        Written::Length(length) => say_reply(out, 0, 0, 0, length),
+        Err(f) => say_refused(out, f),
+        Ok(length) => say_reply(out, 0, 0, 0, length),
     }
-}
-
-fn say_others(out: &mut impl Write, places: Places) -> io::Result<()> {
-    for i in 1..16 {
-        say_number(out, places.get(i) as usize)?;
-    }
-    Ok(())
 }
 
 // Where the keypairs begin: the first key's, and the others' only where one of these isn't 0.
 pub fn say_places(out: &mut impl Write, places: Places) -> io::Result<()>
     ensures { IfOk result (λ done. done ≡ tt) }
 {
-    let first = places.p1 as usize;
-    say_number(out, first)?;
-    if !places.same(Places::none().push(first)) {
-        say_others(out, places)?;
+    let others = &places.all[1..];
+    say_number(out, places.all[0] as usize)?;
+    if others.iter().all(|place| *place == 0) {
+        return Ok(());
+    }
+    for place in others {
+        say_number(out, *place as usize)?;
     }
     Ok(())
 }
@@ -239,10 +264,8 @@ pub fn rest_of(bytes: &[u8]) -> u64
     ensures { result ≡ rest_of bytes.now }
 {
     let mut rest: u64 = 0;
-    let mut i: usize = 0;
-    while i < bytes.len() {
-        rest = next_rest(rest, bytes[i]);
-        i += 1;
+    for byte in bytes {
+        rest = next_rest(rest, *byte);
     }
     rest
 }

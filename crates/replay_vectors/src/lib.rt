@@ -9,13 +9,11 @@ use fields::Part;
 use key_pairs::Private;
 use key_public::Public;
 use reader_entries::KeyFields;
-use reader_image::{Fields, ImageRead};
-use reader_keys::Looked;
+use reader_image::Fields;
 use replay_telling::{say_number, say_place, word};
 use std::io;
 use std::io::{Read, Write};
 use std::rt::Files;
-use writer_reply::Written;
 
 // ---- the keys
 
@@ -47,9 +45,8 @@ fn say_key(out: &mut impl Write, key: KeyFields) -> io::Result<()> {
 fn say_numbered(out: &mut impl Write, image: &[u8], f: Fields, k: usize) -> io::Result<()> {
     word(out, b"key")?;
     say_number(out, k)?;
-    match reader_keys::key_of(image, f, k) {
-        Looked::Nothing => {}
-        Looked::Key(key) => say_key(out, key)?,
+    if let Some(key) = reader_keys::key_of(image, f, k) {
+        say_key(out, key)?;
     }
     word(out, b"\n")
 }
@@ -67,8 +64,8 @@ fn say_keys(out: &mut impl Write, image: &[u8], f: Fields) -> io::Result<()> {
 
 fn say_keys_read(out: &mut impl Write, image: &[u8]) -> io::Result<()> {
     match reader_image::read(image) {
-        ImageRead::Refused(_) => Ok(()),
-        ImageRead::Record(f) => say_keys(out, image, f),
+        Err(_) => Ok(()),
+        Ok(f) => say_keys(out, image, f),
     }
 }
 
@@ -76,16 +73,10 @@ fn say_keys_read(out: &mut impl Write, image: &[u8]) -> io::Result<()> {
 
 fn say_report(out: &mut impl Write, image: &[u8]) -> io::Result<()> {
     let mut text = [0u8; 256];
-    match inspect_report::write_report(image, &mut text) {
-        Written::Refused(_) => Ok(()),
-        Written::Length(n) => {
-            let lines = Part {
-                start: 0,
-                length: n,
-            };
-            word(out, fields::view(&text, lines))
-        }
-    }
+    let Ok(length) = inspect_report::write_report(image, &mut text) else {
+        return Ok(());
+    };
+    word(out, fields::view(&text, Part { start: 0, length }))
 }
 
 // ---- the images
@@ -107,12 +98,8 @@ fn one(out: &mut impl Write, file: &mut impl Read) -> io::Result<bool> {
         return Ok(false);
     }
     let mut buf = [0u8; 66000];
-    let n = fill(file, &mut buf, replay_telling::number_at(&head, 0) as usize)?;
-    let whole = Part {
-        start: 0,
-        length: n,
-    };
-    let image = fields::view(&buf, whole);
+    let length = fill(file, &mut buf, replay_telling::number_at(&head, 0) as usize)?;
+    let image = fields::view(&buf, Part { start: 0, length });
     replay_reads::say_read(out, image)?;
     replay_reads::say_header_read(out, image)?;
     say_report(out, image)?;

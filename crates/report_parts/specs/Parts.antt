@@ -1,6 +1,6 @@
 -- docs/RULES.md, 13.2: of a refused image the line `refused`, with number, count and the byte at which the failing field began. 2.3: a text goes to
 -- the start of a lent buffer, or is refused with 9 and changes nothing.
-use Rattle.std.specs.Prelude.{ℕ, ◌+◌, ◌≤◌, ◌<◌, ◌^◌, ◌≡◌, List, [], ◌∷◌, ◌++◌, length, take, replicate}
+use Rattle.std.specs.Prelude.{ℕ, ◌≤◌, ◌<◌, ◌^◌, ◌≡◌, List, [], ◌∷◌, ◌++◌, length, take, replicate, Ok}
 use Prim.Native.String.{String}
 use Rattle.std.proofs.Common.{arith, ◌∙◌, length-append}
 use Rattle.std.proofs.lemmas.List.{length-replicate}
@@ -14,9 +14,7 @@ use Rattle.names.specs.Algorithms.{algorithm_name}
 use Rattle.buffer.specs.Decimal.{decimal, decimal_short}
 use Rattle.buffer.specs.Puts.{fits, placed, begins}
 use Rattle.buffer.specs.Runs.{IsRun}
-use Rattle.writer_reply.specs.Reply.{unless, Answers}
-use Rattle.writer_reply.specs.declared.Written.{Written}
-use Rattle.writer_reply.specs.declared.Written.TheVariants as written
+use Rattle.writer_reply.specs.Reply.{unless, Answers, Written}
 
 abbrev pub line_feed : List ℕ
 line_feed = 10 ∷ []
@@ -31,7 +29,7 @@ refused_line number count place = join (ascii "refused " ∷ decimal number ∷ 
 
 -- what handing a text to a buffer replies: its length, or 9 where the buffer is shorter
 abbrev pub text_reply : List ℕ → List ℕ → Written
-text_reply text old = unless (fits old 0 text) Room (written.Length (length text))
+text_reply text old = unless (fits old 0 text) Room (Ok (length text))
 
 -- the promise: that reply, and the text at the start of the buffer where it fits
 abbrev pub IsHandedText : List ℕ → List ℕ → Written → List ℕ → Type 0

@@ -34,11 +34,12 @@ pub fn put_refused(out: &mut [u8], at: usize, why: Refusal, place: usize) -> usi
 
 // A finished text goes to the start of a lent buffer, which keeps every byte past it, and all of them where it is
 // shorter than the text.
+#[tactic(auto, unfolding(buffer::specs::Puts::fits, buffer::specs::Puts::placed, buffer::specs::Puts::next))]
 pub fn hand_text(text: &[u8], out: &mut [u8]) -> Written
     ensures { IsHandedText text.now out.old result out.new }
 {
     if out.len() < text.len() {
         return writer_reply::refused(Refusal::Room);
     }
-    Written::Length(buffer::put(out, 0, text))
+    Ok(buffer::put(out, 0, text))
 }

@@ -1,12 +1,10 @@
 -- docs/RULES.md, 18.1 and 18.2: a setting's record is a number of 32 bits, the highest first: 4 bits version, 4 bits kind, 24 bits delay. In
 -- version 1 the delay is in seconds, in version 2 in milliseconds. Another version is 4, another kind than 0 to 4 is 4.
-use Rattle.std.specs.Prelude.{ℕ, ◌*◌, ◌/◌, ◌%◌, Bool, cond, ◌&&◌, ◌||◌, eqb, leb}
+use Rattle.std.specs.Prelude.{ℕ, ◌*◌, ◌/◌, ◌%◌, Bool, cond, ◌&&◌, ◌||◌, eqb, leb, Result, Ok, Err, Option, Some, None}
 use Rattle.fields.specs.Refusals.{number_of}
 use Rattle.fields.specs.declared.Refusal.{Refusal}
 use Rattle.fields.specs.declared.Refusal.TheVariants.{AlgorithmUnknown}
 use Rattle.setting_record.specs.declared.Setting.{Setting}
-use Rattle.setting_record.specs.declared.Answer.{Answer}
-use Rattle.setting_record.specs.declared.Answer.TheVariants as answer
 
 -- the bits of a record
 abbrev pub version_in : ℕ → ℕ
@@ -38,14 +36,14 @@ abbrev pub setting : ℕ → ℕ → Setting
 setting kind milliseconds = record { kind = kind; milliseconds = milliseconds }
 
 -- what a record says
-unfoldable pub answer_of : ℕ → Answer
-answer_of n = cond (is_known n) (answer.Setting (setting (kind_in n) (milliseconds_in n))) (answer.Refused AlgorithmUnknown)
+unfoldable pub answer_of : ℕ → Result (Option Setting) Refusal
+answer_of n = cond (is_known n) (Ok (Some (setting (kind_in n) (milliseconds_in n)))) (Err AlgorithmUnknown)
 
 -- by what was answered
-abbrev pub on_answer : {R : Type 0} → Answer → (Refusal → R) → R → (Setting → R) → R
-on_answer (answer.Refused why) refused empty set = refused why
-on_answer answer.Empty refused empty set = empty
-on_answer (answer.Setting s) refused empty set = set s
+abbrev pub on_answer : {R : Type 0} → Result (Option Setting) Refusal → (Refusal → R) → R → (Setting → R) → R
+on_answer (Err why) refused empty set = refused why
+on_answer (Ok None) refused empty set = empty
+on_answer (Ok (Some s)) refused empty set = set s
 
 -- the rules' reply: the refusal's number, count and place being 0; whether there is a setting, its kind and its milliseconds
 pub record ToldSetting : Type 0 where
@@ -55,7 +53,7 @@ pub record ToldSetting : Type 0 where
   pub milliseconds : ℕ
 
 -- of each case of an answer
-unfoldable pub told_setting : Answer → ToldSetting
+unfoldable pub told_setting : Result (Option Setting) Refusal → ToldSetting
 told_setting a =
     on_answer a
     (λ why. record { number = number_of why; used = 0; kind = 0; milliseconds = 0 })

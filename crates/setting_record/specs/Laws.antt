@@ -1,13 +1,11 @@
 -- A record's bits, taken apart and put together: what is packed says what it was packed from, and a record is fixed by its version and what
 -- it says. Rests on arithmetic alone.
-use Rattle.std.specs.Prelude.{ℕ, ◌*◌, ◌/◌, ◌%◌, ◌<◌, ◌^◌, ◌≡◌, refl, true, eqb, ltb}
+use Rattle.std.specs.Prelude.{ℕ, ◌*◌, ◌/◌, ◌%◌, ◌<◌, ◌^◌, ◌≡◌, refl, true, eqb, ltb, Ok, Some}
 use Rattle.std.proofs.Common.{div-add-mod', arith, sym, ◌∙◌, ap, eqb-true, leb-true, lt-ltb, ltb-true}
 use Rattle.std.proofs.Math.Nat.{mul-mod_left, mul-div_left}
 use Rattle.fields.specs.Bytes.{both_true}
 use Rattle.fields.specs.Place.{by_bool, clash}
 use Rattle.setting_record.specs.declared.Setting.{Setting}
-use Rattle.setting_record.specs.declared.Answer.TheVariants as answer
-use Rattle.setting_record.specs.declared.Packed.TheVariants as packed
 use Rattle.setting_record.specs.Bits.{version_in, kind_in, delay_in, is_version, is_kind, unit, is_known, milliseconds_in, setting, answer_of}
 use Rattle.setting_record.specs.Packing.{bits, writable, pack_of}
 
@@ -79,7 +77,7 @@ pub record PackedAs (v k ms n : ℕ) : Type 0 where
   pub delay : writable v ms ≡ true
   pub is : n ≡ bits v k (ms / unit v)
 
-pub packed_as : (v k ms n : ℕ) → pack_of v k ms ≡ packed.Record n → PackedAs v k ms n
+pub packed_as : (v k ms n : ℕ) → pack_of v k ms ≡ Ok n → PackedAs v k ms n
 unfolding pack_of
 packed_as v k ms n e =
     by_bool (is_version v)
@@ -90,12 +88,12 @@ packed_as v k ms n e =
     (λ b. let q = rw (a, b) at e in clash cc))
     (λ a. let q = rw a at e in clash cc)
 
-pub pack_as : (v k ms : ℕ) → is_version v ≡ true → is_kind k ≡ true → writable v ms ≡ true → pack_of v k ms ≡ packed.Record (bits v k (ms / unit v))
+pub pack_as : (v k ms : ℕ) → is_version v ≡ true → is_kind k ≡ true → writable v ms ≡ true → pack_of v k ms ≡ Ok (bits v k (ms / unit v))
 unfolding pack_of
 pack_as v k ms a b c = rw (a, b, c)
 
 -- what a record says that is known
-pub known-says : (n : ℕ) → is_known n ≡ true → answer_of n ≡ answer.Setting (setting (kind_in n) (milliseconds_in n))
+pub known-says : (n : ℕ) → is_known n ≡ true → answer_of n ≡ Ok (Some (setting (kind_in n) (milliseconds_in n)))
 unfolding answer_of
 known-says n e = rw e
 
@@ -131,11 +129,11 @@ module _ (v k ms n : ℕ) (p : PackedAs v k ms n) where
   packed_milliseconds = rw (packed_version, packed_delay) (writable_whole v ms p.delay)
 
   -- what is packed says what it was packed from
-  pub packed_says : answer_of n ≡ answer.Setting (setting k ms)
+  pub packed_says : answer_of n ≡ Ok (Some (setting k ms))
   packed_says =
       known-says n packed_known
-      ∙ ap (λ (x : ℕ). answer.Setting (setting x (milliseconds_in n))) packed_kind
-      ∙ ap (λ (x : ℕ). answer.Setting (setting k x)) packed_milliseconds
+      ∙ ap (λ (x : ℕ). Ok (Some (setting x (milliseconds_in n)))) packed_kind
+      ∙ ap (λ (x : ℕ). Ok (Some (setting k x))) packed_milliseconds
 
 -- ---- what is said
 
@@ -145,15 +143,15 @@ pub record Says (n : ℕ) (s : Setting) : Type 0 where
   pub kind : kind_in n ≡ s.kind
   pub milliseconds : milliseconds_in n ≡ s.milliseconds
 
-pub says : (n : ℕ) (s : Setting) → answer_of n ≡ answer.Setting s → Says n s
+pub says : (n : ℕ) (s : Setting) → answer_of n ≡ Ok (Some s) → Says n s
 unfolding answer_of
 says n s e =
     by_bool (is_known n)
-    (λ k. let q : answer.Setting (setting (kind_in n) (milliseconds_in n)) ≡ answer.Setting s = rw k at e in record { known = k; kind = cc; milliseconds = cc })
+    (λ k. let q : Ok (Some (setting (kind_in n) (milliseconds_in n))) ≡ Ok (Some s) = rw k at e in record { known = k; kind = cc; milliseconds = cc })
     (λ k. let q = rw k at e in clash cc)
 
 -- two records of one version that say the same are the same
-pub same_record : (n m : ℕ) (s : Setting) → answer_of n ≡ answer.Setting s → answer_of m ≡ answer.Setting s → version_in n ≡ version_in m → n ≡ m
+pub same_record : (n m : ℕ) (s : Setting) → answer_of n ≡ Ok (Some s) → answer_of m ≡ Ok (Some s) → version_in n ≡ version_in m → n ≡ m
 unfolding milliseconds_in
 same_record n m s e f v =
     let a = says n s e in

@@ -1,12 +1,10 @@
 -- docs/RULES.md, 18.7 and 18.8: a move to version 2. A store of another length: 1; a used place of another version or kind: 4, over all places; a
 -- used place whose milliseconds don't fit 24 bits: 11, over all. It leaves every used place in version 2, with its kind and milliseconds,
 -- and every unused one as it is.
-use Rattle.std.specs.Prelude.{ℕ, zero, suc, Bool, true, false, cond, ◌&&◌, ◌||◌, List, [], ◌++◌, eqb, length}
+use Rattle.std.specs.Prelude.{ℕ, zero, suc, Bool, true, false, cond, ◌&&◌, ◌||◌, List, [], ◌++◌, eqb, length, Ok}
 use Rattle.fields.specs.Bytes.{uint32}
 use Rattle.fields.specs.declared.Refusal.TheVariants.{Length, AlgorithmUnknown, Size}
-use Rattle.writer_reply.specs.Reply.{on_written, unless}
-use Rattle.writer_reply.specs.declared.Written.{Written}
-use Rattle.writer_reply.specs.declared.Written.TheVariants as written
+use Rattle.writer_reply.specs.Reply.{on_written, unless, Written}
 use Rattle.setting_record.specs.Bits.{kind_in, is_known, milliseconds_in}
 use Rattle.setting_record.specs.Packing.{writable, pack_of, on_packed}
 use Rattle.setting_record.specs.Record.{record_at}
@@ -43,7 +41,7 @@ move_reply s =
     unless (eqb (length s) 128) Length
     (unless (all_places known 32 s) AlgorithmUnknown
     (unless (all_places fitting 32 s) Size
-    (written.Length 128)))
+    (Ok 128)))
 
 unfoldable pub move_left : List ℕ → List ℕ
 move_left s = on_written (move_reply s) (λ f. s) (λ n. moved_places 32 s)

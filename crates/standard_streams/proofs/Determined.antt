@@ -1,27 +1,18 @@
 -- Any two replies that meet a public function's own contract and report no failed write are equal: these functions answer nothing
 -- else, and what they put to standard output and standard error is in no contract.
-use Rattle.std.specs.Prelude.{ℕ, List, ◌≡◌, IsOk, Ok, Err}
+use Rattle.std.specs.Prelude.{IsOk, Ok, Err}
 use Rattle.std.specs.declared.io.traits.Write.{Ghosts}
-use borrow.Fn.Kinds.{Dens, res_t, ended_of, ParamKind, ResultKind, Out}
-use contract.Lifetimes.{Lfts}
 use denote.Param.Laws.{Laws}
 use denote.RattleType.{RattleType}
-use denote.Triple.Clauses.{AtExit}
 use mathlib.Core.Path.{refl}
 use mir.Syntax.{Dict}
+use Rattle.standard_streams.specs.Determined.{DeterminedIf}
 use Rattle.standard_streams.proofs.tell_unread.Reads as tell_unread
 use Rattle.standard_streams.proofs.tell_unread.Kinds as tell_unread_kinds
 use Rattle.standard_streams.proofs.tell_refused.Reads as tell_refused
 use Rattle.standard_streams.proofs.tell_refused.Kinds as tell_refused_kinds
 use Rattle.standard_streams.proofs.hand_out.Reads as hand_out
 use Rattle.standard_streams.proofs.hand_out.Kinds as hand_out_kinds
-
--- any two replies of which this holds are equal
-abbrev DeterminedIf :
-    (n : ℕ) (ps : List (ParamKind n)) (r : ResultKind n) → ((κs : Lfts n) → (res_t r κs).Denot → Type 0) → Out n ps r → Type 0
-DeterminedIf n ps r P Post =
-    (κs : Lfts n) (a : Dens κs ps) (r₁ r₂ : (res_t r κs).Denot) (s₁ s₂ : AtExit (ended_of n ps r) κs) →
-    Post κs a r₁ s₁ → Post κs a r₂ s₂ → P κs r₁ → P κs r₂ → r₁ ≡ r₂
 
 pub tell_refused_determined :
     (E : RattleType) (L : Laws E) (W : Ghosts E.Denot) (d : Dict) →

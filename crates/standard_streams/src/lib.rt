@@ -8,7 +8,7 @@ ghost use Rattle.std.specs.Prelude.{◌≡◌, ◌≤◌, length, IfOk, IfSome};
 
 use fields::{Fault, Part};
 use std::fmt::{Display, Formatter};
-use std::io::{Read, Write};
+use std::io::{Cursor, Read, Write};
 use std::{fmt, io};
 use writer_reply::Written;
 
@@ -17,6 +17,7 @@ pub fn read_full<R: Read>(from: &mut R, buf: &mut [u8]) -> usize
     ensures { result ≤ length buf.new }
 {
     let mut done = 0;
+    // A loop by hand: std's read_exact answers no count where the input ends before it.
     while done < buf.len() {
         match from.read(&mut buf[done..]) {
             Ok(n) if n > 0 => done += n,
@@ -38,8 +39,7 @@ pub fn take_input<R: Read, E: Write>(
 {
     let n = read_full(from, buf);
     if n < buf.len() {
-        let mut one = [0u8; 1];
-        let got = from.read(&mut one);
+        let got = from.read(&mut [0u8; 1]);
         if !matches!(got, Ok(0)) {
             tell_unread(err, got, input)?;
             return Ok(None);
@@ -63,37 +63,11 @@ pub fn tell_unread<E: Write>(err: &mut E, got: io::Result<usize>, input: &[u8]) 
     }
 }
 
-// What std says of an error, as far as there is room for it.
-#[derive(Drop)]
-struct Words {
-    text: [u8; 128],
-    length: usize,
-}
-
-impl Write for Words {
-    fn write(&mut self, buf: &[u8]) -> io::Result<usize> {
-        for byte in buf {
-            if self.length < 128 {
-                self.text[self.length] = *byte;
-                self.length += 1;
-            }
-        }
-        Ok(buf.len())
-    }
-
-    fn flush(&mut self) -> io::Result<()> {
-        Ok(())
-    }
-}
-
 // The system's own words, without the number that std puts behind them.
 fn without_number(text: &[u8]) -> &[u8] {
-    for at in 0..text.len() {
-        if text[at..].starts_with(b" (os error ") {
-            return &text[..at];
-        }
-    }
-    text
+    let number = b" (os error ".as_slice();
+    let at = text.windows(number.len()).position(|w| w == number);
+    at.map_or(text, |at| &text[..at])
 }
 
 // An error in the system's own words.
@@ -102,18 +76,15 @@ pub struct Said(pub io::Error);
 
 impl Display for Said {
     fn fmt<W: fmt::Write>(&self, f: &mut Formatter<W>) -> fmt::Result {
-        let mut words = Words {
-            text: [0; 128],
-            length: 0,
-        };
-        if write!(words, "{}", self.0).is_err() {
-            return Err(fmt::Error);
-        }
+        // What there is no room for is left out.
+        let mut words = Cursor::new([0u8; 128]);
+        let _ = write!(words, "{}", self.0);
         let said = Part {
             start: 0,
-            length: words.length,
+            length: words.position() as usize,
         };
-        let text = without_number(fields::view(&words.text, said));
+        let all = words.into_inner();
+        let text = without_number(fields::view(&all, said));
         f.write_str(str::from_utf8(text).unwrap_or(""))
     }
 }
@@ -145,16 +116,11 @@ pub fn hand_out<O: Write, E: Write>(
     ensures { IfOk result (λ done. done ≡ tt) }
 {
     match written {
-        Written::Refused(f) => tell_refused(err, f),
-        Written::Length(n) => {
-            let whole = Part {
-                start: 0,
-                length: n,
-            };
-            match out.write_all(fields::view(buffer, whole)) {
-                Ok(()) => Ok(()),
-                Err(why) => tell_failed(err, output, why),
-            }
+        Err(f) => tell_refused(err, f),
+        Ok(length) => {
+            let whole = Part { start: 0, length };
+            out.write_all(fields::view(buffer, whole))
+                .or_else(|why| tell_failed(err, output, why))
         }
     }
 }
@@ -246,7 +212,7 @@ mod tests {
     fn what_was_written_is_handed_out(rt: HostRuntime) -> Result<(), Fail> {
         let mut out = Vec::new(rt.alloc());
         let mut told = Vec::new(rt.alloc());
-        hand_out(&mut out, &mut told, Written::Length(2), b"abc", b"me: out")?;
+        hand_out(&mut out, &mut told, Ok(2), b"abc", b"me: out")?;
         assert_eq!(rt; out.as_slice(), b"ab".as_slice());
         assert_eq!(rt; told.as_slice(), b"".as_slice());
         Ok(())
@@ -256,10 +222,7 @@ mod tests {
     fn a_refusal_is_told(rt: HostRuntime) -> Result<(), Fail> {
         let mut out = Vec::new(rt.alloc());
         let mut told = Vec::new(rt.alloc());
-        let refused = Written::Refused(Fault {
-            why: Refusal::TrailingData(2),
-            at: 242,
-        });
+        let refused = Err(Refusal::TrailingData(2).at(242));
         hand_out(&mut out, &mut told, refused, b"abc", b"me: out")?;
         assert_eq!(rt; out.as_slice(), b"".as_slice());
         assert_eq!(rt; told.as_slice(), b"refused 6 2 242\n".as_slice());
@@ -269,7 +232,7 @@ mod tests {
     #[test]
     fn a_failed_write_is_told(rt: HostRuntime) -> Result<(), Fail> {
         let mut told = Vec::new(rt.alloc());
-        hand_out(&mut Full, &mut told, Written::Length(2), b"abc", b"me: out")?;
+        hand_out(&mut Full, &mut told, Ok(2), b"abc", b"me: out")?;
         assert_eq!(rt; told.as_slice(), b"me: out: full\n".as_slice());
         Ok(())
     }

@@ -1,18 +1,19 @@
 -- How far ASCII goes (`ascii_run`): a run stays within the text; past a part of it the rest of the run is left, and the text from there on
--- answers for the whole (`part_of_run`); what one byte tells of a run. Rests on the definitions of `ascii_run` and `lies_at`, and on `ascii_next`.
-use Prim.Native.Nat.{ℕ, zero, suc, ◌+◌, ◌-◌, ◌≤◌, ◌<◌}
+-- answers for the whole (`part_of_run`); what one byte tells of a run, and what a block. Rests on the definition of `ascii_run`, and on `ascii_next`.
+use Prim.Native.Nat.{ℕ, zero, suc, ◌+◌, ◌-◌, ◌≤◌, ◌<◌, ◌*◌}
 use native.Mathlib.Omega.{arith}
-use mathlib.Core.Path.{◌≡◌, refl, sym, ◌∙◌}
+use mathlib.Core.Path.{◌≡◌, refl, sym, ◌∙◌, ap}
 use mathlib.Core.List.{List, [], ◌∷◌}
 use mathlib.Core.Bool.{Bool, true, false, cond}
-use borrow.Author.Tests.{ltb-true, leb-true, leb-false, lt-ltb}
+use borrow.Author.Tests.{ltb-true, lt-ltb, le-ltb}
 use lib.Bits.{bit_or, or_add_and, and_le_l, and_le_r}
-use lib.Dec.{leb, ltb, leb-zero, leb-suc-suc}
-use lib.ListN.{length, length-drop, get_or, drop}
+use lib.Dec.{ltb}
+use lib.ListN.{length, length-drop, get_or, drop, take}
 use lib.Seq.{drop-cons, drop-drop}
-use Rattle.utf8.specs.Utf8.{◌to◌, utf8}
+use Rattle.std.specs.Simd.{first_chunks}
+use Rattle.utf8.specs.Utf8.{utf8}
 use Rattle.utf8.specs.Laws.{ascii_next}
-use Rattle.utf8.specs.Steps.{ascii_run, begins, lies_at}
+use Rattle.utf8.specs.Steps.{ascii_run}
 
 pub run_within : (t : List ℕ) → ascii_run t ≤ length t
 unfolding ascii_run
@@ -71,24 +72,7 @@ back t from i j h k e =
 
 -- ---- one byte
 
-begins_run : (t : List ℕ) → begins (0x00 to 0x7F) t ≡ leb 1 (ascii_run t)
-unfolding ascii_run
-begins_run [] = refl
-begins_run (b ∷ t) = rw (leb-zero b) (sym (leb-suc-suc b 0x7F) ∙ go (ltb b 0x80))
-  where
-    go : (x : Bool) → x ≡ leb 1 (cond x (suc (ascii_run t)) 0)
-    go true = sym (leb-suc-suc 0 (ascii_run t) ∙ leb-zero (ascii_run t))
-    go false = refl
-
 module _ (t : List ℕ) (i : ℕ) where
-  pub goes_on : lies_at (0x00 to 0x7F) t i ≡ true → 0 < ascii_run (drop i t)
-  unfolding lies_at
-  goes_on e = leb-true 1 (ascii_run (drop i t)) (sym (begins_run (drop i t)) ∙ e)
-
-  pub is_over : lies_at (0x00 to 0x7F) t i ≡ false → ascii_run (drop i t) ≡ 0
-  unfolding lies_at
-  is_over e = omega (arith, leb-false 1 (ascii_run (drop i t)) (sym (begins_run (drop i t)) ∙ e))
-
   run_stands : i < length t → get_or t i 0 < 0x80 → 0 < ascii_run (drop i t)
   unfolding ascii_run
   run_stands h k = rw (drop-cons t i 0 h, lt-ltb (get_or t i 0) 0x80 k) (omega arith)
@@ -102,11 +86,48 @@ module _ (t : List ℕ) (i : ℕ) where
     rw e (part_of_run t i (ascii_run (drop i t)) (omega arith)).1,
   )
 
+-- another ASCII byte
+pub run_on : (t : List ℕ) (i : ℕ) → i ≤ ascii_run t → i < length t → get_or t i 0 < 0x80 → i + 1 ≤ ascii_run t
+run_on t i h k l = omega (arith, run_stands t i k l, (first_part i t h).0)
+
 -- a byte more that is or'ed to others: without a top bit in all of them together each is ASCII
-pub byte_ors : (t : List ℕ) (i k all : ℕ) → i + k < length t → (all < 0x80 → k ≤ ascii_run (drop i t)) →
-    bit_or all (get_or t (i + k) 0) < 0x80 → k + 1 ≤ ascii_run (drop i t)
-byte_ors t i k all h before l =
-    let b = get_or t (i + k) 0 in
+pub byte_ors : (t : List ℕ) (k all : ℕ) → k < length t → (all < 0x80 → k ≤ ascii_run t) → bit_or all (get_or t k 0) < 0x80 →
+    k + 1 ≤ ascii_run t
+byte_ors t k all h before l =
+    let b = get_or t k 0 in
     let s = or_add_and all b in
-    let p = (part_of_run t i k (before (omega (arith, l, s, and_le_r all b)))).0 in
-    omega (arith, p, run_stands t (i + k) h (omega (arith, l, s, and_le_l all b)))
+    run_on t k (before (omega (arith, l, s, and_le_r all b))) h (omega (arith, l, s, and_le_l all b))
+
+-- a byte that isn't ASCII ends the run
+pub run_over : (t : List ℕ) (i : ℕ) → i ≤ ascii_run t → i < length t → 0x80 ≤ get_or t i 0 → i ≡ ascii_run t
+unfolding ascii_run
+run_over t i h k l =
+    let e : ascii_run (drop i t) ≡ 0 = rw (drop-cons t i 0 k, le-ltb (get_or t i 0) 0x80 l) in
+    omega (arith, e, (first_part i t h).0)
+
+-- the run of a text's beginning is one of the text
+pub run_of_front : (n : ℕ) (t : List ℕ) → ascii_run (take n t) ≤ ascii_run t
+unfolding ascii_run
+run_of_front zero t = omega arith
+run_of_front (suc n) [] = omega arith
+run_of_front (suc n) (b ∷ t) = go (ltb b 0x80) (run_of_front n t)
+  where
+    go : (x : Bool) → ascii_run (take n t) ≤ ascii_run t → cond x (suc (ascii_run (take n t))) 0 ≤ cond x (suc (ascii_run t)) 0
+    go true h = omega (arith, h)
+    go false h = omega arith
+
+-- ---- blocks of 128 bytes
+
+chunk_at : (n i : ℕ) (t d : List ℕ) → i < n → get_or (first_chunks 128 n t) i d ≡ take 128 (drop (i * 128) t)
+chunk_at zero i t d h = absurd (omega arith)
+chunk_at (suc n) zero t d h = refl
+chunk_at (suc n) (suc i) t d h =
+    let e : 128 + i * 128 ≡ suc i * 128 = omega arith in
+    chunk_at n i (drop 128 t) d (omega arith) ∙ ap (take 128) (drop-drop (i * 128) 128 t ∙ ap (λ (k : ℕ). drop k t) e)
+
+-- another block of ASCII
+pub block_on : (t : List ℕ) (blocks : List (List ℕ)) (n i : ℕ) (d : List ℕ) → blocks ≡ first_chunks 128 n t → i < n → i * 128 ≤ ascii_run t →
+    128 ≤ ascii_run (get_or blocks i d) → (i + 1) * 128 ≤ ascii_run t
+block_on t blocks n i d e h k l =
+    let m = rw (e, chunk_at n i t d h) at l in
+    omega (arith, m, run_of_front 128 (drop (i * 128) t), (first_part (i * 128) t k).0)

@@ -10,11 +10,11 @@ use borrow.Author.Tests.{le-leb, lt-leb, leb-false}
 use lib.Dec.{leb}
 use lib.ListN.{length, get_or, drop}
 use lib.Seq.{drop-cons}
-use Rattle.utf8.specs.declared.Found.TheVariants.{End, Nothing}
 use Rattle.utf8.specs.Utf8.{utf8}
 use Rattle.utf8.specs.Steps.{Passes}
 use Rattle.utf8.specs.Follow.{may_follow, all_follow, begin_of}
 use Rattle.utf8.proofs.Following.{Standing, whole, one, two, three, answer, below_lead, tail_below, moves, stops}
+use Rattle.std.specs.Prelude.{Some, None}
 
 -- what stands before the place that is three bytes after this one
 abbrev StandingAt : List ℕ → ℕ → Type 0
@@ -141,7 +141,7 @@ module _ (t : List ℕ) (bytes : (i : ℕ) → get_or t i 0 < 256) (at n : ℕ) 
   start : StandingAt t at
   start = let w = whole_at t at begun in whole w.0 w.1 w.2
 
-  pub follow_pass : 3 < n → all_follow n t at ≡ true → Passes t (at + 3) (End (begin_of t (at + n + 3)))
+  pub follow_pass : 3 < n → all_follow n t at ≡ true → Passes t (at + 3) (Some (begin_of t (at + n + 3)))
   unfolding start
   follow_pass many all =
       let r = run t bytes at start n inside all in
@@ -149,6 +149,6 @@ module _ (t : List ℕ) (bytes : (i : ℕ) → get_or t i 0 < 256) (at n : ℕ) 
       let s = back_small r.standing in
       (omega (arith, e, s, many), omega (arith, e, inside), r.same ∙ sym (Answers_back t (at + n) inside r.standing) ∙ ap (λ (i : ℕ). utf8 (drop i t)) (sym e))
 
-  pub follow_stop : all_follow n t at ≡ false → Passes t (at + 3) Nothing
+  pub follow_stop : all_follow n t at ≡ false → Passes t (at + 3) None
   unfolding start
   follow_stop all = fails t bytes at start n inside all

@@ -13,6 +13,7 @@ use lib.Count.{count_trailing_zeros}
 use lib.Dec.{ltb}
 use lib.ListN.{length, length-drop, get_or, drop}
 use lib.Seq.{drop-cons}
+use Rattle.std.specs.Int.{w64, from_le_bytes}
 use Rattle.utf8.specs.Steps.{ascii_run, top_bits}
 
 -- ---- what it tells
@@ -80,9 +81,9 @@ mask zero = 0
 mask (suc n) = mask n * 256 + 0x80
 
 -- the number has n bytes, and the top bits of those at the place
-pub record Made (t : List ℕ) (i n number : ℕ) : Type 0 where
-  pub small : number < 256 ^ n
-  pub tops : bit_and number (mask n) ≡ top_bits n (drop i t)
+record Made (t : List ℕ) (i n number : ℕ) : Type 0 where
+  small : number < 256 ^ n
+  tops : bit_and number (mask n) ≡ top_bits n (drop i t)
 
 top_bit : (b : ℕ) → b < 256 → bit_and b 0x80 ≡ cond (ltb b 0x80) 0 0x80
 top_bit b h = and_high b 1 7 ∙ go (ltb b 0x80) (ltb-true b 0x80) (ltb-false b 0x80)
@@ -91,16 +92,38 @@ top_bit b h = and_high b 1 7 ∙ go (ltb b 0x80) (ltb-true b 0x80) (ltb-false b 
     go true b< ≤b = omega (arith, b< refl)
     go false b< ≤b = omega (arith, h, ≤b refl)
 
-pub nothing_made : (t : List ℕ) (i : ℕ) → Made t i 0 0
+nothing_made : (t : List ℕ) (i : ℕ) → Made t i 0 0
 unfolding top_bits
 nothing_made t i = record { small = omega arith; tops = refl }
 
-pub byte_joins : (t : List ℕ) (i n number : ℕ) → i < length t → get_or t i 0 < 256 → Made t (suc i) n number →
+byte_joins : (t : List ℕ) (i next n number : ℕ) → next ≡ suc i → i < length t → get_or t i 0 < 256 → Made t next n number →
     Made t i (suc n) (number * 256 + get_or t i 0)
 unfolding top_bits
-byte_joins t i n number h k m =
+byte_joins t i next n number e h k made =
     let b = get_or t i 0 in
+    let m = rw e at made in
     record {
       small = rw (pow-suc 256 n) (omega (arith, k, m.small));
       tops = rw (drop-cons t i 0 h, ← m.tops, ← top_bit b k) (and_block 8 number (mask n) b 0x80 k (omega arith));
     }
+
+module _ (t : List ℕ) (bytes : (k : ℕ) → get_or t k 0 < 256) (i : ℕ) (inside : i + 8 ≤ length t) where
+  joins : (j next n number : ℕ) → next ≡ suc j → j < i + 8 → Made t next n number → Made t j (suc n) (number * 256 + get_or t j 0)
+  joins j next n number e h m = byte_joins t j next n number e (omega (arith, inside, h)) (bytes j) m
+
+  pub eight_tops : (number : ℕ) →
+      number ≡ from_le_bytes w64 (get_or t i 0 ∷ get_or t (i + 1) 0 ∷ get_or t (i + 2) 0 ∷ get_or t (i + 3) 0 ∷ get_or t (i + 4) 0 ∷ get_or t (i + 5) 0 ∷ get_or t (i + 6) 0 ∷ get_or t (i + 7) 0 ∷ []) →
+      bit_and number 0x8080_8080_8080_8080 ≡ top_bits 8 (drop i t)
+  eight_tops number e =
+      let m₁ = joins (i + 7) (i + 8) 0 0 (omega arith) (omega arith) (nothing_made t (i + 8)) in
+      let m₂ = joins (i + 6) (i + 7) 1 _ (omega arith) (omega arith) m₁ in
+      let m₃ = joins (i + 5) (i + 6) 2 _ (omega arith) (omega arith) m₂ in
+      let m₄ = joins (i + 4) (i + 5) 3 _ (omega arith) (omega arith) m₃ in
+      let m₅ = joins (i + 3) (i + 4) 4 _ (omega arith) (omega arith) m₄ in
+      let m₆ = joins (i + 2) (i + 3) 5 _ (omega arith) (omega arith) m₅ in
+      let m₇ = joins (i + 1) (i + 2) 6 _ (omega arith) (omega arith) m₆ in
+      let m₈ = joins i (i + 1) 7 _ (omega arith) (omega arith) m₇ in
+      same_made _ m₈ (omega (arith, e))
+    where
+      same_made : (n : ℕ) → Made t i 8 n → n ≡ number → bit_and number 0x8080_8080_8080_8080 ≡ top_bits 8 (drop i t)
+      same_made n m e = (rw e at m).tops

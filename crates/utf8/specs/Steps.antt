@@ -1,8 +1,6 @@
 -- What the functions of the check answer on the way: how far ASCII goes, a byte at a place, what is left of a character, and where it ends.
-use Rattle.std.specs.Prelude.{ℕ, zero, suc, ◌+◌, ◌*◌, ◌≤◌, ◌<◌, ◌≡◌, List, [], ◌∷◌, Bool, false, cond, ltb, length, drop, replicate}
+use Rattle.std.specs.Prelude.{ℕ, zero, suc, ◌+◌, ◌*◌, ◌≤◌, ◌<◌, ◌≡◌, List, [], ◌∷◌, Bool, false, cond, ltb, length, drop, replicate, Option, Some, None}
 use Rattle.utf8.specs.declared.Rest.{Rest}
-use Rattle.utf8.specs.declared.Found.{Found}
-use Rattle.utf8.specs.declared.Found.TheVariants.{End, Nothing}
 use Rattle.utf8.specs.Utf8.{Range, ◌to◌, Row, UTF8-tail, lies, utf8_from, utf8}
 
 -- how many bytes at the beginning of the text are ASCII, up to the first that is not
@@ -30,11 +28,11 @@ abbrev pub ranges : Rest → Row
 ranges r = r.0 to r.1 ∷ replicate r.2 UTF8-tail
 
 -- from the place on the ranges of the row are met up to an end, after which the answer is that of the whole; or the text is not UTF-8
-abbrev pub Ends : List ℕ → ℕ → Row → Found → Type 0
-Ends t from row (End at) = (from ≤ at) × (at ≤ length t) × (utf8_from row (drop from t) ≡ utf8 (drop at t))
-Ends t from row Nothing = utf8_from row (drop from t) ≡ false
+abbrev pub Ends : List ℕ → ℕ → Row → Option ℕ → Type 0
+Ends t from row (Some at) = (from ≤ at) × (at ≤ length t) × (utf8_from row (drop from t) ≡ utf8 (drop at t))
+Ends t from row None = utf8_from row (drop from t) ≡ false
 
 -- the text from the place on, where a character may begin, is answered by the text from an end on; or it is not UTF-8
-abbrev pub Passes : List ℕ → ℕ → Found → Type 0
-Passes t from (End at) = (from < at) × (at ≤ length t) × (utf8 (drop from t) ≡ utf8 (drop at t))
-Passes t from Nothing = utf8 (drop from t) ≡ false
+abbrev pub Passes : List ℕ → ℕ → Option ℕ → Type 0
+Passes t from (Some at) = (from < at) × (at ≤ length t) × (utf8 (drop from t) ≡ utf8 (drop at t))
+Passes t from None = utf8 (drop from t) ≡ false

@@ -12,82 +12,61 @@ ghost use Rattle.utf8.specs.Follow.{lowest_after, highest_after, may_follow, all
 #[derive(Clone, Copy)]
 struct Rest(u8, u8, u8);
 
-// Where characters end, if they stand there whole.
-#[derive(Clone, Copy)]
-enum Found {
-    End(usize),
-    Nothing,
-}
-
 // Does a byte from low to high stand at the place?
+#[tactic(auto, using(crate::proofs::Bytes::lies_found, crate::proofs::Bytes::lies_nowhere))]
 fn lies_at(text: &[u8], at: usize, low: u8, high: u8) -> bool
     ensures { result ≡ lies_at (low to high) text.now at }
 {
-    if text.len() <= at {
-        return false;
+    match text.get(at) {
+        Some(b) => low <= *b && *b <= high,
+        None => false,
     }
-    let b = text[at];
-    if b < low {
-        return false;
-    }
-    if high < b {
-        return false;
-    }
-    true
 }
 
-// Where the character ends of which this is left, from the place on.
-fn end_of(text: &[u8], from: usize, left: Rest) -> Found
+// Where the character ends of which this is left, from the place on, if it stands there whole.
+fn end_of(text: &[u8], from: usize, left: Rest) -> Option<usize>
     ensures { Ends text.now from (ranges left) result }
 {
-    let mut at = from;
-    let mut low = left.0;
-    let mut high = left.1;
-    let mut tails = left.2;
-    while lies_at(text, at, low, high) {
-        at += 1;
-        if tails == 0 {
-            return Found::End(at);
-        }
-        tails -= 1;
-        low = 0x80;
-        high = 0xBF;
+    let Rest(low, high, tails) = left;
+    if !lies_at(text, from, low, high) {
+        return None;
     }
-    Found::Nothing
+    let tails = tails as usize;
+    for k in 0..tails {
+        if !lies_at(text, from + 1 + k, 0x80, 0xBF) {
+            return None;
+        }
+    }
+    Some(from + 1 + tails)
 }
 
 // Where the characters of one row end, from the place on: a first byte lies from low to high, as the one at the place is known to, and
 // this is left after it. Compiled, each row has a loop of its own, whose bounds are constants.
-fn past_row(text: &[u8], from: usize, low: u8, high: u8, left: Rest) -> Found
+fn past_row(text: &[u8], from: usize, low: u8, high: u8, left: Rest) -> Option<usize>
     requires from_in_bounds { from < length text.now }
     requires left_value { leaves low high (ranges left) ≡ true }
     ensures { Ends text.now (from + 1) (ranges left) result }
 {
     let mut at = from;
     loop {
-        match end_of(text, at + 1, left) {
-            Found::Nothing => return Found::Nothing,
-            Found::End(end) => {
-                if lies_at(text, end, low, high) {
-                    at = end;
-                } else {
-                    return Found::End(end);
-                }
-            }
+        let end = end_of(text, at + 1, left)?;
+        if !lies_at(text, end, low, high) {
+            return Some(end);
         }
+        at = end;
     }
 }
 
 // The same, of the row that the byte at the place begins, one other than ASCII. The length first: the characters of a text mostly have one
 // length, so the processor guesses the branch right.
-fn past_others(text: &[u8], from: usize, lead: u8) -> Found
+fn past_others(text: &[u8], from: usize, lead: u8) -> Option<usize>
     requires from_in_bounds { from < length text.now }
     requires le_lead { 0x80 ≤ lead }
     ensures { Ends text.now (from + 1) (rest lead UTF8-char) result }
 {
     if lead < 0xE0 {
         if lead < 0xC2 {
-            return Found::Nothing;
+            return None;
         }
         return past_row(text, from, 0xC2, 0xDF, Rest(0x80, 0xBF, 0));
     }
@@ -103,7 +82,7 @@ fn past_others(text: &[u8], from: usize, lead: u8) -> Found
         0xF0 => past_row(text, from, 0xF0, 0xF0, Rest(0x90, 0xBF, 2)),
         0xF1..=0xF3 => past_row(text, from, 0xF1, 0xF3, Rest(0x80, 0xBF, 2)),
         0xF4 => past_row(text, from, 0xF4, 0xF4, Rest(0x80, 0x8F, 2)),
-        _ => Found::Nothing,
+        _ => None,
     }
 }
 
@@ -112,25 +91,21 @@ fn past_others(text: &[u8], from: usize, lead: u8) -> Found
 fn lowest_after(lead: u8) -> u8
     ensures { result ≡ lowest_after lead }
 {
-    if lead == 0xE0 {
-        return 0xA0;
+    match lead {
+        0xE0 => 0xA0,
+        0xF0 => 0x90,
+        _ => 0x80,
     }
-    if lead == 0xF0 {
-        return 0x90;
-    }
-    0x80
 }
 
 fn highest_after(lead: u8) -> u8
     ensures { result ≡ highest_after lead }
 {
-    if lead == 0xED {
-        return 0x9F;
+    match lead {
+        0xED => 0x9F,
+        0xF4 => 0x8F,
+        _ => 0xBF,
     }
-    if lead == 0xF4 {
-        return 0x8F;
-    }
-    0xBF
 }
 
 // May b stand after the three bytes z, y and x? Where one of them asks for it, as a tail, and else as a first byte.
@@ -149,16 +124,13 @@ fn all_follow(text: &[u8], at: usize) -> bool
     ensures { result ≡ all_follow 32 text.now at }
 {
     let mut good = true;
-    let mut k: usize = 0;
-    while k < 32 {
-        good = good
-            & may_follow(
-                text[at + k],
-                text[at + k + 1],
-                text[at + k + 2],
-                text[at + k + 3],
-            );
-        k += 1;
+    for k in 0..32 {
+        good &= may_follow(
+            text[at + k],
+            text[at + k + 1],
+            text[at + k + 2],
+            text[at + k + 3],
+        );
     }
     good
 }
@@ -182,41 +154,34 @@ fn begin_of(text: &[u8], at: usize) -> usize
 
 // Past characters that aren't ASCII, from the place on, of which this is the first byte: those that are whole within 32 bytes, where so many
 // are left; else those of one row.
-fn past_characters(text: &[u8], from: usize, lead: u8) -> Found
+fn past_characters(text: &[u8], from: usize, lead: u8) -> Option<usize>
     requires { (from < length text.now) × (lead ≡ get_or text.now from 0) × (0x80 ≤ lead) }
     ensures { Passes text.now from result }
 {
-    if 32 <= text.len() - from {
-        if 3 <= from {
-            if begin_of(text, from) == from {
-                if all_follow(text, from - 3) {
-                    return Found::End(begin_of(text, from + 32));
-                }
-                return Found::Nothing;
-            }
+    if 32 <= text.len() - from && 3 <= from && begin_of(text, from) == from {
+        if all_follow(text, from - 3) {
+            return Some(begin_of(text, from + 32));
         }
+        return None;
     }
     past_others(text, from, lead)
 }
 
-// A byte as a number of 64 bits.
-fn wide(x: u8) -> u64
-    ensures { (result ≡ x) × (result < 256) }
-{
-    x as u64
-}
-
-// The top bits of the eight bytes at the place, in a number whose lowest byte is the first of them. Compiled, the loop is one load.
+// The top bits of the eight bytes at the place, in a number whose lowest byte is the first of them. Compiled, the bytes are one load.
 fn top_bits(text: &[u8], at: usize) -> u64
     requires { at + 8 ≤ length text.now }
     ensures { result ≡ top_bits 8 (drop at text.now) }
 {
-    let mut number: u64 = 0;
-    let mut k: usize = 8;
-    while 0 < k {
-        k -= 1;
-        number = number * 256 + wide(text[at + k]);
-    }
+    let number = u64::from_le_bytes([
+        text[at],
+        text[at + 1],
+        text[at + 2],
+        text[at + 3],
+        text[at + 4],
+        text[at + 5],
+        text[at + 6],
+        text[at + 7],
+    ]);
     number & 0x8080808080808080
 }
 
@@ -225,21 +190,22 @@ fn top_bits(text: &[u8], at: usize) -> u64
 fn before_top(tops: u64) -> usize
     ensures { (result ≡ count_trailing_zeros 64 tops / 8) × (result ≤ 8) }
 {
-    (u64::trailing_zeros(tops) as usize) / 8
+    tops.trailing_zeros() as usize / 8
 }
 
-// Where the ASCII ends that begins at the place, a byte at a time.
-fn past_bytes(text: &[u8], from: usize) -> usize
-    ensures { result ≡ from + ascii_run (drop from text.now) }
+// How many ASCII bytes the text begins with, a byte at a time.
+fn ascii_bytes(text: &[u8]) -> usize
+    ensures { result ≡ ascii_run text.now }
 {
-    let mut at = from;
-    while lies_at(text, at, 0x00, 0x7F) {
-        at += 1;
+    for (i, b) in text.iter().enumerate() {
+        if 0x80 <= *b {
+            return i;
+        }
     }
-    at
+    text.len()
 }
 
-// The same, of the text's last eight bytes.
+// Where the ASCII ends that begins at the place, of the text's last eight bytes.
 fn past_last(text: &[u8], from: usize) -> usize
     requires { from + 8 ≡ length text.now }
     ensures { result ≡ from + ascii_run (drop from text.now) }
@@ -259,7 +225,7 @@ fn past_ascii(text: &[u8], from: usize) -> usize
 {
     let n = text.len();
     if n < from + 8 {
-        return past_bytes(text, from);
+        return from + ascii_bytes(&text[from..]);
     }
     let last = n - 8;
     let mut at = from;
@@ -284,16 +250,13 @@ fn past_ascii(text: &[u8], from: usize) -> usize
     past_last(text, last)
 }
 
-// Are the 128 bytes at the place ASCII? They are if all of them or'ed together have no top bit. Compiled, the loop is vector code.
-fn ascii_block(text: &[u8], at: usize) -> bool
-    requires { at + 128 ≤ length text.now }
-    ensures { result ≡ true → 128 ≤ ascii_run (drop at text.now) }
+// Is the block ASCII? It is if all its bytes or'ed together have no top bit. Compiled, the loop is vector code.
+fn ascii_block(block: &[u8; 128]) -> bool
+    ensures { result ≡ true → 128 ≤ ascii_run block.now }
 {
     let mut all: u8 = 0;
-    let mut k: usize = 0;
-    while k < 128 {
-        all = all | text[at + k];
-        k += 1;
+    for b in block {
+        all |= *b;
     }
     all < 0x80
 }
@@ -302,20 +265,17 @@ fn ascii_block(text: &[u8], at: usize) -> bool
 fn past_blocks(text: &[u8]) -> usize
     ensures { result ≤ ascii_run text.now }
 {
-    let n = text.len();
-    let mut at: usize = 0;
-    while 128 <= n - at {
-        if ascii_block(text, at) {
-            at += 128;
-        } else {
-            return at;
+    let (blocks, _) = text.as_chunks();
+    for (i, block) in blocks.iter().enumerate() {
+        if !ascii_block(block) {
+            return i * 128;
         }
     }
-    at
+    blocks.len() * 128
 }
 
 // Is the text UTF-8? ASCII at its beginning passes by blocks. After another character a block would mostly be tried in vain: there ASCII
-// passes as far as it goes, and others 32 bytes at a step or by their row.
+// passes as far as it goes, and others 32 bytes at a step or by their row: a step says only afterwards how far it went, so it is no `for`.
 pub fn is_utf8(text: &[u8]) -> bool
     ensures { result ≡ utf8 text.now }
 {
@@ -325,10 +285,10 @@ pub fn is_utf8(text: &[u8]) -> bool
         if b < 0x80 {
             i = past_ascii(text, i);
         } else {
-            match past_characters(text, i, b) {
-                Found::Nothing => return false,
-                Found::End(at) => i = at,
-            }
+            let Some(at) = past_characters(text, i, b) else {
+                return false;
+            };
+            i = at;
         }
     }
     true

@@ -1,6 +1,6 @@
 -- docs/RULES.md, 10.9: writing an image's record, where it is plain all its keys in their order, with its own checkint, each scalar filled to
 -- SIZE; and 9.3: a record handed in that isn't what an accepted read of its image gives replies 1 before all else.
-use Rattle.std.specs.Prelude.{ℕ, ◌≡◌, cond, List, map, length}
+use Rattle.std.specs.Prelude.{ℕ, ◌≡◌, cond, List, map, length, Err}
 use Rattle.std.proofs.Common.{ap}
 use Rattle.fields.specs.Fields.{view_of}
 use Rattle.fields.specs.declared.Refusal.TheVariants.{Length}
@@ -10,9 +10,7 @@ use Rattle.reader_image.specs.declared.Fields.{Fields}
 use Rattle.reader_section.specs.declared.Kind.{Kind}
 use Rattle.reader_section.specs.declared.Kind.TheVariants.{Plain}
 use Rattle.handed_record.specs.Judge.{is_read}
-use Rattle.writer_reply.specs.Reply.{unless, Answers}
-use Rattle.writer_reply.specs.declared.Written.{Written}
-use Rattle.writer_reply.specs.declared.Written.TheVariants as written
+use Rattle.writer_reply.specs.Reply.{unless, Answers, Written}
 use Rattle.format.specs.Format.{filled_key}
 use Rattle.writer_plain.specs.Plain.{keys_reply, keys_left}
 use Rattle.writer_listed.specs.Listed.{listed_keys, IsListed}
@@ -44,7 +42,7 @@ IsRewrite s f old r out = Answers (record_reply s f (length old)) (record_left s
 
 -- a refused image gets the reader's refusal
 unfoldable pub rewrite_reply : List ℕ → ℕ → Written
-rewrite_reply s room = on_read (read_at s) written.Refused (λ f. record_reply s f room)
+rewrite_reply s room = on_read (read_at s) Err (λ f. record_reply s f room)
 
 unfoldable pub rewrite_left : List ℕ → List ℕ → List ℕ
 rewrite_left s old = on_read (read_at s) (λ f. old) (λ f. record_left s f old)

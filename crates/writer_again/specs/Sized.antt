@@ -1,6 +1,6 @@
 -- An accepted image's record passes every test of its writer, each key of a plain one, so that writing it again is refused for size and room only. In the form what
 -- is written is the image.
-use Rattle.std.specs.Prelude.{ℕ, ◌+◌, ◌≤◌, ◌<◌, ◌^◌, ◌≡◌, refl, true, List, [], ◌∷◌, map, leb}
+use Rattle.std.specs.Prelude.{ℕ, ◌+◌, ◌≤◌, ◌<◌, ◌^◌, ◌≡◌, refl, true, List, [], ◌∷◌, map, leb, Ok}
 use native.Mathlib.Omega.{arith}
 use Rattle.std.proofs.Math.Path.{sym, ap}
 use Rattle.std.proofs.Common.{◌∙◌}
@@ -19,13 +19,11 @@ use Rattle.laws_keys.specs.Back.{blob_back}
 use Rattle.reader_header.specs.Place.{keys_some, keys_most}
 use Rattle.reader_entries.specs.Back.{AllFit}
 use Rattle.reader_image.specs.declared.Fields.{Fields}
-use Rattle.reader_image.specs.declared.ImageRead.TheVariants as read
 use Rattle.reader_image.specs.Container.{public_in, keys_in, read_at}
 use Rattle.reader_image.specs.Form.{rewritten, form_of}
 use Rattle.reader_image.specs.FormLaws.{rewritten_plain, rewritten_encrypted}
 use Rattle.reader_image.specs.Read.{KeysText, EncryptedText, ImageText, plain_text, encrypted_text, image_text}
-use Rattle.writer_reply.specs.declared.Written.{Written}
-use Rattle.writer_reply.specs.Reply.{left, sized, IsSized, answered}
+use Rattle.writer_reply.specs.Reply.{left, sized, IsSized, answered, Written}
 use Rattle.writer_plain.specs.Plain.{keys_reply, keys_left}
 use Rattle.writer_plain.specs.Fits.{AllFit as AllPass, keys_pass}
 use Rattle.writer_encrypted.specs.Encrypted.{options_fit, encrypted_reply, encrypted_left}
@@ -51,7 +49,7 @@ all_pass (z ∷ zs) [] fits = elim fits [ ]
 all_pass [] [] fits = tt
 all_pass (z ∷ zs) (k ∷ keys) fits = (fits.0.public, fits.0.private, fits.0.text, all_pass zs keys fits.1)
 
-module _ (s : List ℕ) (all : AllBytes s) (f : Fields) (e : read_at s ≡ read.Record f) where
+module _ (s : List ℕ) (all : AllBytes s) (f : Fields) (e : read_at s ≡ Ok f) where
   plain_again_lem : KeysText s f → (room : ℕ) → plain_again s f room ≡ sized (written_image f.section.checkint (map filled_key (keys_in s f))) room
   unfolding plain_again keys_reply
   plain_again_lem p room =

@@ -4,7 +4,7 @@
 ghost use Rattle.std.specs.Prelude.{◌≡◌, ◌++◌, ◌+◌, ◌<◌, length};
 ghost use Rattle.fields.specs.Bytes.{string, join};
 ghost use Rattle.names.specs.declared.Algorithm.TheVariants.{Elliptic as OnCurve};
-ghost use Rattle.format.specs.Format.{of_point, of_scalar, point_tag, not_zero, blob, private_field, minimal, scalar_filled, written_scalar, written_pair};
+ghost use Rattle.format.specs.Format.{of_point, of_scalar, point_tag, not_zero, blob, private_field, minimal, written_scalar, written_pair};
 ghost use Rattle.buffer.specs.Puts.{IsPut};
 ghost use Rattle.buffer.specs.Runs.{IsRun};
 ghost use Rattle.mpint.specs.Mpint.{significant};
@@ -13,47 +13,37 @@ ghost use Rattle.writer_parts.specs.Sizes.{capped};
 ghost use Rattle.writer_curve.specs.Taken.{scalar_taken};
 ghost use Rattle.writer_curve.specs.Parts.{name_fields};
 
-use fields::{Part, Refusal};
+use fields::Refusal;
 use names::{Curve, Elliptic};
 use writer_parts::{added, has_room};
 use writer_reply::Written;
 
 // The algorithm's name and the curve's, as strings.
+#[tactic(auto, unfolding(fields::specs::Bytes::string, fields::specs::Bytes::uint32))]
 fn put_names(out: &mut [u8], at: usize, algorithm: Elliptic) -> usize
     ensures { IsPut out.old at (join (name_fields algorithm)) result out.new }
 {
     match algorithm {
         Elliptic::Ed25519 => buffer::put(out, at, b"\0\0\0\x0bssh-ed25519"),
-        Elliptic::Ecdsa(curve) => match curve {
-            Curve::Nistp256 => buffer::put(
-                out,
-                at,
-                b"\0\0\0\x13ecdsa-sha2-nistp256\0\0\0\x08nistp256",
-            ),
-            Curve::Nistp384 => buffer::put(
-                out,
-                at,
-                b"\0\0\0\x13ecdsa-sha2-nistp384\0\0\0\x08nistp384",
-            ),
-            Curve::Nistp521 => buffer::put(
-                out,
-                at,
-                b"\0\0\0\x13ecdsa-sha2-nistp521\0\0\0\x08nistp521",
-            ),
-        },
+        Elliptic::Ecdsa(Curve::Nistp256) => {
+            buffer::put(out, at, b"\0\0\0\x13ecdsa-sha2-nistp256\0\0\0\x08nistp256")
+        }
+        Elliptic::Ecdsa(Curve::Nistp384) => {
+            buffer::put(out, at, b"\0\0\0\x13ecdsa-sha2-nistp384\0\0\0\x08nistp384")
+        }
+        Elliptic::Ecdsa(Curve::Nistp521) => {
+            buffer::put(out, at, b"\0\0\0\x13ecdsa-sha2-nistp521\0\0\0\x08nistp521")
+        }
     }
 }
 
+#[tactic(auto, unfolding(fields::specs::Bytes::string, fields::specs::Bytes::uint32))]
 fn names_length(algorithm: Elliptic) -> usize
     ensures { (result ≡ length (join (name_fields algorithm))) × (result < 64) }
 {
     match algorithm {
         Elliptic::Ed25519 => 15,
-        Elliptic::Ecdsa(curve) => match curve {
-            Curve::Nistp256 => 35,
-            Curve::Nistp384 => 35,
-            Curve::Nistp521 => 35,
-        },
+        Elliptic::Ecdsa(_) => 35,
     }
 }
 
@@ -94,15 +84,11 @@ fn put_two(out: &mut [u8], at: usize, first: &[u8], second: &[u8]) -> usize
 }
 
 // A scalar of any size without its leading zeros.
+#[tactic(auto, using(mpint::specs::Zeros::zeros_le), unfolding(mpint::specs::Mpint::significant))]
 fn trimmed(scalar: &[u8]) -> &[u8]
     ensures { result.now ≡ significant scalar.now }
 {
-    let zeros = mpint::zeros_before(scalar);
-    let part = Part {
-        start: zeros,
-        length: scalar.len() - zeros,
-    };
-    fields::view(scalar, part)
+    &scalar[mpint::zeros_before(scalar)..]
 }
 
 // A scalar of any size as the minimal mpint: without its leading zeros, after a zero where the first byte that
@@ -193,38 +179,29 @@ fn not_zero(algorithm: Elliptic, scalar: &[u8]) -> bool
     }
 }
 
-// How long private bytes are with zeros filled in front of a scalar.
-fn filled_length(algorithm: Elliptic, scalar: &[u8]) -> usize
-    ensures { result ≡ length (scalar_filled algorithm scalar.now) }
-{
-    key_material::zeros_missing(algorithm, scalar) + scalar.len()
-}
-
-// How long they are as they are taken: filled, or as they are lent.
+// How long private bytes are as they are taken: with zeros filled in front of a scalar, or as they are lent.
+// `filling` stays a bool: the contracts are stated by it (`scalar_taken`).
 fn taken_length(filling: bool, algorithm: Elliptic, scalar: &[u8]) -> usize
     ensures { result ≡ length (scalar_taken filling algorithm scalar.now) }
 {
     if filling {
-        return filled_length(algorithm, scalar);
+        return key_material::zeros_missing(algorithm, scalar) + scalar.len();
     }
     scalar.len()
 }
 
 // What a writer refuses of a key, or the length 0. A record's scalar is filled with zeros in front.
+#[tactic(auto, using(crate::specs::Taken::taken_zero), unfolding(writer_parts::specs::Checks::key_checked))]
 pub fn check(filling: bool, algorithm: Elliptic, point: &[u8], scalar: &[u8]) -> Written
     ensures { result ≡ key_checked (OnCurve algorithm) (of_point point.now) (of_scalar (scalar_taken filling algorithm scalar.now)) passed }
 {
-    if point.len() != key_public::public_length(algorithm) {
+    if point.len() != key_public::public_length(algorithm)
+        || taken_length(filling, algorithm, scalar) != key_public::private_length(algorithm)
+    {
         return writer_reply::refused(Refusal::Length);
     }
-    if taken_length(filling, algorithm, scalar) != key_public::private_length(algorithm) {
-        return writer_reply::refused(Refusal::Length);
-    }
-    if !tagged(algorithm, point) {
+    if !tagged(algorithm, point) || !not_zero(algorithm, scalar) {
         return writer_reply::refused(Refusal::FormatEncoding);
     }
-    if !not_zero(algorithm, scalar) {
-        return writer_reply::refused(Refusal::FormatEncoding);
-    }
-    Written::Length(0)
+    Ok(0)
 }

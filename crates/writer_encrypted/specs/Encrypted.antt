@@ -9,8 +9,7 @@ use Rattle.names.specs.declared.Kdf.TheVariants as kdf
 use Rattle.names.specs.Ciphers.{is_none, block_size, tag_length}
 use Rattle.format.specs.Format.{encrypted_image}
 use Rattle.key_public.specs.Keys.{on_blob, blob_at}
-use Rattle.writer_reply.specs.declared.Written.{Written}
-use Rattle.writer_reply.specs.Reply.{refused, unless, left, sized, Answers}
+use Rattle.writer_reply.specs.Reply.{refused, unless, left, sized, Answers, Written}
 
 abbrev pub options_fit : Kdf → List ℕ → ℕ → Bool
 options_fit kdf.None salt rounds = eqb (length salt) 0 && eqb rounds 0

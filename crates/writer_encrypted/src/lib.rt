@@ -12,7 +12,6 @@ ghost use Rattle.writer_encrypted.specs.Encrypted.{options_fit, IsEncrypted};
 ghost use Rattle.writer_encrypted.specs.Parts.{front};
 
 use fields::{Cursor, Refusal};
-use key_public::Blob;
 use names::{Cipher, Kdf};
 use writer_reply::Written;
 
@@ -22,12 +21,7 @@ fn options_fit(kdf: Kdf, salt: &[u8], rounds: u32) -> bool
 {
     match kdf {
         Kdf::Bcrypt => true,
-        Kdf::None => {
-            if salt.len() == 0 {
-                return rounds == 0;
-            }
-            false
-        }
+        Kdf::None => salt.is_empty() && rounds == 0,
     }
 }
 
@@ -45,9 +39,7 @@ fn options_length(kdf: Kdf, salt: &[u8]) -> usize
 fn names_length(cipher: Cipher, kdf: Kdf) -> usize
     ensures { (result ≡ length (cipher_name cipher) + length (kdf_name kdf)) × (result < 256) }
 {
-    let of_cipher = names_spelling::cipher_name(cipher);
-    let of_kdf = names_spelling::kdf_name(kdf);
-    of_cipher.length + of_kdf.length
+    names_spelling::cipher_name(cipher).length + names_spelling::kdf_name(kdf).length
 }
 
 // The KDF's options, as a string.
@@ -119,13 +111,7 @@ fn write_sealed(
     requires { (length tag.now < 256) × (options_fit kdf salt.now rounds ≡ true) }
     ensures { IsSized (encrypted_image cipher kdf salt.now rounds blob.now ciphertext.now tag.now) out.old result out.new }
 {
-    if 65535 < blob.len() {
-        return writer_reply::refused(Refusal::Size);
-    }
-    if 65535 < ciphertext.len() {
-        return writer_reply::refused(Refusal::Size);
-    }
-    if 65535 < salt.len() {
+    if 65535 < blob.len() || 65535 < ciphertext.len() || 65535 < salt.len() {
         return writer_reply::refused(Refusal::Size);
     }
     let head = 39 + names_length(cipher, kdf) + options_length(kdf, salt);
@@ -136,10 +122,11 @@ fn write_sealed(
     if out.len() < size {
         return writer_reply::refused(Refusal::Room);
     }
-    Written::Length(put_encrypted(out, cipher, kdf, salt, rounds, blob, ciphertext, tag))
+    Ok(put_encrypted(out, cipher, kdf, salt, rounds, blob, ciphertext, tag))
 }
 
 // An encrypted image: the public blob, the ciphertext and the tag as they are given.
+#[tactic(auto, unfolding(crate::specs::Encrypted::encrypted_reply, crate::specs::Encrypted::encrypted_left))]
 pub fn write_encrypted(
     cipher: Cipher,
     kdf: Kdf,
@@ -152,29 +139,19 @@ pub fn write_encrypted(
 ) -> Written
     ensures { IsEncrypted cipher kdf salt.now rounds blob.now ciphertext.now tag.now out.old result out.new }
 {
-    if cipher.is_none() {
-        return writer_reply::refused(Refusal::Crypto);
-    }
-    if !options_fit(kdf, salt, rounds) {
+    if cipher.is_none() || !options_fit(kdf, salt, rounds) {
         return writer_reply::refused(Refusal::Crypto);
     }
     let whole = Cursor {
         at: 0,
         end: blob.len(),
     };
-    match key_public::read_blob(whole, blob) {
-        Blob::Refused(f) => {
-            let why = f.why;
-            writer_reply::refused(why)
-        }
-        Blob::Key(_, _) => {
-            if ciphertext.len() % cipher.block_size() != 0 {
-                return writer_reply::refused(Refusal::Crypto);
-            }
-            if tag.len() != cipher.tag_length() {
-                return writer_reply::refused(Refusal::Length);
-            }
-            write_sealed(cipher, kdf, salt, rounds, blob, ciphertext, tag, out)
-        }
+    key_public::read_blob(whole, blob).map_err(|f| f.why.at(0))?;
+    if ciphertext.len() % cipher.block_size() != 0 {
+        return writer_reply::refused(Refusal::Crypto);
     }
+    if tag.len() != cipher.tag_length() {
+        return writer_reply::refused(Refusal::Length);
+    }
+    write_sealed(cipher, kdf, salt, rounds, blob, ciphertext, tag, out)
 }

@@ -1,5 +1,5 @@
 -- Checks of several keys, one by one, and the reply once they are made.
-use Rattle.std.specs.Prelude.{ℕ, zero, suc, ◌+◌, ◌-◌, ◌%◌, ◌/◌, ◌≡◌, refl, Bool, true, false, ◌&&◌, List, [], ◌∷◌, map, eqb, length}
+use Rattle.std.specs.Prelude.{ℕ, zero, suc, ◌+◌, ◌-◌, ◌%◌, ◌/◌, ◌≡◌, refl, Bool, true, false, ◌&&◌, List, [], ◌∷◌, map, eqb, length, Ok, Err}
 use Rattle.std.proofs.Common.{sym, ◌∙◌, ap}
 use Rattle.std.proofs.Math.Dec.{leb}
 use Rattle.fields.specs.Bytes.{both_true}
@@ -9,9 +9,7 @@ use Rattle.fields.specs.declared.Refusal.TheVariants.{CharacterEncoding}
 use Rattle.utf8.specs.Utf8.{utf8}
 use Rattle.format.specs.Format.{Key, alone, written_image, filled_key}
 use Rattle.format.specs.Scalars.{written_filled}
-use Rattle.writer_reply.specs.declared.Written.{Written}
-use Rattle.writer_reply.specs.declared.Written.TheVariants as written
-use Rattle.writer_reply.specs.Reply.{unless, sized}
+use Rattle.writer_reply.specs.Reply.{unless, sized, Written}
 use Rattle.writer_parts.specs.Checks.{passed, Checking, checking_nothing, checking_unless, checking_key, key_checked}
 use Rattle.writer_plain.specs.Plain.{keys_checked, keys_reply}
 use Rattle.writer_table.specs.Table.{rows_from, rows, row_is_within, key_at, keys_named, every, table_fits, table_checked}
@@ -21,11 +19,11 @@ use Rattle.writer_keys.specs.Named.{named_keys, named_reply}
 use Rattle.writer_keys.specs.Passes.{keys_from, keys_none, keys_more}
 
 -- by what was answered
-by_written : {C : Type 0} (w : Written) → ((f : Fault) → w ≡ written.Refused f → C) → ((n : ℕ) → w ≡ written.Length n → C) → C
-by_written (written.Refused f) refused accepted = refused f refl
-by_written (written.Length n) refused accepted = accepted n refl
+by_written : {C : Type 0} (w : Written) → ((f : Fault) → w ≡ Err f → C) → ((n : ℕ) → w ≡ Ok n → C) → C
+by_written (Err f) refused accepted = refused f refl
+by_written (Ok n) refused accepted = accepted n refl
 
-never : {C : Type 0} (f : Fault) (n : ℕ) → written.Refused f ≡ written.Length n → C
+never : {C : Type 0} (f : Fault) (n : ℕ) → Err f ≡ Ok n → C
 never f n e = clash cc
 
 -- one check, and another after it
@@ -57,11 +55,11 @@ checking_keys (k ∷ keys) = checking_then (checking_one k) (checking_keys keys)
 
 -- the first refusal is the list's, and after a key that passes it goes by the others
 module _ (k : Key) (keys : List Key) where
-  pub first_refused : (f : Fault) → keys_checked (alone k) passed ≡ written.Refused f → keys_checked (k ∷ keys) passed ≡ written.Refused f
+  pub first_refused : (f : Fault) → keys_checked (alone k) passed ≡ Err f → keys_checked (k ∷ keys) passed ≡ Err f
   unfolding keys_checked
   first_refused f e = (checking_one k).refuses f (keys_checked keys passed) e
 
-  pub first_passed : (n : ℕ) → keys_checked (alone k) passed ≡ written.Length n → keys_checked (k ∷ keys) passed ≡ keys_checked keys passed
+  pub first_passed : (n : ℕ) → keys_checked (alone k) passed ≡ Ok n → keys_checked (k ∷ keys) passed ≡ keys_checked keys passed
   unfolding keys_checked
   first_passed n e = (checking_one k).passes n (keys_checked keys passed) e
 
@@ -72,14 +70,14 @@ module _ (filling : Bool) (text table : List ℕ) (j n : ℕ) where
   checked_none e = rw (keys_none text table j n e, taken_none filling)
 
   pub checked_refused :
-      (f : Fault) → (n ≡ 0 → ⊥) → keys_checked (alone (key_taken filling (key_at text table j))) passed ≡ written.Refused f
-      → keys_checked (keys_taken filling (keys_from text table j n)) passed ≡ written.Refused f
+      (f : Fault) → (n ≡ 0 → ⊥) → keys_checked (alone (key_taken filling (key_at text table j))) passed ≡ Err f
+      → keys_checked (keys_taken filling (keys_from text table j n)) passed ≡ Err f
   checked_refused f h e =
       rw (keys_more text table j n h, taken_more filling (key_at text table j) (keys_from text table (j + 19) (n - 1)))
       (first_refused (key_taken filling (key_at text table j)) (keys_taken filling (keys_from text table (j + 19) (n - 1))) f e)
 
   pub checked_passed :
-      (m : ℕ) → (n ≡ 0 → ⊥) → keys_checked (alone (key_taken filling (key_at text table j))) passed ≡ written.Length m
+      (m : ℕ) → (n ≡ 0 → ⊥) → keys_checked (alone (key_taken filling (key_at text table j))) passed ≡ Ok m
       → keys_checked (keys_taken filling (keys_from text table j n)) passed ≡ keys_checked (keys_taken filling (keys_from text table (j + 19) (n - 1))) passed
   checked_passed m h e =
       rw (keys_more text table j n h, taken_more filling (key_at text table j) (keys_from text table (j + 19) (n - 1)))
@@ -128,13 +126,13 @@ module _ (filling : Bool) (text table : List ℕ) where
       (both_true (eqb (length table % 19) 0) _ shape).1
 
   -- a table that is refused
-  pub named_refused : (f : Fault) (n room : ℕ) → table_checked text table passed ≡ written.Refused f → named_reply filling text table n room ≡ written.Refused f
+  pub named_refused : (f : Fault) (n room : ℕ) → table_checked text table passed ≡ Err f → named_reply filling text table n room ≡ Err f
   unfolding named_reply
   named_refused f n room e = (checking_table text table).refuses f (keys_reply (named_keys filling text table) n room) e
 
   -- one that isn't
   pub named_passed :
-      (m n room : ℕ) → table_checked text table passed ≡ written.Length m
+      (m n room : ℕ) → table_checked text table passed ≡ Ok m
       → named_reply filling text table n room ≡ keys_checked (named_keys filling text table) (sized (written_image n (named_keys filling text table)) room)
   unfolding named_reply keys_reply
   named_passed m n room e =

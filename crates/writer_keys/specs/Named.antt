@@ -5,8 +5,7 @@ use Rattle.std.specs.Prelude.{ℕ, Bool, List, length}
 use Rattle.names.specs.declared.Algorithm.{Algorithm}
 use Rattle.names.specs.declared.Algorithm.TheVariants.{Elliptic as OnCurve, Rsa}
 use Rattle.format.specs.Format.{Key, PrivateBytes, written_image}
-use Rattle.writer_reply.specs.declared.Written.{Written}
-use Rattle.writer_reply.specs.Reply.{left, Answers}
+use Rattle.writer_reply.specs.Reply.{left, Answers, Written}
 use Rattle.writer_plain.specs.Plain.{keys_reply}
 use Rattle.writer_table.specs.Table.{key_at, keys_named, table_checked}
 use Rattle.writer_rows.specs.Taken.{keys_taken}

@@ -1,10 +1,11 @@
 -- The keys of a table as the two passes put them, one by one, and the lengths that are added up for them.
-use Rattle.std.specs.Prelude.{ℕ, ◌+◌, ◌-◌, ◌≡◌, List, [], ◌∷◌, ◌++◌, map}
-use Rattle.std.proofs.Common.{ap, append-nil}
+use Rattle.std.specs.Prelude.{ℕ, ◌+◌, ◌-◌, ◌*◌, ◌≤◌, ◌<◌, ◌≡◌, List, [], ◌∷◌, ◌++◌, map}
+use Rattle.std.proofs.Common.{ap, sym, ◌∙◌, append-nil, arith}
 use Rattle.fields.specs.Bytes.{string, join}
 use Rattle.format.specs.Format.{Key, key_blob, written_entry, blob_fields, entry_fields}
 use Rattle.buffer.specs.Puts.{IsPut, nothing_put}
 use Rattle.buffer.specs.Runs.{Left, IsRun, start, step, runs, finish}
+use Rattle.writer_parts.specs.Sizes.{capped, capped_small, capped_again, capped_sum, capped_sum_last}
 use Rattle.writer_table.specs.Table.{rows_from, key_at}
 use Rattle.writer_table.specs.Rows.{rows_none, rows_more}
 
@@ -19,6 +20,21 @@ keys_none text table j n e = ap (map (key_at text table)) (rows_none j n e)
 pub keys_more :
     (text table : List ℕ) (j n : ℕ) → (n ≡ 0 → ⊥) → keys_from text table j n ≡ key_at text table j ∷ keys_from text table (j + 19) (n - 1)
 keys_more text table j n h = ap (map (key_at text table)) (rows_more j n h)
+
+-- the keys from the one numbered i on: it and the others, or none
+pub keys_next :
+    (text table : List ℕ) (i n : ℕ) → i < n
+    → keys_from text table (19 * i) (n - i) ≡ key_at text table (19 * i) ∷ keys_from text table (19 * (i + 1)) (n - (i + 1))
+keys_next text table i n h =
+    let place : 19 * (i + 1) ≡ 19 * i + 19 = omega arith in
+    let others : n - (i + 1) ≡ n - i - 1 = omega arith in
+    rw (place, others) (keys_more text table (19 * i) (n - i) (λ e. omega arith))
+
+pub keys_end : (text table : List ℕ) (i n : ℕ) → n ≤ i → keys_from text table (19 * i) (n - i) ≡ []
+keys_end text table i n h = keys_none text table (19 * i) (n - i) (omega arith)
+
+pub keys_all : (text table : List ℕ) (n : ℕ) → keys_from text table (19 * 0) (n - 0) ≡ keys_from text table 0 n
+keys_all text table n = let all : n - 0 ≡ n = omega arith in rw all
 
 -- ---- runs
 
@@ -53,3 +69,29 @@ pub entries_more :
     → IsRun old at (join (entries_of (k ∷ keys))) r out
 entries_more old at k keys a one p mid r out pair put rest h =
     rest_of (step (step (start {fields = (written_entry k).pair ∷ string k.comment ∷ entries_of keys} h) pair) put) rest
+
+-- ---- lengths, added up one by one
+
+-- of what is added up, and more that is left
+pub record Summed (sum rest whole : ℕ) : Type 0 where
+  pub limited : capped sum ≡ sum
+  pub left : capped (sum + rest) ≡ capped whole
+
+pub summed_none : (whole : ℕ) → Summed 0 whole whole
+summed_none whole = record { limited = capped_small 0 (omega arith); left = ap capped (omega arith) }
+
+pub summed_all : {sum whole : ℕ} → Summed sum 0 whole → sum ≡ capped whole
+summed_all {sum} {whole} s = let all : sum + 0 ≡ sum = omega arith in
+    sym s.limited ∙ ap capped (sym all) ∙ s.left
+
+-- one more
+pub summed_more : {sum whole : ℕ} (one more s r : ℕ) → s ≡ capped one → r ≡ capped (sum + s) → Summed sum (one + more) whole → Summed r more whole
+summed_more {sum} {whole} one more s r es er h =
+    let turned : sum + s + more ≡ sum + more + s = omega arith in
+    let back : sum + more + one ≡ sum + (one + more) = omega arith in
+    record {
+      limited = ap capped er ∙ capped_again (sum + s) ∙ sym er;
+      left =
+          ap (λ (n : ℕ). capped (n + more)) er ∙ capped_sum (sum + s) more ∙ ap capped turned ∙ ap (λ (n : ℕ). capped (sum + more + n)) es
+          ∙ capped_sum_last (sum + more) one ∙ ap capped back ∙ h.left;
+    }

@@ -17,89 +17,72 @@ ghost use Rattle.writer_keys.specs.Named.{IsNamed, first_private};
 ghost use Rattle.writer_keys.specs.Passes.{keys_from, blobs_of, entries_of};
 
 use fields::Refusal;
-use key_material::Checkint;
 use names::Algorithm;
 use writer_parts::added;
 use writer_reply::Written;
 use writer_table::part_at;
 
-// What is refused of so many keys from j on, in their order, or the length 0.
-fn check_keys(filling: bool, text: &[u8], table: &[usize], j: usize, remaining: usize) -> Written
-    requires { j + remaining * 19 ≤ length table.now }
-    ensures { result ≡ keys_checked (keys_taken filling (keys_from text.now table.now j remaining)) passed }
+// What is refused of so many keys, in their order, or the length 0.
+fn check_keys(filling: bool, text: &[u8], table: &[usize], count: usize) -> Written
+    requires { count * 19 ≤ length table.now }
+    ensures { result ≡ keys_checked (keys_taken filling (keys_from text.now table.now 0 count)) passed }
 {
-    if remaining == 0 {
-        return Written::Length(0);
+    for i in 0..count {
+        writer_rows::check_at(filling, text, table, 19 * i)?;
     }
-    match writer_rows::check_at(filling, text, table, j) {
-        Written::Refused(f) => Written::Refused(f),
-        Written::Length(_) => check_keys(filling, text, table, j + 19, remaining - 1),
-    }
+    Ok(0)
 }
 
 // The length of their blobs, each with its length field.
-fn blobs_length(text: &[u8], table: &[usize], j: usize, remaining: usize) -> usize
-    requires { j + remaining * 19 ≤ length table.now }
-    ensures { result ≡ capped (blobs_length (map key_blob (keys_from text.now table.now j remaining))) }
+fn blobs_length(text: &[u8], table: &[usize], count: usize) -> usize
+    requires { count * 19 ≤ length table.now }
+    ensures { result ≡ capped (blobs_length (map key_blob (keys_from text.now table.now 0 count))) }
 {
-    if remaining == 0 {
-        return 0;
+    let mut sum = 0;
+    for i in 0..count {
+        let one = added(4, writer_rows::blob_length_at(text, table, 19 * i));
+        sum = added(sum, one);
     }
-    let one = added(4, writer_rows::blob_length_at(text, table, j));
-    added(one, blobs_length(text, table, j + 19, remaining - 1))
+    sum
 }
 
 // The length of their entries: each keypair, and its comment with its length field.
-fn entries_length(text: &[u8], table: &[usize], j: usize, remaining: usize) -> usize
-    requires { j + remaining * 19 ≤ length table.now }
-    ensures { result ≡ capped (entries_length (map written_entry (keys_from text.now table.now j remaining))) }
+fn entries_length(text: &[u8], table: &[usize], count: usize) -> usize
+    requires { count * 19 ≤ length table.now }
+    ensures { result ≡ capped (entries_length (map written_entry (keys_from text.now table.now 0 count))) }
 {
-    if remaining == 0 {
-        return 0;
+    let mut sum = 0;
+    for i in 0..count {
+        let pair = added(4, writer_rows::pair_length_at(text, table, 19 * i));
+        let comment = part_at(text, table, 19 * i, 5);
+        sum = added(sum, added(pair, comment.len()));
     }
-    let pair = added(4, writer_rows::pair_length_at(text, table, j));
-    let comment = part_at(text, table, j, 5);
-    let one = added(pair, comment.len());
-    added(one, entries_length(text, table, j + 19, remaining - 1))
+    sum
 }
 
 // Puts their blobs.
-fn put_blobs(
-    out: &mut [u8],
-    at: usize,
-    text: &[u8],
-    table: &[usize],
-    j: usize,
-    remaining: usize,
-) -> usize
-    requires { j + remaining * 19 ≤ length table.now }
-    ensures { IsRun out.old at (join (blobs_of (keys_from text.now table.now j remaining))) result out.new }
+fn put_blobs(out: &mut [u8], at: usize, text: &[u8], table: &[usize], count: usize) -> usize
+    requires { count * 19 ≤ length table.now }
+    ensures { IsRun out.old at (join (blobs_of (keys_from text.now table.now 0 count))) result out.new }
 {
-    if remaining == 0 {
-        return at;
+    let mut past = at;
+    for i in 0..count {
+        past = writer_rows::put_blob_at(out, past, text, table, 19 * i);
     }
-    let past = writer_rows::put_blob_at(out, at, text, table, j);
-    put_blobs(out, past, text, table, j + 19, remaining - 1)
+    past
 }
 
 // Puts their entries.
-fn put_entries(
-    out: &mut [u8],
-    at: usize,
-    text: &[u8],
-    table: &[usize],
-    j: usize,
-    remaining: usize,
-) -> usize
-    requires { j + remaining * 19 ≤ length table.now }
-    ensures { IsRun out.old at (join (entries_of (keys_from text.now table.now j remaining))) result out.new }
+fn put_entries(out: &mut [u8], at: usize, text: &[u8], table: &[usize], count: usize) -> usize
+    requires { count * 19 ≤ length table.now }
+    ensures { IsRun out.old at (join (entries_of (keys_from text.now table.now 0 count))) result out.new }
 {
-    if remaining == 0 {
-        return at;
+    let mut past = at;
+    for i in 0..count {
+        let pair = writer_rows::put_pair_at(out, past, text, table, 19 * i);
+        past = buffer::put_string(out, pair, part_at(text, table, 19 * i, 5));
     }
-    let pair = writer_rows::put_pair_at(out, at, text, table, j);
-    let past = buffer::put_string(out, pair, part_at(text, table, j, 5));
-    put_entries(out, past, text, table, j + 19, remaining - 1)
+    past
 }
 
 // Puts every field of an image. The caller has seen to the entries' length and to room.
@@ -120,11 +103,11 @@ fn put_keys(
     let front = b"openssh-key-v1\0\0\0\0\x04none\0\0\0\x04none\0\0\0\0";
     let a = buffer::put(out, 0, front);
     let b = buffer::put_uint32(out, a, count);
-    let c = put_blobs(out, b, text, table, 0, count);
+    let c = put_blobs(out, b, text, table, count);
     let d = buffer::put_uint32(out, c, content + padding);
     let e = buffer::put_uint32(out, d, checkint as usize);
     let f = buffer::put_uint32(out, e, checkint as usize);
-    let g = put_entries(out, f, text, table, 0, count);
+    let g = put_entries(out, f, text, table, count);
     buffer::put_padding(out, g, padding)
 }
 
@@ -133,8 +116,8 @@ fn write_sized(text: &[u8], table: &[usize], count: usize, checkint: u32, out: &
     requires { count * 19 ≤ length table.now }
     ensures { IsSized (written_image checkint (keys_from text.now table.now 0 count)) out.old result out.new }
 {
-    let blobs = blobs_length(text, table, 0, count);
-    let entries = entries_length(text, table, 0, count);
+    let blobs = blobs_length(text, table, count);
+    let entries = entries_length(text, table, count);
     let size = writer_parts::image_length(blobs, entries);
     if 65535 < size {
         return writer_reply::refused(Refusal::Size);
@@ -142,7 +125,7 @@ fn write_sized(text: &[u8], table: &[usize], count: usize, checkint: u32, out: &
     if out.len() < size {
         return writer_reply::refused(Refusal::Room);
     }
-    Written::Length(put_keys(out, text, table, count, checkint, entries))
+    Ok(put_keys(out, text, table, count, checkint, entries))
 }
 
 // An image of the keys that the table names, their scalars filled with zeros in front, or as they are.
@@ -155,16 +138,10 @@ fn write_named(
 ) -> Written
     ensures { IsNamed filling text.now table.now checkint out.old result out.new }
 {
-    match writer_table::check(text, table) {
-        Written::Refused(f) => Written::Refused(f),
-        Written::Length(_) => {
-            let count = table.len() / 19;
-            match check_keys(filling, text, table, 0, count) {
-                Written::Refused(f) => Written::Refused(f),
-                Written::Length(_) => write_sized(text, table, count, checkint, out),
-            }
-        }
-    }
+    writer_table::check(text, table)?;
+    let count = table.len() / 19;
+    check_keys(filling, text, table, count)?;
+    write_sized(text, table, count, checkint, out)
 }
 
 // An image of the keys that the table names, whose scalars may lack leading zeros, as a record's do.
@@ -184,21 +161,13 @@ fn first_private<'a>(text: &'a [u8], table: &[usize]) -> &'a [u8]
     }
 }
 
-// The given checkint, or the one derived from the first key.
-fn checkint_of(given: Checkint, text: &[u8], table: &[usize]) -> u32
-    ensures { result ≡ checkint_of given (first_private text.now table.now) }
-{
-    match given {
-        Checkint::Given(checkint) => checkint,
-        Checkint::Derived => key_material::derived_checkint(first_private(text, table)),
-    }
-}
-
 // An image of the keys that the table names, each part of exactly its length, with the given checkint or the
 // derived one.
-pub fn write_keys(text: &[u8], table: &[usize], given: Checkint, out: &mut [u8]) -> Written
+pub fn write_keys(text: &[u8], table: &[usize], given: Option<u32>, out: &mut [u8]) -> Written
     ensures { IsNamed false text.now table.now (checkint_of given (first_private text.now table.now)) out.old result out.new }
 {
-    let checkint = checkint_of(given, text, table);
+    let checkint = given.unwrap_or_else(|| key_material::derived_checkint(first_private(
+        text, table,
+    )));
     write_named(false, text, table, checkint, out)
 }

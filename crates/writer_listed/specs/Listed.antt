@@ -14,8 +14,7 @@ use Rattle.reader_image.specs.declared.Fields.{Fields}
 use Rattle.reader_image.specs.Container.{other_places}
 use Rattle.reader_keys.specs.Keys.{first_fields}
 use Rattle.reader_keys.specs.Found.{key_told}
-use Rattle.writer_reply.specs.declared.Written.{Written}
-use Rattle.writer_reply.specs.Reply.{Answers}
+use Rattle.writer_reply.specs.Reply.{Answers, Written}
 use Rattle.writer_plain.specs.Plain.{keys_reply, keys_left}
 
 -- a part within the image; any other has no bytes, and is absent

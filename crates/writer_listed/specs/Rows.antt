@@ -1,5 +1,5 @@
 -- The 19 numbers that a table has for a key; the table that is made of them names the keys, and passes its check.
-use Rattle.std.specs.Prelude.{ℕ, ◌+◌, ◌*◌, ◌/◌, ◌%◌, ◌≤◌, ◌≡◌, Bool, true, ◌&&◌, get_or}
+use Rattle.std.specs.Prelude.{ℕ, ◌+◌, ◌*◌, ◌/◌, ◌%◌, ◌≤◌, ◌≡◌, Bool, true, ◌&&◌, get_or, Some}
 use Rattle.std.proofs.Common.{add_assoc, arith, ◌∙◌, length-append, get_or-append-add}
 use Rattle.std.proofs.Math.Path.{refl, sym, ap, ap₂}
 use mathlib.Core.List.{List, [], ◌∷◌, ◌++◌, map, append_assoc}
@@ -17,18 +17,17 @@ use Rattle.names.specs.Algorithms.{algorithm_code}
 use Rattle.names.specs.declared.Elliptic.{Elliptic}
 use Rattle.names.specs.declared.Algorithm.{Algorithm}
 use Rattle.names.specs.declared.Algorithm.TheVariants.{Elliptic as OnCurve, Rsa}
-use Rattle.names.specs.declared.AlgorithmName.TheVariants.{Known}
 use Rattle.names_codes.specs.Codes.{algorithm_coded, algorithm_coded_lem}
 use Rattle.format.specs.Format.{Key, key_of, of_point, of_scalar, of_modulus, of_numbers, filled_key}
 use Rattle.key_public.specs.Keys.{public_bytes}
 use Rattle.key_pairs.specs.Pairs.{private_bytes}
 use Rattle.reader_entries.specs.declared.KeyFields.{KeyFields}
-use Rattle.writer_reply.specs.declared.Written.{Written}
 use Rattle.writer_plain.specs.Plain.{keys_reply, keys_left}
 use Rattle.writer_table.specs.Table.{rows_from, part_at, part_bytes, code_known, algorithm_at, key_at, keys_named, part_within, row_is_within, every, table_fits, table_checked}
 use Rattle.writer_rows.specs.Taken.{key_curve, key_rsa}
 use Rattle.writer_keys.specs.Named.{named_reply, named_left}
 use Rattle.writer_listed.specs.Listed.{kept_part, key_in}
+use Rattle.writer_reply.specs.Reply.{Written}
 
 unfoldable pub row_of : List ℕ → KeyFields → List ℕ
 row_of s k =
@@ -120,7 +119,7 @@ module _ (s before more : List ℕ) (k : KeyFields) where
   within_there i p e =
       ap (λ (q : Part). leb (q.start + q.length) (length s)) (part_there i p e) ∙ le-leb _ _ (kept_within s p)
 
-  row_code : algorithm_coded (get_or table (length before) 0) ≡ Known k.algorithm
+  row_code : algorithm_coded (get_or table (length before) 0) ≡ Some k.algorithm
   row_code = ap algorithm_coded code_there ∙ algorithm_coded_lem k.algorithm
 
   row_known : code_known table (length before) ≡ true

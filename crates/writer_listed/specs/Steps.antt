@@ -1,5 +1,5 @@
 -- The keys of a record one by one, as the code goes over them.
-use Rattle.std.specs.Prelude.{ℕ, zero, suc, ◌+◌, ◌-◌, ◌≤◌, ◌<◌, ◌≡◌, List, [], ◌∷◌, map, length, take, drop, get_or}
+use Rattle.std.specs.Prelude.{ℕ, zero, suc, ◌+◌, ◌-◌, ◌≤◌, ◌<◌, ◌≡◌, List, [], ◌∷◌, map, length, take, drop, get_or, Some, None}
 use Rattle.std.proofs.Common.{arith, add-one}
 use Rattle.std.proofs.Math.Path.{refl}
 use Rattle.std.proofs.Math.Seq.{drop-nil}
@@ -8,7 +8,6 @@ use Rattle.fields.specs.declared.Cursor.{Cursor}
 use Rattle.places.specs.declared.Places.{Places}
 use Rattle.places.specs.Places.{list_of, after_first}
 use Rattle.reader_entries.specs.declared.KeyFields.{KeyFields}
-use Rattle.reader_entries.specs.declared.KeyRead.TheVariants as key_read
 use Rattle.reader_entries.specs.Entries.{key_placed}
 use Rattle.buffer.specs.Puts.{IsPut}
 use Rattle.buffer.specs.Runs.{IsRun, start, step}
@@ -63,11 +62,11 @@ module _ (s : List ℕ) (b : Cursor) where
   unfolding others_at
   others_none = refl
 
-  pub others_nothing : (at : ℕ) (more : List ℕ) → key_placed s b at ≡ key_read.Nothing → others_at s b (at ∷ more) ≡ []
+  pub others_nothing : (at : ℕ) (more : List ℕ) → key_placed s b at ≡ None → others_at s b (at ∷ more) ≡ []
   unfolding others_at
   others_nothing at more e = rw e
 
-  pub others_key : (at : ℕ) (more : List ℕ) (k : KeyFields) (d : Cursor) → key_placed s b at ≡ key_read.Key k d → others_at s b (at ∷ more) ≡ k ∷ others_at s d more
+  pub others_key : (at : ℕ) (more : List ℕ) (k : KeyFields) (d : Cursor) → key_placed s b at ≡ Some (k, d) → others_at s b (at ∷ more) ≡ k ∷ others_at s d more
   unfolding others_at
   others_key at more k d e = rw e
 
@@ -89,12 +88,12 @@ module _ (s : List ℕ) (b : Cursor) (p : Places) (k count : ℕ) (old : List �
   put_past h = nothing (places_past p k count h)
 
   module _ (h : k < count) (g : k < 16) where
-    pub put_nothing : key_placed s b (get_or (list_of p) k 0) ≡ key_read.Nothing → IsRun old at (join (rows_at s b p k count)) at old
+    pub put_nothing : key_placed s b (get_or (list_of p) k 0) ≡ None → IsRun old at (join (rows_at s b p k count)) at old
     put_nothing e = rw (places_more p k count h g, others_nothing s b (get_or (list_of p) k 0) (places_from p (k + 1) count) e) (none_put old at)
 
     -- one key, and those after it
     pub put_more :
-        (x : KeyFields) (d : Cursor) → key_placed s b (get_or (list_of p) k 0) ≡ key_read.Key x d → (past : ℕ) (mid : List ℕ) (r : ℕ) (out : List ℕ)
+        (x : KeyFields) (d : Cursor) → key_placed s b (get_or (list_of p) k 0) ≡ Some (x, d) → (past : ℕ) (mid : List ℕ) (r : ℕ) (out : List ℕ)
         → IsPut old at (row_of s x) past mid → IsRun mid past (join (rows_at s d p (k + 1) count)) r out
         → IsRun old at (join (rows_at s b p k count)) r out
     put_more x d w past mid r out put rest =

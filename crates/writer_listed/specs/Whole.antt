@@ -1,5 +1,5 @@
 -- The whole table of a record: it has the numbers of 1 to 16 keys, and a write by it is a write of those keys.
-use Rattle.std.specs.Prelude.{ℕ, zero, suc, ◌+◌, ◌-◌, ◌≤◌, ◌≡◌, refl, true, take}
+use Rattle.std.specs.Prelude.{ℕ, zero, suc, ◌+◌, ◌-◌, ◌≤◌, ◌≡◌, refl, true, take, Option, Some, None}
 use native.Mathlib.Omega.{arith}
 use mathlib.Core.List.{List, [], ◌∷◌, map}
 use Rattle.std.proofs.Math.ListN.{length}
@@ -8,20 +8,19 @@ use Rattle.fields.specs.declared.Cursor.{Cursor}
 use Rattle.fields.specs.declared.Part.{Part}
 use Rattle.places.specs.Places.{after_first}
 use Rattle.reader_entries.specs.Back.{place_at}
-use Rattle.reader_entries.specs.declared.KeyRead.{KeyRead}
-use Rattle.reader_entries.specs.declared.KeyRead.TheVariants as key_read
 use Rattle.reader_entries.specs.Entries.{key_placed}
 use Rattle.reader_image.specs.declared.Fields.{Fields}
 use Rattle.reader_image.specs.Container.{other_places}
 use Rattle.reader_keys.specs.Keys.{first_fields}
 use Rattle.buffer.specs.Puts.{IsPut, begins}
 use Rattle.buffer.specs.Runs.{IsRun, start, step}
-use Rattle.writer_reply.specs.declared.Written.{Written}
 use Rattle.writer_keys.specs.Named.{IsNamed}
 use Rattle.writer_keys.specs.Passes.{rest_of}
 use Rattle.writer_listed.specs.Listed.{kept_part, others_at, after_blob, record_keys, listed_keys, IsListed}
 use Rattle.writer_listed.specs.Rows.{row_of, table_of, table-length, table_reply, table_left}
 use Rattle.writer_listed.specs.Steps.{places_from, places_others, others_none, others_nothing, others_key}
+use Rattle.reader_entries.specs.declared.KeyFields.{KeyFields}
+use Rattle.writer_reply.specs.Reply.{Written}
 
 -- no more keys are found than there are places
 others_few : (s : List ℕ) (b : Cursor) (l : List ℕ) → length (others_at s b l) ≤ length l
@@ -29,10 +28,10 @@ others_few s b [] = rw (others_none s b) (omega arith)
 others_few s b (at ∷ more) = go (key_placed s b at) refl (λ d. others_few s d more)
   where
     go :
-        (w : KeyRead) → key_placed s b at ≡ w → ((d : Cursor) → length (others_at s d more) ≤ length more)
+        (w : Option (KeyFields × Cursor)) → key_placed s b at ≡ w → ((d : Cursor) → length (others_at s d more) ≤ length more)
         → length (others_at s b (at ∷ more)) ≤ suc (length more)
-    go key_read.Nothing e few = rw (others_nothing s b at more e) (omega arith)
-    go (key_read.Key k d) e few = rw (others_key s b at more k d e) (omega (arith, few d))
+    go None e few = rw (others_nothing s b at more e) (omega arith)
+    go (Some (k, d)) e few = rw (others_key s b at more k d e) (omega (arith, few d))
 
 take_few : (n : ℕ) (l : List ℕ) → length (take n l) ≤ length l
 take_few zero l = omega arith

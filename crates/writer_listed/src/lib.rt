@@ -12,24 +12,23 @@ ghost use Rattle.writer_listed.specs.Steps.{places_from};
 
 use fields::{Cursor, Part};
 use places::Places;
-use reader_entries::{KeyFields, KeyRead};
+use reader_entries::KeyFields;
 use reader_image::Fields;
 use writer_reply::Written;
 
 // A part that lies within the image; the absent one for any other, which has no bytes either.
+#[tactic(auto, unfolding(crate::specs::Listed::kept_part))]
 fn kept(image: &[u8], part: Part) -> Part
     ensures { result ≡ kept_part image.now part }
 {
     if writer_parts::has_room(image.len(), part.start, part.length) {
         return part;
     }
-    Part {
-        start: 0,
-        length: 0,
-    }
+    Part::ABSENT
 }
 
 // Puts numbers into the table, as `buffer::put` does bytes.
+#[tactic(auto, unfolding(buffer::specs::Puts::next, buffer::specs::Puts::placed, buffer::specs::Puts::fits, buffer::specs::Puts::splice))]
 fn put_numbers(table: &mut [usize], at: usize, numbers: &[usize]) -> usize
     ensures { IsPut table.old at numbers.now result table.new }
 {
@@ -39,21 +38,20 @@ fn put_numbers(table: &mut [usize], at: usize, numbers: &[usize]) -> usize
     if table.len() - at < numbers.len() {
         return at;
     }
-    let mut i: usize = 0;
-    while i < numbers.len() {
-        table[at + i] = numbers[i];
-        i += 1;
-    }
-    at + i
+    let past = at + numbers.len();
+    table[at..past].copy_from_slice(numbers);
+    past
 }
 
 // Puts the 19 numbers of a key.
 fn put_row(table: &mut [usize], at: usize, image: &[u8], k: KeyFields) -> usize
     ensures { IsPut table.old at (row_of image.now k) result table.new }
 {
-    let algorithm = k.algorithm;
-    let public = k.public;
-    let private = k.private;
+    let KeyFields {
+        public,
+        private,
+        ..
+    } = k;
     let point = kept(image, public.point);
     let scalar = kept(image, private.scalar);
     let comment = kept(image, k.comment);
@@ -64,7 +62,7 @@ fn put_row(table: &mut [usize], at: usize, image: &[u8], k: KeyFields) -> usize
     let p = kept(image, private.p);
     let q = kept(image, private.q);
     let row: [usize; 19] = [
-        algorithm.code() as usize,
+        k.algorithm.code() as usize,
         point.start,
         point.length,
         scalar.start,
@@ -106,8 +104,8 @@ fn put_others(
         return at;
     }
     match reader_entries::read_key(blob, image, places.get(k) as usize) {
-        KeyRead::Nothing => at,
-        KeyRead::Key(key, next) => {
+        None => at,
+        Some((key, next)) => {
             let past = put_row(table, at, image, key);
             put_others(table, past, image, places, k + 1, count, next)
         }
@@ -118,23 +116,17 @@ fn put_others(
 pub fn write_listed(image: &[u8], f: Fields, out: &mut [u8]) -> Written
     ensures { IsListed image.now f out.old result out.new }
 {
-    let header = f.header;
-    let section = f.section;
-    let algorithm = header.algorithm;
-    let own = header.blob;
-    let public = header.public;
-    let private = section.private;
-    let comment = section.comment;
+    let Fields { header, section } = f;
     let places = section.places;
     let key = KeyFields {
-        algorithm: algorithm,
-        blob: own,
-        public: public,
-        begins: places.p1 as usize,
-        private: private,
-        comment: comment,
+        algorithm: header.algorithm,
+        blob: header.blob,
+        public: header.public,
+        begins: places.get(0) as usize,
+        private: section.private,
+        comment: section.comment,
     };
-    let first = kept(image, own);
+    let first = kept(image, header.blob);
     let blob = Cursor {
         at: first.start + first.length,
         end: image.len(),

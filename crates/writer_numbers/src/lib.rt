@@ -6,7 +6,6 @@ ghost use Rattle.fields.specs.Bytes.{string};
 ghost use Rattle.names.specs.declared.Algorithm.TheVariants.{Rsa};
 ghost use Rattle.names.specs.Algorithms.{algorithm_name};
 ghost use Rattle.mpint.specs.Mpint.{at_most, modulus_size};
-ghost use Rattle.mpint.specs.declared.Size.TheVariants.{Bits};
 ghost use Rattle.format.specs.Format.{of_modulus, of_numbers, blob, written_pair};
 ghost use Rattle.buffer.specs.Puts.{IsPut};
 ghost use Rattle.buffer.specs.Runs.{IsRun};
@@ -14,46 +13,44 @@ ghost use Rattle.writer_parts.specs.Checks.{all_mpints, sizes_fit, key_checked, 
 ghost use Rattle.writer_parts.specs.Sizes.{capped};
 
 use fields::Refusal;
-use mpint::{Size, is_mpint};
+use mpint::is_mpint;
 use writer_parts::{added, has_room};
 use writer_reply::Written;
 
 // Are all six positive and minimal?
+#[tactic(auto, unfolding(writer_parts::specs::Checks::all_mpints))]
 fn all_mpints(n: &[u8], e: &[u8], d: &[u8], iqmp: &[u8], p: &[u8], q: &[u8]) -> bool
     ensures { result ≡ all_mpints (of_modulus n.now e.now) (of_numbers d.now iqmp.now p.now q.now) }
 {
-    is_mpint(n) & is_mpint(e) & is_mpint(d) & is_mpint(iqmp) & is_mpint(p) & is_mpint(q)
+    is_mpint(n) && is_mpint(e) && is_mpint(d) && is_mpint(iqmp) && is_mpint(p) && is_mpint(q)
 }
 
 // Has a number at most as many bits as the modulus n has? One that has no more bytes than these bits fill is
 // not looked at.
 fn fits(n: &[u8], bits: usize, number: &[u8]) -> bool
-    requires { modulus_size n.now ≡ Bits bits }
+    requires { modulus_size n.now ≡ Some bits }
     ensures { result ≡ at_most number.now n.now }
 {
-    if number.len() <= bits / 8 {
-        return true;
-    }
-    mpint::at_most(number, n)
+    number.len() <= bits / 8 || mpint::at_most(number, n)
 }
 
 // Has the modulus its size, and no other number more bits?
+#[tactic(auto, unfolding(writer_parts::specs::Checks::sizes_fit))]
 fn sizes_fit(n: &[u8], e: &[u8], d: &[u8], iqmp: &[u8], p: &[u8], q: &[u8]) -> bool
     ensures { result ≡ sizes_fit (of_modulus n.now e.now) (of_numbers d.now iqmp.now p.now q.now) }
 {
-    match mpint::modulus_size(n) {
-        Size::Outside => false,
-        Size::Bits(bits) => {
-            fits(n, bits, e)
-                & fits(n, bits, d)
-                & fits(n, bits, iqmp)
-                & fits(n, bits, p)
-                & fits(n, bits, q)
-        }
-    }
+    let Some(bits) = mpint::modulus_size(n) else {
+        return false;
+    };
+    fits(n, bits, e)
+        && fits(n, bits, d)
+        && fits(n, bits, iqmp)
+        && fits(n, bits, p)
+        && fits(n, bits, q)
 }
 
 // The algorithm's name, as a string.
+#[tactic(auto, unfolding(fields::specs::Bytes::string, fields::specs::Bytes::uint32))]
 fn put_algorithm(out: &mut [u8], at: usize) -> usize
     ensures { IsPut out.old at (string (algorithm_name Rsa)) result out.new }
 {
@@ -123,6 +120,7 @@ pub fn put_pair(
 }
 
 // What a writer refuses of a key, or the length 0.
+#[tactic(auto, unfolding(writer_parts::specs::Checks::key_checked))]
 pub fn check(n: &[u8], e: &[u8], d: &[u8], iqmp: &[u8], p: &[u8], q: &[u8]) -> Written
     ensures { result ≡ key_checked Rsa (of_modulus n.now e.now) (of_numbers d.now iqmp.now p.now q.now) passed }
 {
@@ -132,5 +130,5 @@ pub fn check(n: &[u8], e: &[u8], d: &[u8], iqmp: &[u8], p: &[u8], q: &[u8]) -> W
     if !sizes_fit(n, e, d, iqmp, p, q) {
         return writer_reply::refused(Refusal::Length);
     }
-    Written::Length(0)
+    Ok(0)
 }

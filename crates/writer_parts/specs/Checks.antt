@@ -1,6 +1,6 @@
 -- docs/RULES.md, 10.5. What a plain writer asks of a key: a length wrong for the kind 1; point tag 2; a scalar of zeros 2.
 -- 10.6, RSA: the writer takes the six mpints and refuses 2, then 1.
-use Rattle.std.specs.Prelude.{ℕ, ◌≡◌, refl, Bool, true, false, ◌&&◌, eqb, length}
+use Rattle.std.specs.Prelude.{ℕ, ◌≡◌, refl, Bool, true, false, ◌&&◌, eqb, length, Ok, Err}
 use Rattle.fields.specs.Place.{clash}
 use Rattle.fields.specs.declared.Fault.{Fault}
 use Rattle.fields.specs.declared.Refusal.{Refusal}
@@ -9,9 +9,7 @@ use Rattle.names.specs.declared.Algorithm.{Algorithm}
 use Rattle.names.specs.declared.Algorithm.TheVariants.{Elliptic as OnCurve, Rsa}
 use Rattle.mpint.specs.Mpint.{is_mpint, modulus_fits, at_most}
 use Rattle.format.specs.Format.{PublicBytes, PrivateBytes, public_length, private_length, point_tag, not_zero}
-use Rattle.writer_reply.specs.declared.Written.{Written}
-use Rattle.writer_reply.specs.declared.Written.TheVariants as written
-use Rattle.writer_reply.specs.Reply.{unless}
+use Rattle.writer_reply.specs.Reply.{unless, Written}
 
 -- all six are positive and minimal, in the order n, e, d, iqmp, p, q
 unfoldable pub all_mpints : PublicBytes → PrivateBytes → Bool
@@ -40,14 +38,14 @@ key_checked Rsa key x next = unless (all_mpints key x) FormatEncoding (unless (s
 
 -- nothing is wrong, and nothing written yet
 abbrev pub passed : Written
-passed = written.Length 0
+passed = Ok 0
 
 -- ---- a check that refuses does so whatever comes next, and one that passes goes on to it
 
 -- what a check of any conditions is like
 pub record Checking (check : Written → Written) : Type 0 where
-  pub refuses : (f : Fault) (next : Written) → check passed ≡ written.Refused f → check next ≡ written.Refused f
-  pub passes : (n : ℕ) (next : Written) → check passed ≡ written.Length n → check next ≡ next
+  pub refuses : (f : Fault) (next : Written) → check passed ≡ Err f → check next ≡ Err f
+  pub passes : (n : ℕ) (next : Written) → check passed ≡ Ok n → check next ≡ next
 
 pub checking_nothing : Checking (λ next. next)
 checking_nothing = record { refuses = λ f next e. clash cc; passes = λ n next e. refl }

@@ -9,8 +9,7 @@ use Rattle.utf8.specs.Utf8.{utf8}
 use Rattle.format.specs.Format.{PublicBytes, PrivateBytes, Key, filled, ModulusFits, NumbersFit, PublicFits, PrivateFits, filled_key}
 use Rattle.format.specs.Scalars.{filled_private, filled_zero, fits_allowed, fits_some}
 use Rattle.fields.specs.declared.Refusal.TheVariants.{CharacterEncoding}
-use Rattle.writer_reply.specs.declared.Written.{Written}
-use Rattle.writer_reply.specs.Reply.{unless}
+use Rattle.writer_reply.specs.Reply.{unless, Written}
 use Rattle.writer_plain.specs.Plain.{all_mpints, sizes_fit, key_checked, keys_checked}
 
 -- a key that fits passes the plain writer's first tests, its scalar filled

@@ -1,5 +1,5 @@
 -- docs/RULES.md, 10.5 and 10.6: an accepted write meets every condition of its keys. What is known of a key that passed the plain writer's tests.
-use Rattle.std.specs.Prelude.{ℕ, ◌≡◌, refl, Bool, true, false, List, eqb, length}
+use Rattle.std.specs.Prelude.{ℕ, ◌≡◌, refl, Bool, true, false, List, eqb, length, Ok}
 use Rattle.std.proofs.Common.{sym, ◌∙◌, ap, eqb-true}
 use Rattle.fields.specs.Place.{clash}
 use Rattle.fields.specs.declared.Refusal.{Refusal}
@@ -9,14 +9,12 @@ use Rattle.names.specs.declared.Algorithm.{Algorithm}
 use Rattle.names.specs.declared.Algorithm.TheVariants.{Elliptic as OnCurve, Rsa}
 use Rattle.format.specs.Format.{PublicBytes, PrivateBytes, of_point, of_scalar, of_modulus, of_numbers, PublicFits, PrivateFits, public_length, private_length, point_tag, not_zero, trimmed, filled}
 use Rattle.format.specs.Scalars.{allowed_own, trimmed_back, trimmed_fits}
-use Rattle.writer_reply.specs.declared.Written.{Written}
-use Rattle.writer_reply.specs.declared.Written.TheVariants as written
-use Rattle.writer_reply.specs.Reply.{unless}
+use Rattle.writer_reply.specs.Reply.{unless, Written}
 use Rattle.writer_plain.specs.Plain.{key_checked}
 use Rattle.writer_plain.specs.Fits.{numbers_fit}
 
 -- a condition of an accepted write holds
-pub held : (b : Bool) (why : Refusal) (next : Written) (k : ℕ) → unless b why next ≡ written.Length k → (b ≡ true) × (next ≡ written.Length k)
+pub held : (b : Bool) (why : Refusal) (next : Written) (k : ℕ) → unless b why next ≡ Ok k → (b ≡ true) × (next ≡ Ok k)
 held true why next k e = (refl, e)
 held false why next k e = clash cc
 
@@ -31,10 +29,10 @@ pub record EllipticHeld (e : Elliptic) (point scalar : List ℕ) (next : Written
   pub private : length scalar ≡ private_length e
   pub tag : point_tag e point ≡ true
   pub some : not_zero e scalar ≡ true
-  pub then : next ≡ written.Length k
+  pub then : next ≡ Ok k
 
 pub elliptic_held :
-    (e : Elliptic) (key : PublicBytes) (x : PrivateBytes) (next : Written) (k : ℕ) → key_checked (OnCurve e) key x next ≡ written.Length k
+    (e : Elliptic) (key : PublicBytes) (x : PrivateBytes) (next : Written) (k : ℕ) → key_checked (OnCurve e) key x next ≡ Ok k
     → EllipticHeld e key.point x.scalar next k
 unfolding key_checked
 elliptic_held e key x next k passes =
@@ -57,8 +55,8 @@ elliptic_held e key x next k passes =
 
 -- a key that passed its kind's tests fits once its scalar is trimmed, and is filled again to what it was, if it has no bytes but its own
 pub key_held :
-    (a : Algorithm) (key : PublicBytes) (x : PrivateBytes) (next : Written) (k : ℕ) → key_checked a key x next ≡ written.Length k
-    → (Own a key x → PublicFits a key × PrivateFits a key (trimmed a x) × (filled a (trimmed a x) ≡ x)) × (next ≡ written.Length k)
+    (a : Algorithm) (key : PublicBytes) (x : PrivateBytes) (next : Written) (k : ℕ) → key_checked a key x next ≡ Ok k
+    → (Own a key x → PublicFits a key × PrivateFits a key (trimmed a x) × (filled a (trimmed a x) ≡ x)) × (next ≡ Ok k)
 unfolding key_checked
 key_held (OnCurve e) key x next k passes =
     let h = elliptic_held e key x next k passes in

@@ -5,8 +5,7 @@ use Rattle.fields.specs.declared.Refusal.TheVariants.{Length, CharacterEncoding}
 use Rattle.names.specs.declared.Algorithm.{Algorithm}
 use Rattle.utf8.specs.Utf8.{utf8}
 use Rattle.format.specs.Format.{PublicBytes, PrivateBytes, Key, key_of, alone, written_image}
-use Rattle.writer_reply.specs.declared.Written.{Written}
-use Rattle.writer_reply.specs.Reply.{unless, left, sized, Answers}
+use Rattle.writer_reply.specs.Reply.{unless, left, sized, Answers, Written}
 -- what a key has to be, and then
 unfoldable pub use Rattle.writer_parts.specs.Checks.{all_mpints, sizes_fit, key_checked}
 

@@ -12,7 +12,7 @@ ghost use Rattle.writer_reply.specs.Reply.{IsSized};
 ghost use Rattle.writer_plain.specs.Plain.{IsPlain};
 
 use fields::{Part, Refusal};
-use key_material::{Checkint, Material};
+use key_material::Material;
 use names::Elliptic;
 use writer_parts::added;
 use writer_reply::Written;
@@ -64,7 +64,7 @@ fn write_sized(
     if out.len() < size {
         return writer_reply::refused(Refusal::Room);
     }
-    Written::Length(put_plain(out, algorithm, point, scalar, checkint, comment, entries))
+    Ok(put_plain(out, algorithm, point, scalar, checkint, comment, entries))
 }
 
 // A plain image of lent parts: the public string or point, the seed or scalar of exactly its length.
@@ -78,24 +78,17 @@ pub fn write_parts(
 ) -> Written
     ensures { IsPlain (OnCurve algorithm) (of_point point.now) (of_scalar scalar.now) checkint comment.now out.old result out.new }
 {
-    match writer_curve::check(false, algorithm, point, scalar) {
-        Written::Refused(f) => Written::Refused(f),
-        Written::Length(_) => {
-            if !utf8::is_utf8(comment) {
-                return writer_reply::refused(Refusal::CharacterEncoding);
-            }
-            write_sized(algorithm, point, scalar, checkint, comment, out)
-        }
+    writer_curve::check(false, algorithm, point, scalar)?;
+    if !utf8::is_utf8(comment) {
+        return writer_reply::refused(Refusal::CharacterEncoding);
     }
+    write_sized(algorithm, point, scalar, checkint, comment, out)
 }
 
 // A plain image of key material, with the given checkint or the derived one.
-pub fn write_plain(m: Material, given: Checkint, comment: &[u8], out: &mut [u8]) -> Written
+pub fn write_plain(m: Material, given: Option<u32>, comment: &[u8], out: &mut [u8]) -> Written
     ensures { IsPlain (OnCurve m.algorithm) (of_point (public_of m)) (of_scalar (private_of m)) (checkint_of given (private_of m)) comment.now out.old result out.new }
 {
-    let algorithm = m.algorithm;
-    let public = m.public;
-    let private = m.private;
     let publics = Part {
         start: 0,
         length: m.public_length,
@@ -104,8 +97,8 @@ pub fn write_plain(m: Material, given: Checkint, comment: &[u8], out: &mut [u8])
         start: 0,
         length: m.private_length,
     };
+    let point = fields::view(&m.public, publics);
+    let scalar = fields::view(&m.private, privates);
     let checkint = m.checkint(given);
-    let point = fields::view(&public, publics);
-    let scalar = fields::view(&private, privates);
-    write_parts(algorithm, point, scalar, checkint, comment, out)
+    write_parts(m.algorithm, point, scalar, checkint, comment, out)
 }

@@ -1,19 +1,21 @@
 -- docs/RULES.md, 2.2, 2.3 and 10.8: what a writer answers, and what it leaves in the lent buffer.
-use Rattle.std.specs.Prelude.{ℕ, ◌≡◌, Bool, true, false, List, leb, length}
-use Rattle.std.proofs.Common.{ap}
+use Rattle.std.specs.Prelude.{ℕ, ◌≡◌, Bool, true, false, List, leb, length, Ok, Err}
+use Rattle.std.proofs.Common.{ap, Result}
 use Rattle.fields.specs.Fields.{fault}
 use Rattle.fields.specs.Refusals.{number_of, count_of}
 use Rattle.fields.specs.declared.Fault.{Fault}
 use Rattle.fields.specs.declared.Refusal.{Refusal}
 use Rattle.fields.specs.declared.Refusal.TheVariants.{Room, Size}
 use Rattle.buffer.specs.Puts.{splice}
-use Rattle.writer_reply.specs.declared.Written.{Written}
-use Rattle.writer_reply.specs.declared.Written.TheVariants as written
+
+-- a length, or the refusal
+abbrev pub Written : Type 0
+Written = Result ℕ Fault
 
 -- by what was answered
 abbrev pub on_written : {R : Type 0} → Written → (Fault → R) → (ℕ → R) → R
-on_written (written.Refused f) refused accepted = refused f
-on_written (written.Length n) refused accepted = accepted n
+on_written (Err f) refused accepted = refused f
+on_written (Ok n) refused accepted = accepted n
 
 -- the rules' reply: number, count, the place at which the failing field began, and the written length
 pub record Told : Type 0 where
@@ -31,7 +33,7 @@ told w =
 
 -- every refusal of a writer is at 0
 abbrev pub refused : Refusal → Written
-refused why = written.Refused (fault why 0)
+refused why = Err (fault why 0)
 
 -- what comes next where a condition holds, else the refusal
 abbrev pub unless : Bool → Refusal → Written → Written
@@ -40,15 +42,15 @@ unless false why next = refused why
 
 -- refused, the buffer keeps every byte; else the image stands at its start, and the bytes past it stay
 abbrev pub left : Written → List ℕ → List ℕ → List ℕ
-left (written.Refused f) image old = old
-left (written.Length n) image old = splice old 0 image
+left (Err f) image old = old
+left (Ok n) image old = splice old 0 image
 
 -- size 11; room 9; by the image's length
 abbrev pub sized_by : ℕ → ℕ → Written
 sized_by size room =
     unless (leb size 65535) Size
     (unless (leb size room) Room
-    (written.Length size))
+    (Ok size))
 
 unfoldable pub sized : List ℕ → ℕ → Written
 sized image room = sized_by (length image) room

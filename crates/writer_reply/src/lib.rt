@@ -7,14 +7,10 @@ ghost use Rattle.writer_reply.specs.Reply.{refused};
 
 use fields::{Fault, Refusal};
 
-#[derive(Clone, Copy)]
-pub enum Written {
-    Length(usize),
-    Refused(Fault),
-}
+pub type Written = Result<usize, Fault>;
 
 pub fn refused(why: Refusal) -> Written
     ensures { result ≡ refused why }
 {
-    Written::Refused(Fault { why: why, at: 0 })
+    Err(why.at(0))
 }

@@ -1,20 +1,46 @@
 // One key of a table, as the writer of several keys checks, measures and puts it.
 #![tactic(auto)]
 
-ghost use Rattle.std.specs.Prelude.{◌≡◌, length};
+ghost use Rattle.std.specs.Prelude.{◌≡◌, ◌+◌, length};
 ghost use Rattle.fields.specs.Bytes.{string};
 ghost use Rattle.format.specs.Format.{alone, key_blob, written_entry};
 ghost use Rattle.buffer.specs.Puts.{IsPut};
 ghost use Rattle.writer_parts.specs.Checks.{key_checked, passed};
 ghost use Rattle.writer_parts.specs.Sizes.{capped};
 ghost use Rattle.writer_plain.specs.Plain.{keys_checked};
-ghost use Rattle.writer_table.specs.Table.{key_at};
+ghost use Rattle.writer_table.specs.Table.{part_bytes, key_at};
 ghost use Rattle.writer_rows.specs.Taken.{key_taken};
 
 use fields::Refusal;
 use names::Algorithm;
 use writer_reply::Written;
 use writer_table::{algorithm_at, part_at};
+
+// The six numbers of an RSA key.
+#[derive(Clone, Copy)]
+struct Numbers<'a> {
+    n: &'a [u8],
+    e: &'a [u8],
+    d: &'a [u8],
+    iqmp: &'a [u8],
+    p: &'a [u8],
+    q: &'a [u8],
+}
+
+fn numbers_at<'a>(text: &'a [u8], table: &[usize], j: usize) -> Numbers<'a>
+    ensures key { (result.n.now ≡ part_bytes text.now table.now (j + 7)) × (result.e.now ≡ part_bytes text.now table.now (j + 9)) }
+    ensures exponents { (result.d.now ≡ part_bytes text.now table.now (j + 11)) × (result.iqmp.now ≡ part_bytes text.now table.now (j + 13)) }
+    ensures primes { (result.p.now ≡ part_bytes text.now table.now (j + 15)) × (result.q.now ≡ part_bytes text.now table.now (j + 17)) }
+{
+    Numbers {
+        n: part_at(text, table, j, 7),
+        e: part_at(text, table, j, 9),
+        d: part_at(text, table, j, 11),
+        iqmp: part_at(text, table, j, 13),
+        p: part_at(text, table, j, 15),
+        q: part_at(text, table, j, 17),
+    }
+}
 
 // What a writer refuses of a key but for its comment, or the length 0. A record's scalar is filled with zeros.
 fn check_key(filling: bool, text: &[u8], table: &[usize], j: usize) -> Written
@@ -27,14 +53,17 @@ fn check_key(filling: bool, text: &[u8], table: &[usize], j: usize) -> Written
             part_at(text, table, j, 1),
             part_at(text, table, j, 3),
         ),
-        Algorithm::Rsa => writer_numbers::check(
-            part_at(text, table, j, 7),
-            part_at(text, table, j, 9),
-            part_at(text, table, j, 11),
-            part_at(text, table, j, 13),
-            part_at(text, table, j, 15),
-            part_at(text, table, j, 17),
-        ),
+        Algorithm::Rsa => {
+            let Numbers {
+                n,
+                e,
+                d,
+                iqmp,
+                p,
+                q,
+            } = numbers_at(text, table, j);
+            writer_numbers::check(n, e, d, iqmp, p, q)
+        }
     }
 }
 
@@ -42,15 +71,11 @@ fn check_key(filling: bool, text: &[u8], table: &[usize], j: usize) -> Written
 pub fn check_at(filling: bool, text: &[u8], table: &[usize], j: usize) -> Written
     ensures { result ≡ keys_checked (alone (key_taken filling (key_at text.now table.now j))) passed }
 {
-    match check_key(filling, text, table, j) {
-        Written::Refused(f) => Written::Refused(f),
-        Written::Length(_) => {
-            if !utf8::is_utf8(part_at(text, table, j, 5)) {
-                return writer_reply::refused(Refusal::CharacterEncoding);
-            }
-            Written::Length(0)
-        }
+    check_key(filling, text, table, j)?;
+    if !utf8::is_utf8(part_at(text, table, j, 5)) {
+        return writer_reply::refused(Refusal::CharacterEncoding);
     }
+    Ok(0)
 }
 
 // The length of its public blob.
@@ -90,14 +115,17 @@ pub fn pair_length_at(text: &[u8], table: &[usize], j: usize) -> usize
             part_at(text, table, j, 1),
             part_at(text, table, j, 3),
         ),
-        Algorithm::Rsa => writer_numbers::pair_length(
-            part_at(text, table, j, 7),
-            part_at(text, table, j, 9),
-            part_at(text, table, j, 11),
-            part_at(text, table, j, 13),
-            part_at(text, table, j, 15),
-            part_at(text, table, j, 17),
-        ),
+        Algorithm::Rsa => {
+            let Numbers {
+                n,
+                e,
+                d,
+                iqmp,
+                p,
+                q,
+            } = numbers_at(text, table, j);
+            writer_numbers::pair_length(n, e, d, iqmp, p, q)
+        }
     }
 }
 
@@ -113,15 +141,16 @@ pub fn put_pair_at(out: &mut [u8], at: usize, text: &[u8], table: &[usize], j: u
             part_at(text, table, j, 1),
             part_at(text, table, j, 3),
         ),
-        Algorithm::Rsa => writer_numbers::put_pair(
-            out,
-            at,
-            part_at(text, table, j, 7),
-            part_at(text, table, j, 9),
-            part_at(text, table, j, 11),
-            part_at(text, table, j, 13),
-            part_at(text, table, j, 15),
-            part_at(text, table, j, 17),
-        ),
+        Algorithm::Rsa => {
+            let Numbers {
+                n,
+                e,
+                d,
+                iqmp,
+                p,
+                q,
+            } = numbers_at(text, table, j);
+            writer_numbers::put_pair(out, at, n, e, d, iqmp, p, q)
+        }
     }
 }

@@ -12,7 +12,6 @@ ghost use Rattle.writer_reply.specs.Reply.{IsSized};
 ghost use Rattle.writer_plain.specs.Plain.{IsPlain};
 
 use fields::Refusal;
-use key_material::Checkint;
 use writer_parts::added;
 use writer_reply::Written;
 
@@ -69,7 +68,7 @@ fn write_sized(
     if out.len() < size {
         return writer_reply::refused(Refusal::Room);
     }
-    Written::Length(put_plain(out, n, e, d, iqmp, p, q, checkint, comment, entries))
+    Ok(put_plain(out, n, e, d, iqmp, p, q, checkint, comment, entries))
 }
 
 // A plain image of six lent mpints.
@@ -86,24 +85,11 @@ pub fn write_parts(
 ) -> Written
     ensures { IsPlain Rsa (of_modulus n.now e.now) (of_numbers d.now iqmp.now p.now q.now) checkint comment.now out.old result out.new }
 {
-    match writer_numbers::check(n, e, d, iqmp, p, q) {
-        Written::Refused(f) => Written::Refused(f),
-        Written::Length(_) => {
-            if !utf8::is_utf8(comment) {
-                return writer_reply::refused(Refusal::CharacterEncoding);
-            }
-            write_sized(n, e, d, iqmp, p, q, checkint, comment, out)
-        }
+    writer_numbers::check(n, e, d, iqmp, p, q)?;
+    if !utf8::is_utf8(comment) {
+        return writer_reply::refused(Refusal::CharacterEncoding);
     }
-}
-
-fn checkint_of(given: Checkint, d: &[u8]) -> u32
-    ensures { result ≡ checkint_of given d.now }
-{
-    match given {
-        Checkint::Given(checkint) => checkint,
-        Checkint::Derived => key_material::derived_checkint(d),
-    }
+    write_sized(n, e, d, iqmp, p, q, checkint, comment, out)
 }
 
 // The same, with the given checkint or the one derived from d's bytes as they are lent.
@@ -114,12 +100,12 @@ pub fn write_rsa(
     iqmp: &[u8],
     p: &[u8],
     q: &[u8],
-    given: Checkint,
+    given: Option<u32>,
     comment: &[u8],
     out: &mut [u8],
 ) -> Written
     ensures { IsPlain Rsa (of_modulus n.now e.now) (of_numbers d.now iqmp.now p.now q.now) (checkint_of given d.now) comment.now out.old result out.new }
 {
-    let checkint = checkint_of(given, d);
+    let checkint = given.unwrap_or_else(|| key_material::derived_checkint(d));
     write_parts(n, e, d, iqmp, p, q, checkint, comment, out)
 }

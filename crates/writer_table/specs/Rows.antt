@@ -1,11 +1,10 @@
 -- Laws of a table: its rows one by one, as the code goes; numbers past its end; its check.
-use Rattle.std.specs.Prelude.{ℕ, zero, suc, ◌+◌, ◌-◌, ◌≤◌, ◌<◌, ◌^◌, ◌≡◌, refl, Bool, true, false, List, [], ◌∷◌, ltb, length, get_or}
+use Rattle.std.specs.Prelude.{ℕ, zero, suc, ◌+◌, ◌-◌, ◌*◌, ◌≤◌, ◌<◌, ◌^◌, ◌≡◌, refl, Bool, true, false, List, [], ◌∷◌, ltb, length, get_or, Ok, None}
 use Rattle.std.proofs.Common.{arith, sym, ◌∙◌, ap, ne_eqb, ltb-true, ltb-false}
+use Rattle.std.specs.List.{list_all, range_with_len}
 use Rattle.fields.specs.Place.{by_bool, clash}
 use Rattle.fields.specs.declared.Refusal.TheVariants.{Length, AlgorithmUnknown}
-use Rattle.names.specs.declared.AlgorithmName.TheVariants.{Unknown}
 use Rattle.names_codes.specs.Codes.{algorithm_coded}
-use Rattle.writer_reply.specs.declared.Written.TheVariants as written
 use Rattle.writer_reply.specs.Reply.{refused}
 use Rattle.writer_parts.specs.Checks.{passed, Checking, checking_nothing, checking_unless}
 use Rattle.writer_parts.specs.Sizes.{capped, capped_small, capped_large}
@@ -38,6 +37,14 @@ module _ (holds : ℕ → Bool) (j n : ℕ) where
   unfolding every
   every_more h e = rw (rows_more j n h, e)
 
+-- the rows by their numbers, each 19 numbers after the one before
+pub rows_numbered : (holds : ℕ → Bool) (i n : ℕ) → list_all (λ k. holds (19 * k)) (range_with_len i n) ≡ every holds (rows_from (19 * i) n)
+unfolding every rows_from
+rows_numbered holds i zero = refl
+rows_numbered holds i (suc n) =
+    let next : 19 * (i + 1) ≡ 19 * i + 19 = omega arith in
+    rw (rows_numbered holds (i + 1) n, next)
+
 -- a table has no numbers past its end
 pub past_end : (table : List ℕ) (i : ℕ) → length table ≤ i → get_or table i 0 ≡ 0
 past_end [] i h = refl
@@ -54,7 +61,7 @@ number_capped table i short =
     past_end table (capped i) (omega (arith, capped_large i long)) ∙ sym (past_end table i (omega (arith, long))))
 
 -- a code above 255 names nothing
-pub code_large : (code : ℕ) → 255 < code → algorithm_coded code ≡ Unknown
+pub code_large : (code : ℕ) → 255 < code → algorithm_coded code ≡ None
 unfolding algorithm_coded
 code_large code h =
     rw (
@@ -76,9 +83,9 @@ module _ (text table : List ℕ) where
       checking_nothing)
 
   -- a table that passes it fits
-  pub passed_fits : (n : ℕ) → table_checked text table passed ≡ written.Length n → table_fits text table ≡ true
+  pub passed_fits : (n : ℕ) → table_checked text table passed ≡ Ok n → table_fits text table ≡ true
   unfolding table_checked
   passed_fits n e =
       by_bool (table_fits text table)
       (λ w. w)
-      (λ w. let g : refused Length ≡ written.Length n = rw w at e in clash cc)
+      (λ w. let g : refused Length ≡ Ok n = rw w at e in clash cc)

@@ -1,17 +1,14 @@
 -- docs/RULES.md, 10.10: keys that are handed in as one text and a table, 19 numbers a key: the algorithm's code (15.1), then start and length
 -- within the text of public, private, comment, n, e, d, iqmp, p and q. What a kind doesn't use isn't looked at, but must be within the text.
-use Rattle.std.specs.Prelude.{ℕ, zero, suc, ◌+◌, ◌/◌, ◌%◌, Bool, true, false, ◌&&◌, List, [], ◌∷◌, map, eqb, leb, length, get_or}
+use Rattle.std.specs.Prelude.{ℕ, zero, suc, ◌+◌, ◌/◌, ◌%◌, Bool, true, false, ◌&&◌, List, [], ◌∷◌, map, eqb, leb, length, get_or, Option, Some, None}
 use Rattle.fields.specs.Fields.{part, view_of}
 use Rattle.fields.specs.declared.Part.{Part}
 use Rattle.fields.specs.declared.Refusal.TheVariants.{Length, AlgorithmUnknown}
 use Rattle.names.specs.declared.Algorithm.{Algorithm}
 use Rattle.names.specs.declared.Algorithm.TheVariants.{Elliptic as OnCurve, Rsa}
-use Rattle.names.specs.declared.AlgorithmName.{AlgorithmName}
-use Rattle.names.specs.declared.AlgorithmName.TheVariants.{Known, Unknown}
 use Rattle.names_codes.specs.Codes.{algorithm_coded}
 use Rattle.format.specs.Format.{PublicBytes, PrivateBytes, Key, key_of, of_point, of_scalar, of_modulus, of_numbers}
-use Rattle.writer_reply.specs.declared.Written.{Written}
-use Rattle.writer_reply.specs.Reply.{unless}
+use Rattle.writer_reply.specs.Reply.{unless, Written}
 
 -- where the numbers of n keys begin, from j on
 unfoldable pub rows_from : ℕ → ℕ → List ℕ
@@ -30,13 +27,13 @@ abbrev pub part_bytes : List ℕ → List ℕ → ℕ → List ℕ
 part_bytes text table i = view_of text (part_at table i)
 
 -- whether a code names an algorithm, and which; where it names none the table is refused, and RSA stands here for it
-abbrev pub is_known : AlgorithmName → Bool
-is_known (Known a) = true
-is_known Unknown = false
+abbrev pub is_known : Option Algorithm → Bool
+is_known (Some a) = true
+is_known None = false
 
-abbrev pub algorithm_of : AlgorithmName → Algorithm
-algorithm_of (Known a) = a
-algorithm_of Unknown = Rsa
+abbrev pub algorithm_of : Option Algorithm → Algorithm
+algorithm_of (Some a) = a
+algorithm_of None = Rsa
 
 unfoldable pub code_known : List ℕ → ℕ → Bool
 code_known table j = is_known (algorithm_coded (get_or table j 0))

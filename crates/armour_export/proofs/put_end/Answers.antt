@@ -4,16 +4,16 @@ use Rattle.armour_export.specs.Stores.{put_sets}
 use Rattle.armour_export.specs.Whole.{last_none, last_feed}
 use Rattle.armour_export.proofs.put_end.Goals as goal
 
-pub returns-then-left-eq70 : goal.returns-then-left-eq70
+pub returns-then-p-eq70 : goal.returns-then-p-eq70
 unfolding closing
-returns-then-left-eq70 c = let a = c.args in
-    let e = last_none a.left c.if-left-eq70.true in
+returns-then-p-eq70 c = let a = c.args in
+    let e = last_none a.p.left c.if-p-eq70.true in
     let h = rw e at c.requires in
     rw e (put_sets _ _ _ _ _ h c.put.ensures)
 
 pub returns : goal.returns
 unfolding closing
 returns c = let a = c.args in
-    let e = last_feed a.left c.if-left-eq70.false in
+    let e = last_feed a.p.left c.if-p-eq70.false in
     let h = rw e at c.requires in
     rw e (put_sets _ _ _ _ _ h c.put-2.ensures)

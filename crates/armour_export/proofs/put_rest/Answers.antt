@@ -11,9 +11,9 @@ returns-then-left-eq0 c = let a = c.args in
 pub returns-then-left-eq1 : goal.returns-then-left-eq1
 returns-then-left-eq1 c = let a = c.args in
     let n = c.bits-n.ensures in
-    rw (encode_one a.bytes.now a.p.next (omega arith), ← n, ← c.sign_0.ensures, ← c.sign_1.ensures) c.put_four.ensures.1
+    rw (encode_one a.bytes.now a.p.next (omega arith), ← n, ← c.sign.ensures, ← c.sign-then-left-eq1.ensures) c.put_four.ensures.1
 
 pub returns : goal.returns
 returns c = let a = c.args in
     let n = c.bits-n-2.ensures in
-    rw (encode_two a.bytes.now a.p.next (omega arith), ← n, ← c.sign_0-2.ensures, ← c.sign_1-2.ensures, ← c.sign_2.ensures) c.put_four-2.ensures.1
+    rw (encode_two a.bytes.now a.p.next (omega arith), ← n, ← c.sign-2.ensures, ← c.sign-3.ensures, ← c.sign-4.ensures) c.put_four-2.ensures.1

@@ -1,12 +1,8 @@
 -- `armour_export::put_sign` meets its contract. Rests on what one sign does, with a line feed or without.
 use native.Mathlib.Omega.{arith}
 use mathlib.Core.Path.{refl}
-use lib.ListN.{length-set}
 use Rattle.armour_export.specs.Stores.{moves_feed, moves_sign}
 use Rattle.armour_export.proofs.put_sign.Goals as goal
-
-pub bounds-out-at-then-left-eq0 : goal.bounds-out-at-then-left-eq0
-bounds-out-at-then-left-eq0 c = simp length-set (omega arith)
 
 pub returns-then-left-eq0 : goal.returns-then-left-eq0
 returns-then-left-eq0 c = (refl, moves_feed _ _ _ _ (omega arith))

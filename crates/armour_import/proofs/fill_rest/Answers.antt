@@ -3,11 +3,8 @@ use native.Mathlib.Omega.{arith}
 use mathlib.Core.Path.{sym, ◌∙◌}
 use Rattle.armour_text.proofs.Exactly.{carried_bytes}
 use Rattle.armour_text.specs.Import.{carried}
-use Rattle.armour_import.specs.Fill.{ready, next_rest_lem, fill_none, two_left, fill_one, fill_two}
+use Rattle.armour_import.specs.Fill.{ready, next_rest_lem, two_left, fill_one, fill_two}
 use Rattle.armour_import.proofs.fill_rest.Goals as goal
-
-pub returns-then-n-o : goal.returns-then-n-o
-returns-then-n-o c = let a = c.args in let z = c.requires.table_value.1.size in fill_none (carried a.text.now) a.o _ (omega (arith, z, c.if-n-o.true))
 
 pub four_at-f-requires : goal.four_at-f-requires
 four_at-f-requires c = let a = c.args in
@@ -18,7 +15,7 @@ four_at-f-requires c = let a = c.args in
 pub returns-then-n-o-eq1 : goal.returns-then-n-o-eq1
 returns-then-n-o-eq1 c = let a = c.args in
     let s = c.requires in
-    rw (c.first.ensures, c.bits_of.ensures)
+    rw (c.bytes_of.ensures, c.bits_of.ensures)
     (fill_one _ (carried a.text.now) a.o _ _ s.table_value.2 (carried_bytes a.text.now) _ _ _ _ _ _ c.four_at-f.ensures (omega (arith, s.table_value.1.size, c.if-n-o-eq1.true)) _)
 
 pub returns : goal.returns

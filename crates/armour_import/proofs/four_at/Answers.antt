@@ -1,7 +1,7 @@
 -- `armour_import::four_at` meets its contract: in their line, after its end, or two before it and two after it.
 use native.Mathlib.Omega.{arith}
 use Rattle.armour_import.specs.Fill.{ready_four, four_in_line}
-use Rattle.armour_import.specs.FillTwo.{opened_feed, opened_within, opened_is, parted_within, parted_feed, parted_past, parted_is, two_columns}
+use Rattle.armour_import.specs.FillTwo.{opened_within, opened_is, parted_within, parted_feed, parted_past, parted_is, two_columns}
 use Rattle.armour_import.proofs.four_at.Goals as goal
 
 pub bounds-text-at : goal.bounds-text-at
@@ -30,9 +30,6 @@ overflow_add-result-then-left-ge4-3 c = omega (arith, (ready_four _ _ _ c.requir
 
 pub returns-then-left-ge4 : goal.returns-then-left-ge4
 returns-then-left-ge4 c = four_in_line _ _ _ c.requires.0 c.if-left-ge4.true
-
-pub after_end-p-requires : goal.after_end-p-requires
-after_end-p-requires c = opened_feed _ _ (rw c.if-left-eq0.true at c.requires.0)
 
 pub bounds-text-p : goal.bounds-text-p
 bounds-text-p c = omega (arith, opened_within _ _ (rw c.if-left-eq0.true at c.requires.0) _ c.after_end-p.ensures)

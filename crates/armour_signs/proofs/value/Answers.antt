@@ -4,4 +4,4 @@ use borrow.Author.Rules.{rules}
 use Rattle.armour_signs.proofs.value.Goals as goal
 
 pub returns : goal.returns
-returns c = value_at _ (search rules) _ c.value_table-table.ensures
+returns c = value_at _ (search rules) _ c.value_table.ensures

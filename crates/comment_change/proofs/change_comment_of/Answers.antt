@@ -1,11 +1,14 @@
 -- `comment_change::change_comment_of` meets its contract: the refusals of the image are handed on. Rests on the callees' contracts.
 use mathlib.Core.Path.{refl, sym, ◌∙◌}
 use Rattle.edit_file.specs.Edits.{change_reply, change_left}
+use Rattle.std.proofs.lemmas.Result.{err_from_is_err_and}
 use Rattle.comment_change.proofs.change_comment_of.Goals as goal
 
 pub change_key-requires : goal.change_key-requires
-change_key-requires c = sym c.read_to_edit.ensures ∙ c.in-Image.is
+change_key-requires c = sym c.read_to_edit.ensures ∙ c.in_ok-fields.was
 
-pub returns-in-Refused : goal.returns-in-Refused
+pub returns-in_err-fields : goal.returns-in_err-fields
 unfolding change_reply change_left
-returns-in-Refused c = rw (← c.read_to_edit.ensures, c.in-Refused.is) (refl, refl, refl)
+returns-in_err-fields c =
+    let p = err_from_is_err_and c.from_residual.result c.from_residual.ensures.1 in
+    rw (p.1, p.2, ← c.read_to_edit.ensures, c.in_err-fields.was) (refl, refl, refl)

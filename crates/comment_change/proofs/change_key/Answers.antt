@@ -14,23 +14,21 @@ use Rattle.utf8.specs.Utf8.{utf8}
 use Rattle.reader_entries.specs.declared.KeyFields.{KeyFields}
 use Rattle.reader_image.specs.declared.Fields.{Fields}
 use Rattle.reader_image.specs.Container.{keys_in}
-use Rattle.reader_keys.specs.declared.Looked.TheVariants as looked
 use Rattle.reader_keys.specs.Keys.{first_fields, key_numbered}
-use Rattle.writer_reply.specs.declared.Written.{Written}
-use Rattle.writer_reply.specs.Reply.{refused, answered}
+use Rattle.writer_reply.specs.Reply.{refused, answered, Written}
 use Rattle.edit_shells.proofs.Within.{change_key}
-use Rattle.edit_file.specs.declared.Editable.TheVariants as editable
 use Rattle.edit_file.specs.Edits.{editable_at, change_reply, change_left, IsChange}
 use Rattle.edit_file.specs.Afresh.{told, text, some_keys, change_is}
 use Rattle.edit_file.specs.Numbered.{stands}
 use Rattle.edit_file.proofs.Numbered.{missing, there}
 use Rattle.comment_change.specs.At.{IsChangeAt}
 use Rattle.comment_change.proofs.change_key.Goals as goal
-use Rattle.comment_change.proofs.change_key.Goals.{In-Key}
+use Rattle.comment_change.proofs.change_key.Goals.{In-Some}
+use Rattle.std.specs.Prelude.{Ok, Some, None}
 
-module _ (old : List ℕ) (all : AllBytes old) (n : ℕ) (f : Fields) (e : editable_at old n ≡ editable.Image f) where
+module _ (old : List ℕ) (all : AllBytes old) (n : ℕ) (f : Fields) (e : editable_at old n ≡ Ok f) where
   -- the first key is the record's own
-  first_key : (k : ℕ) → k ≡ 1 → key_numbered (take n old) f k ≡ looked.Key (first_fields f)
+  first_key : (k : ℕ) → k ≡ 1 → key_numbered (take n old) f k ≡ Some (first_fields f)
   unfolding key_numbered
   first_key k one = rw (one, le-ltb f.header.count 1 (omega (arith, (text old all n f e).counted, some_keys old all n f e)))
 
@@ -39,11 +37,11 @@ module _ (old : List ℕ) (all : AllBytes old) (n : ℕ) (f : Fields) (e : edita
 
   module _ (k : ℕ) where
     -- no key of that number
-    absent : (comment : List ℕ) → key_numbered (take n old) f k ≡ looked.Nothing → IsChange old n k comment (refused Length) old
+    absent : (comment : List ℕ) → key_numbered (take n old) f k ≡ None → IsChange old n k comment (refused Length) old
     unfolding change_reply change_left
     absent comment g = rw (e, missing old all n f e k g) (refl, refl, refl)
 
-    module _ (key : KeyFields) (g : key_numbered (take n old) f k ≡ looked.Key key) where
+    module _ (key : KeyFields) (g : key_numbered (take n old) f k ≡ Some key) where
       comment-within : (4 ≤ key.comment.start) × (key.comment.start + key.comment.length ≤ 65535)
       comment-within =
           let h = there old all n f e k key g in
@@ -66,8 +64,8 @@ module _ (old : List ℕ) (all : AllBytes old) (n : ℕ) (f : Fields) (e : edita
           (λ u. rw ((p.1 u).0, (p.1 u).1, e, h.has, u, g) (refl, refl, refl))
 
 -- what the lookup said
-looked-up : (c : In-Key) → key_numbered (take c.args.n c.args.lent.now) c.args.f c.args.k ≡ looked.Key c.in-Key.key
-looked-up c = sym c.key_of.ensures ∙ c.in-Key.is
+looked-up : (c : In-Some) → key_numbered (take c.args.n c.args.lent.now) c.args.f c.args.k ≡ Some c.in-Some.key
+looked-up c = sym c.key_of.ensures ∙ c.in-Some.is
 
 pub overflow_sub-end : goal.overflow_sub-end
 overflow_sub-end c = padding-within c.args.lent.now (λ i. (c.slice_known-1.given i).fits) c.args.n c.args.f c.requires
@@ -86,12 +84,12 @@ slice_bounds-key_of-end c = (told c.args.lent.now (λ i. (c.slice_known-1.given 
 pub slice_bounds-key_of-end-2 : goal.slice_bounds-key_of-end-2
 slice_bounds-key_of-end-2 c = sym (length-take-le c.args.n c.args.lent.now (told c.args.lent.now (λ i. (c.slice_known-1.given i).fits) c.args.n c.args.f c.requires).inside)
 
-pub change_at-requires-in-Key : goal.change_at-requires-in-Key
-change_at-requires-in-Key c = comment-within c.args.lent.now (λ i. (c.slice_known-1.given i).fits) c.args.n c.args.f c.requires c.args.k _ (looked-up (goal.at.change_at-requires-in-Key c).In-Key)
+pub change_at-requires-2 : goal.change_at-requires-2
+change_at-requires-2 c = comment-within c.args.lent.now (λ i. (c.slice_known-1.given i).fits) c.args.n c.args.f c.requires c.args.k _ (looked-up (goal.at.change_at-requires-2 c).In-Some)
 
-pub returns-in-Nothing : goal.returns-in-Nothing
-returns-in-Nothing c = rw c.refused.ensures
-    (absent c.args.lent.now (λ i. (c.slice_known-1.given i).fits) c.args.n c.args.f c.requires c.args.k c.args.comment.now (sym c.key_of.ensures ∙ c.in-Nothing.is))
+pub returns-in_default : goal.returns-in_default
+returns-in_default c = rw c.refused.ensures
+    (absent c.args.lent.now (λ i. (c.slice_known-1.given i).fits) c.args.n c.args.f c.requires c.args.k c.args.comment.now (sym c.key_of.ensures ∙ c.in_default.is))
 
-pub returns-in-Key : goal.returns-in-Key
-returns-in-Key c = changed c.args.lent.now (λ i. (c.slice_known-1.given i).fits) c.args.n c.args.f c.requires c.args.k _ (looked-up (goal.at.returns-in-Key c).In-Key) c.args.comment.now _ _ c.change_at-in-Key.ensures
+pub returns : goal.returns
+returns c = changed c.args.lent.now (λ i. (c.slice_known-1.given i).fits) c.args.n c.args.f c.requires c.args.k _ (looked-up (goal.at.returns c).In-Some) c.args.comment.now _ _ c.change_at-2.ensures

@@ -6,7 +6,7 @@ use Rattle.edit_shells.specs.Shells.{opened_at, opened_size}
 use Rattle.edit_shells.proofs.Edits.{room_size, room_none}
 use Rattle.edit_add.specs.Open.{size_is, size_over, open_puts}
 use Rattle.edit_add.proofs.open_within.Goals as goal
-use Rattle.edit_add.proofs.open_within.Goals.{After-padding-padding}
+use Rattle.edit_add.proofs.open_within.Goals.{After-padding-padding, then-blob-gt65535-via-then-blob-gt65535, then-blob-gt65535-via-else-blob-gt65535+then-own-gt65535}
 
 -- the image's length, as the code counts it
 size_of :
@@ -18,11 +18,13 @@ size_of c =
 
 pub returns-then-blob-gt65535 : goal.returns-then-blob-gt65535
 returns-then-blob-gt65535 c = let a = c.args in
-    rw c.refused.ensures (room_size (opened_size a.section a.end a.blob a.own) (opened_at a.lent.now a.count a.section a.end a.blob a.own) a.lent.now (omega (arith, c.if-blob-gt65535.true, size_over a.section a.end a.blob a.own)))
-
-pub returns-then-own-gt65535 : goal.returns-then-own-gt65535
-returns-then-own-gt65535 c = let a = c.args in
-    rw c.refused-then-own-gt65535.ensures (room_size (opened_size a.section a.end a.blob a.own) (opened_at a.lent.now a.count a.section a.end a.blob a.own) a.lent.now (omega (arith, c.if-own-gt65535.true, size_over a.section a.end a.blob a.own)))
+    let over = size_over a.section a.end a.blob a.own in
+    rw c.refused.ensures
+    (room_size (opened_size a.section a.end a.blob a.own) (opened_at a.lent.now a.count a.section a.end a.blob a.own) a.lent.now
+    (elim c.then-blob-gt65535.branch [
+      | then-blob-gt65535-via-then-blob-gt65535 w ↦ omega (arith, over)
+      | then-blob-gt65535-via-else-blob-gt65535+then-own-gt65535 w ↦ omega (arith, over)
+    ]))
 
 pub returns-then-size-gt65535 : goal.returns-then-size-gt65535
 returns-then-size-gt65535 c = let a = c.args in

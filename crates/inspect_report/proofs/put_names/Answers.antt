@@ -7,7 +7,10 @@ use Rattle.inspect_report.proofs.put_names.Goals as goal
 
 pub returns : goal.returns
 unfolding names
-returns c = let one = rw c.algorithm_name.ensures at c.put_name-a.ensures in
+returns c = let one = rw c.algorithm_name-algorithm.ensures at c.put_name-a.ensures in
     let two = rw c.cipher_name.ensures at c.put_name-c.ensures in
     let three = rw c.kdf_name.ensures at c.put_name.ensures in
-    rw (← algorithm_spelled _, ← cipher_spelled _, ← kdf_spelled _) (λ room. finish (run (run (run (run (start room) one) c.put_bits-b.ensures) two) three))
+    record {
+      run = rw (← algorithm_spelled _, ← cipher_spelled _, ← kdf_spelled _) (λ room. finish (run (run (run (run (start room) one) c.put_bits-b.ensures.run) two) three));
+      fits = c.put_bits-b.ensures.fits;
+    }

@@ -4,24 +4,22 @@ use native.Mathlib.Omega.{arith}
 use mathlib.Core.Path.{sym, ◌∙◌}
 use Rattle.names.specs.declared.Algorithm.TheVariants.{Elliptic as OnCurve}
 use Rattle.format.specs.Format.{key_of, of_point, of_scalar}
-use Rattle.key_add.specs.Add.{padding_inside, few_bytes, room_small, room_refused, room_filled}
+use Rattle.key_add.specs.Add.{few_bytes, room_small, room_refused, room_filled}
+use Rattle.std.proofs.lemmas.Result.{err_from_is_err_and}
 use Rattle.key_add.proofs.add_curve.Goals as goal
-
-pub overflow_sub-entry : goal.overflow_sub-entry
-overflow_sub-entry c = let a = c.args in
-    padding_inside a.lent.now (λ i. (c.slice_known-1.given i).fits) a.n a.f c.requires.0
 
 pub overflow_add-entry : goal.overflow_add-entry
 overflow_add-entry c = let a = c.args in
     let key = key_of (OnCurve a.e) (of_point a.public.now) (of_scalar a.private.now) a.comment.now in
-    omega (arith, few_bytes a.lent.now (λ i. (c.slice_known-1.given i).fits) a.n a.f c.requires.0, room_small a.lent.now (λ i. (c.slice_known-1.given i).fits) a.n a.f c.requires.0 key c.requires.1 _ _ _ c.blob_length.ensures c.added-blob.ensures c.pair_length-pair.ensures _ _ (sym c.in-Length.is ∙ c.make_room.ensures.0, c.make_room.ensures.1))
+    omega (arith, few_bytes a.lent.now (λ i. (c.slice_known-1.given i).fits) a.n a.f c.requires.0, room_small a.lent.now (λ i. (c.slice_known-1.given i).fits) a.n a.f c.requires.0 key c.requires.1 _ _ _ c.blob_length.ensures c.added-blob.ensures c.pair_length-pair.ensures _ _ (sym c.in_ok-size.was ∙ c.make_room.ensures.0, c.make_room.ensures.1))
 
-pub returns-in-Refused : goal.returns-in-Refused
-returns-in-Refused c = let a = c.args in
+pub returns-in_err-size : goal.returns-in_err-size
+returns-in_err-size c = let a = c.args in
     let key = key_of (OnCurve a.e) (of_point a.public.now) (of_scalar a.private.now) a.comment.now in
-    room_refused a.lent.now (λ i. (c.slice_known-1.given i).fits) a.n a.f c.requires.0 key c.requires.1 _ _ _ c.blob_length.ensures c.added-blob.ensures c.pair_length-pair.ensures _ _ (sym c.in-Refused.is ∙ c.make_room.ensures.0, c.make_room.ensures.1)
+    let p = err_from_is_err_and c.from_residual.result c.from_residual.ensures.1 in
+    rw (p.1, p.2) (room_refused a.lent.now (λ i. (c.slice_known-1.given i).fits) a.n a.f c.requires.0 key c.requires.1 _ _ _ c.blob_length.ensures c.added-blob.ensures c.pair_length-pair.ensures _ _ (sym c.in_err-size.was ∙ c.make_room.ensures.0, c.make_room.ensures.1))
 
-pub returns-in-Length : goal.returns-in-Length
-returns-in-Length c = let a = c.args in
+pub returns : goal.returns
+returns c = let a = c.args in
     let key = key_of (OnCurve a.e) (of_point a.public.now) (of_scalar a.private.now) a.comment.now in
-    room_filled a.lent.now (λ i. (c.slice_known-1.given i).fits) a.n a.f c.requires.0 key c.requires.1 _ _ _ c.blob_length.ensures c.added-blob.ensures c.pair_length-pair.ensures _ _ _ _ _ _ _ _ (sym c.in-Length.is ∙ c.make_room.ensures.0, c.make_room.ensures.1) (λ h. c.put_blob.ensures) (λ h. c.put_pair-past.ensures) (λ h. c.put_string.ensures)
+    room_filled a.lent.now (λ i. (c.slice_known-1.given i).fits) a.n a.f c.requires.0 key c.requires.1 _ _ _ c.blob_length.ensures c.added-blob.ensures c.pair_length-pair.ensures _ _ _ _ _ _ _ _ (sym c.in_ok-size.was ∙ c.make_room.ensures.0, c.make_room.ensures.1) (λ h. c.put_blob.ensures) (λ h. c.put_pair-past.ensures) (λ h. c.put_string.ensures)

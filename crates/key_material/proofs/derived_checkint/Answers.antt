@@ -15,13 +15,13 @@ use Rattle.fields.specs.Rest.{rest, Good, rest-whole, rest_four}
 use Rattle.fields.specs.Room.{room_is}
 use Rattle.fields.specs.declared.Cursor.{Cursor}
 use Rattle.fields.specs.declared.Fault.{Fault}
-use Rattle.fields.specs.declared.Uint32.TheVariants as uint32
 use Rattle.key_material.specs.Material.{mixed, derived_checkint}
 use Rattle.key_material.proofs.derived_checkint.Goals as goal
+use Rattle.std.specs.Prelude.{Ok, Err}
 
 -- a group that is read is mixed in
 mixed-group :
-    (s : List ℕ) (x : ℕ) (c : Cursor) (n : ℕ) (d : Cursor) → uint32_at s c ≡ uint32.Value n d
+    (s : List ℕ) (x : ℕ) (c : Cursor) (n : ℕ) (d : Cursor) → uint32_at s c ≡ Ok (n, d)
     → mixed x (rest s c) ≡ mixed (bit_xor x n) (rest s d)
 unfolding mixed
 mixed-group s x c n d e =
@@ -38,12 +38,12 @@ mixed-few x (a ∷ b ∷ c ∷ []) h = refl
 mixed-few x (a ∷ b ∷ c ∷ d ∷ s) h = absurd (omega arith)
 
 -- where no group is read, fewer than four bytes are left
-mixed-rest : (s : List ℕ) (x : ℕ) (c : Cursor) (f : Fault) → Good s c → uint32_at s c ≡ uint32.Refused f → mixed x (rest s c) ≡ x
+mixed-rest : (s : List ℕ) (x : ℕ) (c : Cursor) (f : Fault) → Good s c → uint32_at s c ≡ Err f → mixed x (rest s c) ≡ x
 unfolding uint32_at
 mixed-rest s x c f good e =
     by_bool (leb (c.at + 4) c.end)
     (λ w.
-    let g : uint32.Value (number_at s c.at) (moved c 4) ≡ uint32.Refused f = rw (room_is s c 4 (leb-true (c.at + 4) c.end w, good.1)) at e in
+    let g : Ok (number_at s c.at, moved c 4) ≡ Err f = rw (room_is s c 4 (leb-true (c.at + 4) c.end w, good.1)) at e in
     clash cc)
     (λ w. mixed-few x (rest s c) (omega (arith, leb-false (c.at + 4) c.end w, length-slice c.at c.end s good.1)))
 
@@ -51,18 +51,15 @@ pub loop-group-init : goal.loop-group-init
 unfolding derived_checkint
 loop-group-init c = (omega arith, ap (mixed 0) (rest-whole c.args.private.now))
 
-pub returns-in-Refused : goal.returns-in-Refused
-returns-in-Refused c = let s = c.args.private.now in
-    sym (mixed-rest s c.loop-group.checkint c.loop-group.c _ c.loop-group.invariant.0 (sym c.uint32.ensures ∙ c.in-Refused.is))
-    ∙ c.loop-group.invariant.1
+pub returns : goal.returns
+returns c = let l = c.loop-group in
+    sym (mixed-rest c.args.private.now l.checkint l.at _ l.invariant.0 (sym c.uint32.ensures ∙ c.in_default.is)) ∙ l.invariant.1
 
 pub loop-group-smaller : goal.loop-group-smaller
-loop-group-smaller c = let s = c.args.private.now in
-    let read = sym c.uint32.ensures ∙ c.in-Value.is in
-    omega (arith, uint32_place s c.loop-group.c _ _ read)
+loop-group-smaller c = omega (arith, uint32_place c.args.private.now c.loop-group.at _ _ (sym c.uint32.ensures ∙ c.in-Ok.is))
 
 pub loop-group-preserved : goal.loop-group-preserved
 loop-group-preserved c = let s = c.args.private.now in
-    let read = sym c.uint32.ensures ∙ c.in-Value.is in
-    let p = uint32_place s c.loop-group.c _ _ read in
-    (omega arith, sym (mixed-group s c.loop-group.checkint c.loop-group.c _ _ read) ∙ c.loop-group.invariant.1)
+    let read = sym c.uint32.ensures ∙ c.in-Ok.is in
+    let p = uint32_place s c.loop-group.at _ _ read in
+    (omega arith, sym (mixed-group s c.loop-group.checkint c.loop-group.at _ _ read) ∙ c.loop-group.invariant.1)

@@ -7,7 +7,7 @@ use Rattle.key_material.specs.Material.{mixed, derived_checkint}
 use Rattle.key_material.proofs.derived_checkint.Given as goal
 
 abbrev pub invariant-loop-group : goal.invariant-loop-group
-invariant-loop-group l = Good l.private l.c × (mixed l.checkint (rest l.private l.c) ≡ derived_checkint l.private)
+invariant-loop-group l = Good l.private l.at × (mixed l.checkint (rest l.private l.at) ≡ derived_checkint l.private)
 
 abbrev pub decreases-loop-group : goal.decreases-loop-group
-decreases-loop-group l = l.c.end - l.c.at
+decreases-loop-group l = l.at.end - l.at.at

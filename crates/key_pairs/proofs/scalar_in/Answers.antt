@@ -1,8 +1,6 @@
 -- `key_pairs::scalar_in` meets its contract: a scalar's string isn't empty, so it is within the image, which keeps the sums in bounds.
 -- Rests on the callees' contracts.
-use native.Mathlib.Omega.{arith}
-use mathlib.Core.Path.{◌≡◌, sym, ◌∙◌, ap}
-use mathlib.Core.Bool.{true}
+use Rattle.std.proofs.Common.{◌≡◌, sym, ◌∙◌, ap, true, arith}
 use Rattle.fields.specs.Fields.{view_of}
 use Rattle.fields.specs.Rest.{view_length}
 use Rattle.mpint.specs.Mpint.{zeros_before}
@@ -13,9 +11,7 @@ use Rattle.key_pairs.proofs.scalar_in.Goals as goal
 use Rattle.key_pairs.proofs.scalar_in.Goals.{Then-is_scalar}
 
 -- the bytes that were looked at are the string's, and they are a scalar's
-scalar :
-    (c : Then-is_scalar)
-    → is_scalar c.args.size (view_of c.args.image.now c.args.stored) ≡ true
+scalar : (c : Then-is_scalar) → is_scalar c.args.size (view_of c.args.image.now c.args.stored) ≡ true
 scalar c = ap (is_scalar c.args.size) (sym c.view-bytes.ensures.0) ∙ sym c.is_scalar.ensures ∙ c.if-is_scalar.true
 
 pub overflow_add-scalar : goal.overflow_add-scalar
@@ -32,6 +28,3 @@ overflow_sub-scalar c = omega (arith, c.zeros_before-zeros.ensures, zeros_le c.v
 pub returns-then-is_scalar : goal.returns-then-is_scalar
 unfolding significant_part
 returns-then-is_scalar c = rw (scalar (goal.at.returns-then-is_scalar c).Then-is_scalar, c.zeros_before-zeros.ensures, c.view-bytes.ensures.0)
-
-pub returns : goal.returns
-returns c = rw (← c.view-bytes.ensures.0, ← c.is_scalar.ensures, c.if-is_scalar.false)

@@ -14,22 +14,20 @@ use Rattle.format.specs.Format.{Key, filled_key}
 use Rattle.reader_entries.specs.declared.KeyFields.{KeyFields}
 use Rattle.reader_image.specs.declared.Fields.{Fields}
 use Rattle.reader_image.specs.Container.{keys_in}
-use Rattle.reader_keys.specs.declared.Looked.TheVariants as looked
 use Rattle.reader_keys.specs.Keys.{key_numbered}
-use Rattle.writer_reply.specs.declared.Written.{Written}
-use Rattle.writer_reply.specs.Reply.{refused, answered}
+use Rattle.writer_reply.specs.Reply.{refused, answered, Written}
 use Rattle.writer_plain.specs.Plain.{keys_reply}
 use Rattle.edit_shells.specs.Shells.{removed_at}
 use Rattle.edit_shells.specs.Edits.{removed_by_places, IsEdit}
 use Rattle.edit_shells.specs.Keys.{remove_at, keys_without, remove_length}
 use Rattle.edit_shells.proofs.Within.{remove_key}
-use Rattle.edit_file.specs.declared.Editable.TheVariants as editable
 use Rattle.edit_file.specs.Edits.{editable_at, file_keys, has_key, remove_reply, remove_left, IsRemove}
 use Rattle.edit_file.specs.Afresh.{told, text, remove_is}
 use Rattle.edit_file.specs.Numbered.{stands, has_numbers, There}
 use Rattle.edit_file.proofs.Numbered.{missing, there}
 use Rattle.key_remove.proofs.remove_from.Goals as goal
-use Rattle.key_remove.proofs.remove_from.Goals.{In-Key}
+use Rattle.key_remove.proofs.remove_from.Goals.{In-Some}
+use Rattle.std.specs.Prelude.{Ok, Some, None}
 
 -- of no keys the writer says 1
 none_left : (keys : List Key) (c room : ℕ) → length keys ≡ 0 → keys_reply keys c room ≡ refused Length
@@ -37,7 +35,7 @@ unfolding keys_reply
 none_left [] c room e = refl
 none_left (k ∷ keys) c room e = absurd (omega arith)
 
-module _ (old : List ℕ) (all : AllBytes old) (n : ℕ) (f : Fields) (e : editable_at old n ≡ editable.Image f) (k : ℕ) where
+module _ (old : List ℕ) (all : AllBytes old) (n : ℕ) (f : Fields) (e : editable_at old n ≡ Ok f) (k : ℕ) where
   -- the only key, or none of that number, isn't removed
   only-left : has_key f k ≡ true → f.header.count < 2 → length (keys_without k (file_keys (take n old) f)) ≡ 0
   unfolding keys_without file_keys
@@ -57,13 +55,13 @@ module _ (old : List ℕ) (all : AllBytes old) (n : ℕ) (f : Fields) (e : edita
       (λ w. rw (e, w, none_left (keys_without k (file_keys (take n old) f)) f.section.checkint (length old) (only-left w one)) (refl, refl, refl))
       (λ w. rw (e, w) (refl, refl, refl))
 
-  absent : key_numbered (take n old) f k ≡ looked.Nothing → IsRemove old n k (refused Length) old
+  absent : key_numbered (take n old) f k ≡ None → IsRemove old n k (refused Length) old
   unfolding remove_reply remove_left
   absent g = rw (e, missing old all n f e k g) (refl, refl, refl)
 
   -- the removal at the places of key k is the edit
   removed :
-      (key : KeyFields) → key_numbered (take n old) f k ≡ looked.Key key → 2 ≤ f.header.count → (r : Written) (out : List ℕ)
+      (key : KeyFields) → key_numbered (take n old) f k ≡ Some key → 2 ≤ f.header.count → (r : Written) (out : List ℕ)
       → IsEdit
       (removed_by_places (key.blob.start - 4) (key.blob.start + key.blob.length) f.header.section key.begins
       (key.comment.start + key.comment.length) (n - f.section.padding))
@@ -80,13 +78,13 @@ module _ (old : List ℕ) (all : AllBytes old) (n : ℕ) (f : Fields) (e : edita
       (omega (arith, h.inside, counted)) _ _ _ _ _ _ _ h.places (f.header.count - 1) r out (omega (arith, counted)) p))
 
 -- what the lookup said
-looked-up : (c : In-Key) → key_numbered (take c.args.n c.args.lent.now) c.args.f c.args.k ≡ looked.Key c.in-Key.key
-looked-up c = sym c.key_of.ensures ∙ c.in-Key.is
+looked-up : (c : In-Some) → key_numbered (take c.args.n c.args.lent.now) c.args.f c.args.k ≡ Some c.in-Some.key
+looked-up c = sym c.key_of.ensures ∙ c.in-Some.is
 
-found : (c : In-Key) → There c.args.lent.now (λ i. (c.slice_known-1.given i).fits) c.args.n c.args.f c.requires c.args.k c.in-Key.key
-found c = there c.args.lent.now (λ i. (c.slice_known-1.given i).fits) c.args.n c.args.f c.requires c.args.k c.in-Key.key (looked-up c)
+found : (c : In-Some) → There c.args.lent.now (λ i. (c.slice_known-1.given i).fits) c.args.n c.args.f c.requires c.args.k c.in-Some.key
+found c = there c.args.lent.now (λ i. (c.slice_known-1.given i).fits) c.args.n c.args.f c.requires c.args.k c.in-Some.key (looked-up c)
 
-small : (c : In-Key) → c.args.n ≤ 65535
+small : (c : In-Some) → c.args.n ≤ 65535
 small c = (told c.args.lent.now (λ i. (c.slice_known-1.given i).fits) c.args.n c.args.f c.requires).small
 
 pub returns-then-header-lt2 : goal.returns-then-header-lt2
@@ -99,21 +97,21 @@ slice_bounds-key_of-end c = (told c.args.lent.now (λ i. (c.slice_known-1.given 
 pub slice_bounds-key_of-end-2 : goal.slice_bounds-key_of-end-2
 slice_bounds-key_of-end-2 c = sym (length-take-le c.args.n c.args.lent.now (told c.args.lent.now (λ i. (c.slice_known-1.given i).fits) c.args.n c.args.f c.requires).inside)
 
-pub overflow_sub-blob : goal.overflow_sub-blob
-overflow_sub-blob c = (found (goal.at.overflow_sub-blob c).In-Key).whole_blob
+pub overflow_sub-key : goal.overflow_sub-key
+overflow_sub-key c = (found (goal.at.overflow_sub-key c).In-Some).whole_blob
 
-pub overflow_add-blob : goal.overflow_add-blob
-overflow_add-blob c = omega (arith, (found (goal.at.overflow_add-blob c).In-Key).blob_within, small (goal.at.overflow_add-blob c).In-Key)
+pub overflow_add-key : goal.overflow_add-key
+overflow_add-key c = omega (arith, (found (goal.at.overflow_add-key c).In-Some).blob_within, small (goal.at.overflow_add-key c).In-Some)
 
-pub overflow_add-comment : goal.overflow_add-comment
-overflow_add-comment c = omega (arith, (found (goal.at.overflow_add-comment c).In-Key).comment_within, small (goal.at.overflow_add-comment c).In-Key)
+pub overflow_add-key-2 : goal.overflow_add-key-2
+overflow_add-key-2 c = omega (arith, (found (goal.at.overflow_add-key-2 c).In-Some).comment_within, small (goal.at.overflow_add-key-2 c).In-Some)
 
 pub overflow_sub-n : goal.overflow_sub-n
-overflow_sub-n c = (found (goal.at.overflow_sub-n c).In-Key).padding_within
+overflow_sub-n c = (found (goal.at.overflow_sub-n c).In-Some).padding_within
 
-pub returns-in-Nothing : goal.returns-in-Nothing
-returns-in-Nothing c = rw c.refused-in-Nothing.ensures
-    (absent c.args.lent.now (λ i. (c.slice_known-1.given i).fits) c.args.n c.args.f c.requires c.args.k (sym c.key_of.ensures ∙ c.in-Nothing.is))
+pub returns-in_default : goal.returns-in_default
+returns-in_default c = rw c.refused-in_default.ensures
+    (absent c.args.lent.now (λ i. (c.slice_known-1.given i).fits) c.args.n c.args.f c.requires c.args.k (sym c.key_of.ensures ∙ c.in_default.is))
 
-pub returns-in-Key : goal.returns-in-Key
-returns-in-Key c = removed c.args.lent.now (λ i. (c.slice_known-1.given i).fits) c.args.n c.args.f c.requires c.args.k _ (looked-up (goal.at.returns-in-Key c).In-Key) c.if-header-lt2.false _ _ c.remove.ensures
+pub returns : goal.returns
+returns c = removed c.args.lent.now (λ i. (c.slice_known-1.given i).fits) c.args.n c.args.f c.requires c.args.k _ (looked-up (goal.at.returns c).In-Some) c.if-header-lt2.false _ _ c.remove.ensures

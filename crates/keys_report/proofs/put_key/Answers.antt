@@ -4,10 +4,6 @@ use Rattle.buffer.specs.Puts.{nothing_put}
 use Rattle.keys_report.specs.Lines.{line_of}
 use Rattle.keys_report.proofs.put_key.Goals as goal
 
-pub returns-in-Nothing : goal.returns-in-Nothing
+pub returns-in-None : goal.returns-in-None
 unfolding line_of
-returns-in-Nothing c = rw (← c.key_of.ensures, c.in-Nothing.is) (omega arith, λ room. nothing_put _ _)
-
-pub returns-in-Key : goal.returns-in-Key
-unfolding line_of
-returns-in-Key c = rw (← c.key_of.ensures, c.in-Key.is) c.put_line.ensures
+returns-in-None c = rw (← c.key_of.ensures, c.in-None.is) (omega arith, λ room. nothing_put _ _)

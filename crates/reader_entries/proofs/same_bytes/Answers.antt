@@ -1,12 +1,7 @@
 -- `reader_entries::same_bytes` meets its contract: a part of length 0 has no bytes (`none-view`), others are compared. Rests on the callees' contracts.
-use Prim.Native.Nat.{ℕ, ◌+◌}
-use native.Mathlib.Omega.{arith}
-use mathlib.Core.Path.{◌≡◌, refl}
-use mathlib.Core.Bool.{Bool, true, false, cond}
-use mathlib.Core.List.{List, []}
-use lib.Dec.{leb}
-use lib.ListN.{length}
-use lib.Seq.{slice, slice_empty}
+use Rattle.std.proofs.Common.{ℕ, ◌+◌, ◌≡◌, refl, Bool, true, false, cond, List, [], leb, length, arith}
+use Rattle.std.proofs.Math.Seq.{slice}
+use lib.Seq.{slice_empty}
 use Rattle.fields.specs.Fields.{view_of}
 use Rattle.fields.specs.declared.Part.{Part}
 use Rattle.reader_entries.proofs.same_bytes.Goals as goal
@@ -22,9 +17,6 @@ none-view s p z =
     go true = slice_empty p.start s
     go false = refl
 
-pub returns-then-other-eq0 : goal.returns-then-other-eq0
-returns-then-other-eq0 c = let a = c.args in
-    rw (none-view a.image.now a.p c.if-length-eq0.true, none-view a.image.now a.q c.if-other-eq0.true)
-
-pub returns : goal.returns
-returns c = rw (← c.view.ensures.0, ← c.view-2.ensures.0) c.same.ensures
+pub returns-then-q-eq0 : goal.returns-then-q-eq0
+returns-then-q-eq0 c = let a = c.args in
+    rw (none-view a.image.now a.p c.if-p-eq0.true, none-view a.image.now a.q c.if-q-eq0.true)

@@ -16,18 +16,18 @@ moved-over a b n h =
     (λ w. w ∙ sym (eq-eqb a (b + n) (omega (arith, eqb-true (a - n) b w))))
     (λ w. w ∙ sym (ne_eqb a (b + n) (λ e. eqb-false (a - n) b w (omega arith))))
 
-pub returns-then-start-zeros : goal.returns-then-start-zeros
+pub returns-then-part-zeros : goal.returns-then-part-zeros
 unfolding begins_before
-returns-then-start-zeros c = rw (le-ltb _ _ c.if-start-zeros.true)
+returns-then-part-zeros c = rw (le-ltb _ _ c.if-part-zeros.true)
 
 pub returns-then-last-zeros : goal.returns-then-last-zeros
 unfolding begins_before
 returns-then-last-zeros c = let a = c.args in
     let last = get_or a.image.now (a.part.start - (a.zeros + 1)) 0 in
     rw
-    (lt-ltb _ _ c.if-start-zeros.false, ne_eqb last (a.part.length + a.zeros) (λ e. omega (arith, c.if-last-zeros.true, c.byte-last.ensures, e)))
+    (lt-ltb _ _ c.if-part-zeros.false, ne_eqb last (a.part.length + a.zeros) (λ e. omega (arith, c.if-last-zeros.true, c.byte-last.ensures, e)))
 
 pub returns : goal.returns
 unfolding begins_before
 returns c = let a = c.args in
-    rw (lt-ltb _ _ c.if-start-zeros.false, ← c.byte-last.ensures) (moved-over c.byte-last.result a.part.length a.zeros c.if-last-zeros.false)
+    rw (lt-ltb _ _ c.if-part-zeros.false, ← c.byte-last.ensures) (moved-over c.byte-last.result a.part.length a.zeros c.if-last-zeros.false)

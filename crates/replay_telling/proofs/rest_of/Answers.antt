@@ -1,5 +1,5 @@
--- `replay_telling::rest_of` meets its contract. The loop's invariant: what remains so far, taken on over the bytes from `i` on, is what
--- remains of all. The measure is what is left of the length. Assumes nothing.
+-- `replay_telling::rest_of` meets its contract. The loop's invariant: what remains so far, taken on over the bytes from the next on, is
+-- what remains of all. Assumes nothing.
 use Prim.Native.Nat.{ℕ, suc, ◌+◌, ◌<◌}
 use mathlib.Core.List.{List}
 use mathlib.Core.Path.{◌≡◌, refl, ◌∙◌}
@@ -17,22 +17,13 @@ step s rest i h =
     let e : i + 1 ≡ suc i = omega arith in
     rw (e, drop-cons s i 0 h)
 
-pub loop-i-init : goal.loop-i-init
+pub loop-byte-init : goal.loop-byte-init
 unfolding rest_of
-loop-i-init c = (omega arith, refl)
+loop-byte-init c = refl
 
-pub bounds-bytes-i : goal.bounds-bytes-i
-bounds-bytes-i c = omega arith
-
-pub overflow_add-i : goal.overflow_add-i
-overflow_add-i c = omega arith
-
-pub loop-i-smaller : goal.loop-i-smaller
-loop-i-smaller c = omega arith
-
-pub loop-i-preserved : goal.loop-i-preserved
-loop-i-preserved c = (omega arith, rw c.next_rest-rest.ensures (step _ _ _ c.loop-i-test.true ∙ c.loop-i.invariant.1))
+pub loop-byte-preserved : goal.loop-byte-preserved
+loop-byte-preserved c = rw c.next_rest-rest.ensures (step _ _ _ c.loop-byte-test.true ∙ c.loop-byte.invariant)
 
 pub returns : goal.returns
 unfolding rest_from
-returns c = rw (drop_of_length-le _ c.loop-i-test.false) at c.loop-i.invariant.1
+returns c = rw (drop_of_length-le _ c.loop-byte-test.false) at c.loop-byte.invariant

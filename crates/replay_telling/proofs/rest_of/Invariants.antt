@@ -1,13 +1,9 @@
--- `replay_telling::rest_of` meets its contract. The loop's invariant: what remains so far, taken on over the bytes from `i` on, is what
--- remains of all. The measure is what is left of the length. Assumes nothing.
-use Prim.Native.Nat.{◌-◌, ◌≤◌}
+-- `replay_telling::rest_of` meets its contract. The loop's invariant: what remains so far, taken on over the bytes from the next on, is
+-- what remains of all. Assumes nothing.
 use mathlib.Core.Path.{◌≡◌}
-use lib.ListN.{length, drop}
+use lib.ListN.{drop}
 use Rattle.replay_telling.specs.Telling.{rest_from, rest_of}
 use Rattle.replay_telling.proofs.rest_of.Given as goal
 
-abbrev pub invariant-loop-i : goal.invariant-loop-i
-invariant-loop-i l = (l.i ≤ length l.bytes) × (rest_from l.rest (drop l.i l.bytes) ≡ rest_of l.bytes)
-
-abbrev pub decreases-loop-i : goal.decreases-loop-i
-decreases-loop-i l = length l.bytes - l.i
+abbrev pub invariant-loop-byte : goal.invariant-loop-byte
+invariant-loop-byte l = rest_from l.rest (drop l.byte-index l.bytes) ≡ rest_of l.bytes

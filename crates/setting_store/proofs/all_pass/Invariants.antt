@@ -1,11 +1,8 @@
--- `setting_store::all_pass` meets its contract: the places before the device were looked at. Rests on the callees' contracts.
-use Prim.Native.Nat.{◌-◌, ◌≤◌}
-use mathlib.Core.Path.{◌≡◌}
-use Rattle.setting_store.specs.Move.{passes, all_places}
+-- `setting_store::all_pass` meets its contract: the places before the device pass. Rests on the callees' contracts.
+use Rattle.std.proofs.Common.{ℕ, ◌≡◌, Bool, true}
+use Rattle.setting_store.specs.Move.{all_places}
 use Rattle.setting_store.proofs.all_pass.Given as goal
 
 abbrev pub invariant-loop-device : goal.invariant-loop-device
-invariant-loop-device l = (l.device ≤ 32) × (l.good ≡ all_places (passes l.delay) l.device l.store)
-
-abbrev pub decreases-loop-device : goal.decreases-loop-device
-decreases-loop-device l = 32 - l.device
+invariant-loop-device g l =
+    (test : ℕ → Bool) → ((n : ℕ) (r : Bool) → goal.F-post g l.passes n r → r ≡ test n) → true ≡ all_places test l.device l.store

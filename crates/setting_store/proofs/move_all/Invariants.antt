@@ -1,12 +1,8 @@
 -- `setting_store::move_all` meets its contract: the places before the device are moved. Rests on `up_to_put` and on the callees' contracts.
-use Prim.Native.Nat.{◌-◌, ◌≤◌}
 use mathlib.Core.Path.{◌≡◌}
 use lib.ListN.{length}
 use Rattle.setting_store.specs.Moved.{moved_up_to}
 use Rattle.setting_store.proofs.move_all.Given as goal
 
 abbrev pub invariant-loop-device : goal.invariant-loop-device
-invariant-loop-device l = (l.device ≤ 32) × (l.store ≡ moved_up_to l.device l.initial.store) × (length l.store ≡ 128)
-
-abbrev pub decreases-loop-device : goal.decreases-loop-device
-decreases-loop-device l = 32 - l.device
+invariant-loop-device l = (l.store ≡ moved_up_to l.device l.initial.store) × (length l.store ≡ 128)

@@ -1,38 +1,28 @@
--- `utf8::end_of` meets its contract. The loop's invariant: with what is left at `at`, the text from there on answers for the text from
--- `from` on. The measure is the number of tails. Rests on `there`, `passes` and `stops`, what one byte does.
-use Prim.Native.Nat.{ℕ, zero, suc, ◌-◌}
+-- `utf8::end_of` meets its contract. The loop's invariant: the text is answered from the next place on, with the tails that are left.
+-- Rests on `first_lies` and what is beside it.
+use Rattle.utf8.specs.Utf8.{◌to◌}
+use borrow.Author.Rules.{rules}
+use mathlib.Core.Path.{◌≡◌}
+use Prim.Native.Nat.{◌-◌, ◌+◌}
 use native.Mathlib.Omega.{arith}
-use mathlib.Core.Path.{◌≡◌, refl, sym, ◌∙◌, ap}
-use mathlib.Core.List.{◌∷◌}
-use lib.ListN.{replicate}
-use Rattle.utf8.specs.Utf8.{UTF8-tail, utf8}
-use Rattle.utf8.proofs.Bytes.{there, passes, stops}
+use Rattle.utf8.proofs.Bytes.{stops, first_lies, tail_lies, tail_missing, all_lie}
 use Rattle.utf8.proofs.end_of.Goals as goal
 
-one-tail : (n : ℕ) → (n ≡ 0 → ⊥) → replicate n UTF8-tail ≡ UTF8-tail ∷ replicate (n - 1) UTF8-tail
-one-tail zero h = absurd (h refl)
-one-tail (suc n) h = let e : n ≡ suc n - 1 = omega arith in ap (λ (k : ℕ). UTF8-tail ∷ replicate k UTF8-tail) e
+pub returns-then-not-lies_at : goal.returns-then-not-lies_at
+returns-then-not-lies_at c = grind (arith, stops)
 
-pub loop-at-init : goal.loop-at-init
-loop-at-init c = (omega arith, refl)
+pub loop-k-init : goal.loop-k-init
+loop-k-init c = let a = c.args in
+    let all : a.left.2 - 0 ≡ a.left.2 = omega arith in
+    first_lies _ _ _ 0 _ _ (a.left.0 to a.left.1) (rw all) (omega arith) (search rules)
 
-pub overflow_add-at : goal.overflow_add-at
-overflow_add-at c = omega (arith, there _ _ _ (sym c.lies_at.ensures ∙ c.loop-at-test.true))
+pub loop-k-preserved : goal.loop-k-preserved
+loop-k-preserved c = let k = c.loop-k.k in
+    tail_lies _ _ _ (c.args.from + 1 + k) _ _ (c.args.left.2 - k) (omega arith) (omega arith) (search rules) c.loop-k.invariant
 
-pub returns-then-tails-eq0 : goal.returns-then-tails-eq0
-unfolding utf8
-returns-then-tails-eq0 c = let l = sym c.lies_at.ensures ∙ c.loop-at-test.true in
-    (omega arith, omega (arith, there _ _ _ l), rw (← c.loop-at.invariant.1, passes _ _ _ _ l, c.if-tails-eq0.true))
-
-pub overflow_sub-tails : goal.overflow_sub-tails
-overflow_sub-tails c = omega arith
-
-pub loop-at-smaller : goal.loop-at-smaller
-loop-at-smaller c = omega arith
-
-pub loop-at-preserved : goal.loop-at-preserved
-loop-at-preserved c = let l = sym c.lies_at.ensures ∙ c.loop-at-test.true in
-    (omega arith, rw (← one-tail _ c.if-tails-eq0.false) (sym (passes _ _ _ _ l) ∙ c.loop-at.invariant.1))
+pub returns-then-not-lies_at-2 : goal.returns-then-not-lies_at-2
+returns-then-not-lies_at-2 c = let k = c.loop-k.k in
+    tail_missing _ _ _ (c.args.from + 1 + k) 0 (c.args.left.2 - (k + 1)) (c.args.left.2 - k) (omega arith) (search rules) c.loop-k.invariant
 
 pub returns : goal.returns
-returns c = sym c.loop-at.invariant.1 ∙ stops _ _ _ _ (sym c.lies_at.ensures ∙ c.loop-at-test.false)
+returns c = all_lie _ _ _ (c.args.from + 1 + c.loop-k.k) _ (c.args.left.2 - c.loop-k.k) (omega arith) (omega arith) (omega arith) c.loop-k.invariant

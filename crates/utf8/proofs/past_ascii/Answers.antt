@@ -3,12 +3,13 @@
 -- `fewer_ascii`), and on `back`: the last eight bytes may begin before the place.
 use Prim.Native.Nat.{ℕ, ◌+◌, ◌-◌, ◌/◌, ◌≤◌, ◌<◌}
 use native.Mathlib.Omega.{arith}
-use mathlib.Core.Path.{◌≡◌, refl, ◌∙◌}
+use mathlib.Core.Path.{◌≡◌, ◌∙◌}
 use mathlib.Core.List.{List}
 use lib.Count.{count_trailing_zeros}
-use lib.ListN.{length, drop}
+use lib.ListN.{length, drop, take}
+use Rattle.std.proofs.lemmas.Grind.{common_steps}
 use Rattle.utf8.specs.Steps.{ascii_run, top_bits}
-use Rattle.utf8.proofs.Ascii.{SameEnd, part_of_run, passed, back}
+use Rattle.utf8.proofs.Ascii.{SameEnd, part_of_run, passed, back, run_ends}
 use Rattle.utf8.proofs.Tops.{all_ascii, fewer_ascii}
 use Rattle.utf8.proofs.past_ascii.Goals as goal
 
@@ -26,43 +27,18 @@ module _ (t : List ℕ) (from i : ℕ) {tops : ℕ} (h : i + 8 ≤ length t) (e 
       let p = (part_of_run t i 8 (all_ascii t i h e z)).0 in
       passed t from i 16 (omega arith) s (omega (arith, p, all_ascii t (i + 8) (omega (arith, l)) f y))
 
-pub overflow_add-from : goal.overflow_add-from
-overflow_add-from c = omega arith
-
-pub returns-then-n-from : goal.returns-then-n-from
-returns-then-n-from c = c.past_bytes.ensures
-
-pub overflow_sub-last : goal.overflow_sub-last
-overflow_sub-last c = omega arith
-
-pub loop-at-init : goal.loop-at-init
-loop-at-init c = (omega arith, omega arith, refl)
-
-pub overflow_add-at : goal.overflow_add-at
-overflow_add-at c = omega arith
-
-pub top_bits-tops-requires : goal.top_bits-tops-requires
-top_bits-tops-requires c = omega arith
+-- the run of the rest of the text
+rest-run : (t : List ℕ) (from : ℕ) → from ≤ length t → ascii_run (take (length t - from) (drop from t)) ≡ ascii_run (drop from t)
+rest-run t from h = grind (arith, common_steps)
 
 pub overflow_add-result : goal.overflow_add-result
-overflow_add-result c = omega arith
+overflow_add-result c = let t = c.args.text.now in
+    omega (arith, c.ascii_bytes.ensures, rest-run t c.args.from (omega arith), run_ends t c.args.from (omega arith))
 
 pub returns-then-tops-ne0 : goal.returns-then-tops-ne0
 returns-then-tops-ne0 c = let l = c.loop-at in
     let a = c.args in
     ends-among a.text.now a.from l.at (omega arith) c.top_bits-tops.ensures l.invariant.2 c.if-tops-ne0.true c.before_top.ensures.0
-
-pub overflow_add-at-in-loop-at : goal.overflow_add-at-in-loop-at
-overflow_add-at-in-loop-at c = omega arith
-
-pub top_bits-more-requires : goal.top_bits-more-requires
-top_bits-more-requires c = omega arith
-
-pub overflow_add-result-then-more-ne0 : goal.overflow_add-result-then-more-ne0
-overflow_add-result-then-more-ne0 c = omega arith
-
-pub overflow_add-result-then-more-ne0-2 : goal.overflow_add-result-then-more-ne0-2
-overflow_add-result-then-more-ne0-2 c = omega arith
 
 pub returns-then-more-ne0 : goal.returns-then-more-ne0
 returns-then-more-ne0 c = let l = c.loop-at in
@@ -70,9 +46,6 @@ returns-then-more-ne0 c = let l = c.loop-at in
     let s = a.text.now in
     let p = past-eight s a.from l.at (omega arith) c.top_bits-tops.ensures l.invariant.2 c.if-tops-ne0.false in
     ends-among s a.from (l.at + 8) (omega arith) c.top_bits-more.ensures p c.if-more-ne0.true c.before_top-then-more-ne0.ensures.0
-
-pub overflow_add-at-in-loop-at-2 : goal.overflow_add-at-in-loop-at-2
-overflow_add-at-in-loop-at-2 c = omega arith
 
 pub loop-at-smaller : goal.loop-at-smaller
 loop-at-smaller c = let l = c.loop-at in
@@ -90,28 +63,16 @@ loop-at-preserved c = let l = c.loop-at in
     let p = past-sixteen s a.from l.at (omega arith) c.top_bits-tops.ensures l.invariant.2 z (omega arith) c.top_bits-more.ensures c.if-more-ne0.false in
     (omega arith, omega arith, p.1)
 
-pub past_last-requires : goal.past_last-requires
-past_last-requires c = omega arith
-
 pub returns-then-last-at : goal.returns-then-last-at
 returns-then-last-at c = let l = c.loop-at in
     let a = c.args in
     let s = a.text.now in
     c.past_last.ensures ∙ back s a.from (length s - 8) l.at (omega arith) (omega arith) l.invariant.2
 
-pub top_bits-tops-requires-2 : goal.top_bits-tops-requires-2
-top_bits-tops-requires-2 c = omega arith
-
-pub overflow_add-result-then-tops-ne0-2 : goal.overflow_add-result-then-tops-ne0-2
-overflow_add-result-then-tops-ne0-2 c = omega arith
-
 pub returns-then-tops-ne0-2 : goal.returns-then-tops-ne0-2
 returns-then-tops-ne0-2 c = let l = c.loop-at in
     let a = c.args in
     ends-among a.text.now a.from l.at (omega arith) c.top_bits-tops-2.ensures l.invariant.2 c.if-tops-ne0-2.true c.before_top-then-tops-ne0-2.ensures.0
-
-pub past_last-requires-2 : goal.past_last-requires-2
-past_last-requires-2 c = omega arith
 
 pub returns : goal.returns
 returns c = let l = c.loop-at in

@@ -6,39 +6,29 @@ use mathlib.Core.Path.{◌≡◌, sym, ◌∙◌, ap}
 use mathlib.Core.List.{List}
 use mathlib.Core.Bool.{true, false}
 use lib.ListN.{length, get_or}
-use Rattle.utf8.specs.declared.Found.{Found}
-use Rattle.utf8.specs.declared.Found.TheVariants.{End, Nothing}
 use Rattle.utf8.specs.Utf8.{Row, UTF8-char, rest}
 use Rattle.utf8.specs.Steps.{Ends, Passes}
 use Rattle.utf8.specs.Follow.{all_follow, begin_of}
 use Rattle.utf8.proofs.Bytes.{first_byte}
 use Rattle.utf8.proofs.Run.{follow_pass, follow_stop}
 use Rattle.utf8.proofs.past_characters.Goals as goal
+use Rattle.std.specs.Prelude.{Option, Some, None}
 
 -- the three bytes before the place are those from `at` on
 module _ (t : List ℕ) (bytes : (i : ℕ) → get_or t i 0 < 256) (at from : ℕ) (e : from ≡ at + 3) (inside : from + 32 ≤ length t) (begun : begin_of t from ≡ from) where
-  pass-from : all_follow 32 t at ≡ true → Passes t from (End (begin_of t (from + 32)))
+  pass-from : all_follow 32 t at ≡ true → Passes t from (Some (begin_of t (from + 32)))
   pass-from all =
       let far : from + 32 ≡ at + 32 + 3 = omega (arith, e) in
       rw (far, e) (follow_pass t bytes at 32 (omega (arith, e, inside)) (rw e at begun) (omega arith) all)
 
-  stop-from : all_follow 32 t at ≡ false → Passes t from Nothing
+  stop-from : all_follow 32 t at ≡ false → Passes t from None
   stop-from all = rw e (follow_stop t bytes at 32 (omega (arith, e, inside)) (rw e at begun) all)
 
 one_passes :
-    (t : List ℕ) (from : ℕ) → from < length t → (left : Row) → left ≡ rest (get_or t from 0) UTF8-char → (found : Found)
+    (t : List ℕ) (from : ℕ) → from < length t → (left : Row) → left ≡ rest (get_or t from 0) UTF8-char → (found : Option ℕ)
     → Ends t (from + 1) left found → Passes t from found
-one_passes t from h left e (End at) w = (omega (arith, w.0), w.1, sym (first_byte t from h left e) ∙ w.2)
-one_passes t from h left e Nothing w = sym (first_byte t from h left e) ∙ w
-
-pub begin_of-requires : goal.begin_of-requires
-begin_of-requires c = (omega arith, omega arith)
-
-pub all_follow-requires : goal.all_follow-requires
-all_follow-requires c = omega arith
-
-pub begin_of-requires-then-all_follow : goal.begin_of-requires-then-all_follow
-begin_of-requires-then-all_follow c = (omega arith, omega arith)
+one_passes t from h left e (Some at) w = (omega (arith, w.0), w.1, sym (first_byte t from h left e) ∙ w.2)
+one_passes t from h left e None w = sym (first_byte t from h left e) ∙ w
 
 pub returns-then-all_follow : goal.returns-then-all_follow
 returns-then-all_follow c = let a = c.args in
@@ -50,9 +40,6 @@ pub returns-then-begin_of-from : goal.returns-then-begin_of-from
 returns-then-begin_of-from c = let a = c.args in
     stop-from a.text.now (λ i. (c.type_inv.text i).fits) (a.from - 3) a.from (omega arith) (omega arith)
     (sym c.begin_of.ensures ∙ c.if-begin_of-from.true) (sym c.all_follow.ensures ∙ c.if-all_follow.false)
-
-pub past_others-requires : goal.past_others-requires
-past_others-requires c = record { from_in_bounds = omega arith; le_lead = omega arith }
 
 pub returns : goal.returns
 returns c = one_passes c.args.text.now c.args.from c.requires.0 (rest c.args.lead UTF8-char) (ap (λ (b : ℕ). rest b UTF8-char) c.requires.1) c.past_others.result c.past_others.ensures

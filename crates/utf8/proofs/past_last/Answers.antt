@@ -9,9 +9,6 @@ returns-then-tops-eq0 c = let a = c.args in
     let s = a.text.now in
     omega (arith, all_ascii s a.from (omega arith) c.top_bits-tops.ensures c.if-tops-eq0.true, run_ends s a.from (omega arith))
 
-pub overflow_add-result-2 : goal.overflow_add-result-2
-overflow_add-result-2 c = omega arith
-
 pub returns : goal.returns
 returns c = let a = c.args in
     omega (arith, fewer_ascii a.text.now a.from (omega arith) c.top_bits-tops.ensures c.if-tops-eq0.false c.before_top.ensures.0)

@@ -86,9 +86,6 @@ returns-in-241-to-243 c = let b = c.args.lead in
     rw (← e) c.past_row-in-241-to-243.ensures
 
 -- no byte is above 0xF0 and below 0xF1
-pub returns-in_default-lead : goal.returns-in_default-lead
-returns-in_default-lead c = absurd (omega arith)
-
 pub returns-in_default-lead-2 : goal.returns-in_default-lead-2
 returns-in_default-lead-2 c = let b = c.args.lead in
     let e : 1 to 0 ∷ [] ≡ rest b UTF8-char = rest_between 0xF5 0xFF (unfold UTF8-char in refl) (omega arith) (omega arith) in

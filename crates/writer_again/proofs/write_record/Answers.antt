@@ -8,7 +8,7 @@ use Rattle.writer_again.proofs.write_record.Goals as goal
 
 pub returns-in-Plain : goal.returns-in-Plain
 returns-in-Plain c = let s = c.args.image.now in
-    let all : AllBytes s = λ i. (c.shared_slice_known-1.given i).fits in
+    let all : AllBytes s = λ i. (c.type_inv.image i).fits in
     let plain = c.in-Plain.is in
     listed_again s c.args.f plain (listed_own s c.args.f (keys_of s all c.args.f c.requires plain)) c.args.out.now _ _ c.write_listed.ensures
 

@@ -11,6 +11,3 @@ returns-in-Ed25519 c = let a = c.args in
     rw c.in-Ed25519.is
     (c.added-in-Ed25519.ensures ∙ ap (λ (n : ℕ). capped (n + length a.point.now)) c.added.ensures ∙ capped_sum _ _
     ∙ ap capped (sym (seed_size a.point.now a.scalar.now)))
-
-pub returns-in-Ecdsa : goal.returns-in-Ecdsa
-returns-in-Ecdsa c = rw c.in-Ecdsa.is c.scalar_length.ensures

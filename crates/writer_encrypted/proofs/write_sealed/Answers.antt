@@ -8,7 +8,7 @@ use Rattle.format.proofs.Lengths.{encrypted_length}
 use Rattle.writer_reply.specs.Sized.{too_large, no_room, done}
 use Rattle.writer_encrypted.specs.Parts.{options_long}
 use Rattle.writer_encrypted.proofs.write_sealed.Goals as goal
-use Rattle.writer_encrypted.proofs.write_sealed.Goals.{After-options_length}
+use Rattle.writer_encrypted.proofs.write_sealed.Goals.{After-options_length, then-blob-gt65535-via-then-blob-gt65535, then-blob-gt65535-via-else-blob-gt65535+then-ciphertext-gt65535, then-blob-gt65535-via-else-blob-gt65535+else-ciphertext-gt65535+then-salt-gt65535}
 
 size_is : (c : After-options_length) → length (encrypted_image c.args.cipher c.args.kdf c.args.salt.now c.args.rounds c.args.blob.now c.args.ciphertext.now c.args.tag.now) ≡ 39 + c.names_length.result + c.options_length.result + length c.args.blob.now + length c.args.ciphertext.now + length c.args.tag.now
 size_is c =
@@ -18,19 +18,14 @@ size_is c =
 
 pub returns-then-blob-gt65535 : goal.returns-then-blob-gt65535
 returns-then-blob-gt65535 c = let a = c.args in
-    rw c.refused.ensures
-    (too_large _ _ (omega (arith, c.if-blob-gt65535.true, encrypted_length a.cipher a.kdf a.salt.now a.rounds a.blob.now a.ciphertext.now a.tag.now)))
-
-pub returns-then-ciphertext-gt65535 : goal.returns-then-ciphertext-gt65535
-returns-then-ciphertext-gt65535 c = let a = c.args in
-    rw c.refused-then-ciphertext-gt65535.ensures
-    (too_large _ _ (omega (arith, c.if-ciphertext-gt65535.true, encrypted_length a.cipher a.kdf a.salt.now a.rounds a.blob.now a.ciphertext.now a.tag.now)))
-
-pub returns-then-salt-gt65535 : goal.returns-then-salt-gt65535
-returns-then-salt-gt65535 c = let a = c.args in
     let options = options_long a.kdf a.salt.now a.rounds c.requires.1 in
-    rw c.refused-then-salt-gt65535.ensures
-    (too_large _ _ (omega (arith, c.if-salt-gt65535.true, options, encrypted_length a.cipher a.kdf a.salt.now a.rounds a.blob.now a.ciphertext.now a.tag.now)))
+    let whole = encrypted_length a.cipher a.kdf a.salt.now a.rounds a.blob.now a.ciphertext.now a.tag.now in
+    rw c.refused.ensures
+    (too_large _ _ (elim c.then-blob-gt65535.branch [
+      | then-blob-gt65535-via-then-blob-gt65535 w ↦ omega (arith, whole)
+      | then-blob-gt65535-via-else-blob-gt65535+then-ciphertext-gt65535 w ↦ omega (arith, whole)
+      | then-blob-gt65535-via-else-blob-gt65535+else-ciphertext-gt65535+then-salt-gt65535 w ↦ omega (arith, options, whole)
+    ]))
 
 pub returns-then-size-gt65535 : goal.returns-then-size-gt65535
 returns-then-size-gt65535 c = rw c.refused-then-size-gt65535.ensures (too_large _ _ (omega (arith, c.if-size-gt65535.true, size_is (goal.at.returns-then-size-gt65535 c).After-options_length)))

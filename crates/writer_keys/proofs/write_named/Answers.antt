@@ -2,29 +2,32 @@
 -- the laws of checks and on zeros in front changing nothing of what is written.
 use mathlib.Core.Path.{refl, sym, ◌∙◌}
 use lib.ListN.{length}
+use Rattle.std.proofs.lemmas.Result.{err_from_is_err_and}
 use Rattle.writer_reply.specs.Reply.{answered}
 use Rattle.writer_table.specs.Table.{keys_named}
 use Rattle.writer_keys.specs.Named.{named_keys, named_left}
 use Rattle.writer_keys.specs.Checked.{checking_keys, written_named, named_refused, named_passed}
 use Rattle.writer_keys.proofs.write_named.Goals as goal
 
-pub returns-in-Refused : goal.returns-in-Refused
+pub returns-in_err-check : goal.returns-in_err-check
 unfolding named_left
-returns-in-Refused c = let a = c.args in
-    let reply = named_refused a.filling a.text.now a.table.now _ a.checkint (length a.out.now) (sym c.check.ensures ∙ c.in-Refused.is) in
-    rw reply (refl, refl, refl)
+returns-in_err-check c = let a = c.args in
+    let reply = named_refused a.filling a.text.now a.table.now _ a.checkint (length a.out.now) (sym c.check.ensures ∙ c.in_err-check.was) in
+    let p = err_from_is_err_and c.from_residual.result c.from_residual.ensures.1 in
+    rw (p.1, p.2, reply) (refl, refl, refl)
 
-pub returns-in-Refused-check_keys : goal.returns-in-Refused-check_keys
+pub returns-in_err-check_keys : goal.returns-in_err-check_keys
 unfolding named_left keys_named
-returns-in-Refused-check_keys c = let a = c.args in
+returns-in_err-check_keys c = let a = c.args in
     let keys = named_keys a.filling a.text.now a.table.now in
-    let reply = named_passed a.filling a.text.now a.table.now _ a.checkint (length a.out.now) (sym c.check.ensures ∙ c.in-Length.is) in
-    rw (reply, (checking_keys keys).refuses _ _ (sym c.check_keys.ensures ∙ c.in-Refused-check_keys.is)) (refl, refl, refl)
+    let reply = named_passed a.filling a.text.now a.table.now _ a.checkint (length a.out.now) (sym c.check.ensures ∙ c.in_ok-check.was) in
+    let p = err_from_is_err_and c.from_residual-in_err-check_keys.result c.from_residual-in_err-check_keys.ensures.1 in
+    rw (p.1, p.2, reply, (checking_keys keys).refuses _ _ (sym c.check_keys.ensures ∙ c.in_err-check_keys.was)) (refl, refl, refl)
 
-pub returns-in-Length-check_keys : goal.returns-in-Length-check_keys
+pub returns : goal.returns
 unfolding named_left keys_named
-returns-in-Length-check_keys c = let a = c.args in
+returns c = let a = c.args in
     let keys = named_keys a.filling a.text.now a.table.now in
-    let reply = named_passed a.filling a.text.now a.table.now _ a.checkint (length a.out.now) (sym c.check.ensures ∙ c.in-Length.is) in
-    rw (reply, (checking_keys keys).passes _ _ (sym c.check_keys.ensures ∙ c.in-Length-check_keys.is), written_named a.filling a.text.now a.table.now a.checkint)
+    let reply = named_passed a.filling a.text.now a.table.now _ a.checkint (length a.out.now) (sym c.check.ensures ∙ c.in_ok-check.was) in
+    rw (reply, (checking_keys keys).passes _ _ (sym c.check_keys.ensures ∙ c.in_ok-check_keys.was), written_named a.filling a.text.now a.table.now a.checkint)
     (answered _ _ _ _ c.write_sized.ensures)

@@ -15,11 +15,11 @@ returns-then-k-ge16 t c = put_past c.args.image.now c.args.blob c.args.places c.
 pub overflow_add-k : goal.overflow_add-k
 overflow_add-k t c = omega (arith, c.if-k-ge16.false)
 
-pub returns-in-Nothing : goal.returns-in-Nothing
-returns-in-Nothing t c = put_nothing c.args.image.now c.args.blob c.args.places c.args.k c.args.count c.args.table.now c.args.at (omega (arith, c.if-count-k.false)) (omega (arith, c.if-k-ge16.false)) (ap (key_placed c.args.image.now c.args.blob) (sym c.get.ensures) ∙ sym c.read_key.ensures ∙ c.in-Nothing.is)
+pub returns-in-None : goal.returns-in-None
+returns-in-None t c = put_nothing c.args.image.now c.args.blob c.args.places c.args.k c.args.count c.args.table.now c.args.at (omega (arith, c.if-count-k.false)) (omega (arith, c.if-k-ge16.false)) (ap (key_placed c.args.image.now c.args.blob) (sym c.get.ensures) ∙ sym c.read_key.ensures ∙ c.in-None.is)
 
 pub shape_of-table : goal.shape_of-table
 shape_of-table t c = c.put_others.auto.table ∙ c.put_row-past.auto.table
 
-pub returns-in-Key : goal.returns-in-Key
-returns-in-Key t c = put_more c.args.image.now c.args.blob c.args.places c.args.k c.args.count c.args.table.now c.args.at (omega (arith, c.if-count-k.false)) (omega (arith, c.if-k-ge16.false)) c.in-Key.key c.in-Key.next (ap (key_placed c.args.image.now c.args.blob) (sym c.get.ensures) ∙ sym c.read_key.ensures ∙ c.in-Key.is) _ _ _ _ c.put_row-past.ensures c.put_others.ensures
+pub returns-in-Some : goal.returns-in-Some
+returns-in-Some t c = put_more c.args.image.now c.args.blob c.args.places c.args.k c.args.count c.args.table.now c.args.at (omega (arith, c.if-count-k.false)) (omega (arith, c.if-k-ge16.false)) c.in-Some.key c.in-Some.next (ap (key_placed c.args.image.now c.args.blob) (sym c.get.ensures) ∙ sym c.read_key.ensures ∙ c.in-Some.is) _ _ _ _ c.put_row-past.ensures c.put_others.ensures

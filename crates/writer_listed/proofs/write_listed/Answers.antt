@@ -21,7 +21,7 @@ Filled c =
 
 filled : (c : After-table-4-1) → Filled c
 filled c =
-    table_put c.args.image.now c.args.f c.kept-first.result c.kept-first.ensures _ _ _ _ _ refl c.put_row-one.ensures c.put_others-size.ensures
+    table_put c.args.image.now c.args.f c.kept-first.result c.kept-first.ensures _ _ _ _ _ refl (rw c.get.ensures at c.put_row-one.ensures) c.put_others-size.ensures
 
 pub overflow_add-blob : goal.overflow_add-blob
 overflow_add-blob c = let within : c.kept-first.result.start + c.kept-first.result.length ≤ length c.args.image.now =

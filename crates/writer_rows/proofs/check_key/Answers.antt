@@ -8,4 +8,5 @@ returns-in-Elliptic c = rw (taken_curve c.args.filling c.args.text.now c.args.ta
 
 pub returns-in-Rsa : goal.returns-in-Rsa
 returns-in-Rsa c = let rsa = sym c.algorithm_at.ensures ∙ c.in-Rsa.is in
-    rw (taken_rsa c.args.filling c.args.text.now c.args.table.now c.args.j rsa, key_rsa c.args.text.now c.args.table.now c.args.j rsa, ← c.part_at-in-Rsa.ensures.0, ← c.part_at-in-Rsa-2.ensures.0, ← c.part_at-in-Rsa-3.ensures.0, ← c.part_at-in-Rsa-4.ensures.0, ← c.part_at-in-Rsa-5.ensures.0, ← c.part_at-in-Rsa-6.ensures.0) c.check-in-Rsa.ensures
+    let six = c.numbers_at.ensures in
+    rw (taken_rsa c.args.filling c.args.text.now c.args.table.now c.args.j rsa, key_rsa c.args.text.now c.args.table.now c.args.j rsa, ← six.key.0, ← six.key.1, ← six.exponents.0, ← six.exponents.1, ← six.primes.0, ← six.primes.1) c.check-in-Rsa.ensures

@@ -7,4 +7,5 @@ pub returns-in-Elliptic : goal.returns-in-Elliptic
 returns-in-Elliptic c = rw (key_curve c.args.text.now c.args.table.now c.args.j _ (sym c.algorithm_at.ensures ∙ c.in-Elliptic.is), ← c.part_at.ensures.0, ← c.part_at-in-Elliptic.ensures.0) c.pair_length.ensures
 
 pub returns-in-Rsa : goal.returns-in-Rsa
-returns-in-Rsa c = rw (key_rsa c.args.text.now c.args.table.now c.args.j (sym c.algorithm_at.ensures ∙ c.in-Rsa.is), ← c.part_at-in-Rsa.ensures.0, ← c.part_at-in-Rsa-2.ensures.0, ← c.part_at-in-Rsa-3.ensures.0, ← c.part_at-in-Rsa-4.ensures.0, ← c.part_at-in-Rsa-5.ensures.0, ← c.part_at-in-Rsa-6.ensures.0) c.pair_length-in-Rsa.ensures
+returns-in-Rsa c = let six = c.numbers_at.ensures in
+    rw (key_rsa c.args.text.now c.args.table.now c.args.j (sym c.algorithm_at.ensures ∙ c.in-Rsa.is), ← six.key.0, ← six.key.1, ← six.exponents.0, ← six.exponents.1, ← six.primes.0, ← six.primes.1) c.pair_length-in-Rsa.ensures

@@ -17,9 +17,6 @@ front-put : (c : After-put-first) → IsPut c.args.out.now 0 (join (plain_front 
 unfolding plain_front magic string uint32
 front-put c = c.put-first.ensures
 
-pub shape_of-out : goal.shape_of-out
-shape_of-out c = c.put_padding.auto.out ∙ c.put_string-seventh.auto.out ∙ c.put_pair-sixth.auto.out ∙ c.put_uint32-fifth.auto.out ∙ c.put_uint32-fourth.auto.out ∙ c.put_uint32-third.auto.out ∙ c.put_blob-second.auto.out ∙ c.put-first.auto.out
-
 pub returns : goal.returns
 unfolding image_fields written_image
 returns c room = let a = c.args in

@@ -1,6 +1,7 @@
 -- `writer_rsa::write_parts` meets its contract: the key's check, the comment's, then size and room. Rests on the callees' contracts and on
 -- the laws of checks.
 use mathlib.Core.Path.{refl, sym, ◌∙◌}
+use Rattle.std.proofs.lemmas.Result.{err_from_is_err_and}
 use Rattle.names.specs.declared.Algorithm.TheVariants.{Rsa}
 use Rattle.format.specs.Format.{of_modulus, of_numbers}
 use Rattle.writer_reply.specs.Reply.{answered}
@@ -12,17 +13,18 @@ pub returns-then-not-is_utf8 : goal.returns-then-not-is_utf8
 unfolding plain_reply plain_left
 returns-then-not-is_utf8 c = let a = c.args in
     let key = checking_key Rsa (of_modulus a.n.now a.e.now) (of_numbers a.d.now a.iqmp.now a.p.now a.q.now) in
-    rw (c.refused.ensures, key.passes _ _ (sym c.check.ensures ∙ c.in-Length.is), ← c.is_utf8.ensures, c.if-not-is_utf8.true) (refl, refl, refl)
+    rw (c.refused.ensures, key.passes _ _ (sym c.check.ensures ∙ c.in_ok-check.was), ← c.is_utf8.ensures, c.if-not-is_utf8.true) (refl, refl, refl)
 
-pub returns-in-Refused : goal.returns-in-Refused
+pub returns-in_err-check : goal.returns-in_err-check
 unfolding plain_reply plain_left
-returns-in-Refused c = let a = c.args in
+returns-in_err-check c = let a = c.args in
     let key = checking_key Rsa (of_modulus a.n.now a.e.now) (of_numbers a.d.now a.iqmp.now a.p.now a.q.now) in
-    rw (key.refuses _ _ (sym c.check.ensures ∙ c.in-Refused.is)) (refl, refl, refl)
+    let p = err_from_is_err_and c.from_residual.result c.from_residual.ensures.1 in
+    rw (p.1, p.2, key.refuses _ _ (sym c.check.ensures ∙ c.in_err-check.was)) (refl, refl, refl)
 
-pub returns-else-not-is_utf8 : goal.returns-else-not-is_utf8
+pub returns : goal.returns
 unfolding plain_reply plain_left
-returns-else-not-is_utf8 c = let a = c.args in
+returns c = let a = c.args in
     let key = checking_key Rsa (of_modulus a.n.now a.e.now) (of_numbers a.d.now a.iqmp.now a.p.now a.q.now) in
-    rw (key.passes _ _ (sym c.check.ensures ∙ c.in-Length.is), ← c.is_utf8.ensures, c.if-not-is_utf8.false)
+    rw (key.passes _ _ (sym c.check.ensures ∙ c.in_ok-check.was), ← c.is_utf8.ensures, c.if-not-is_utf8.false)
     (answered _ _ _ _ c.write_sized.ensures)

@@ -8,38 +8,37 @@ use Rattle.writer_reply.specs.Sized.{too_large, no_room, done}
 use Rattle.writer_parts.specs.Sizes.{capped, capped_above, capped_exact}
 use Rattle.writer_parts.specs.Fields.{image_length_lem, entries_exact, entry_measured, alone_measured}
 use Rattle.writer_rsa.proofs.write_sized.Goals as goal
+use Rattle.writer_rsa.proofs.write_sized.Goals.{After-image_length-size}
+
+-- what is added up is the image's length
+size_is :
+    (c : After-image_length-size)
+    → c.image_length-size.result ≡ capped (length (written_image c.args.checkint (alone (key_of Rsa (of_modulus c.args.n.now c.args.e.now) (of_numbers c.args.d.now c.args.iqmp.now c.args.p.now c.args.q.now) c.args.comment.now))))
+size_is c = let a = c.args in
+    alone_measured Rsa (of_modulus a.n.now a.e.now) (of_numbers a.d.now a.iqmp.now a.p.now a.q.now) a.comment.now a.checkint _ _ _ _ _ _ c.blob_length-key.ensures c.pair_length-pair.ensures c.added.ensures c.added-entries.ensures c.added-2.ensures c.image_length-size.ensures
 
 pub returns-then-size-gt65535 : goal.returns-then-size-gt65535
-returns-then-size-gt65535 c = let a = c.args in
-    let image = written_image a.checkint (alone (key_of Rsa (of_modulus a.n.now a.e.now) (of_numbers a.d.now a.iqmp.now a.p.now a.q.now) a.comment.now)) in
-    let size : c.image_length-size.result ≡ capped (length image) =
-    alone_measured Rsa (of_modulus a.n.now a.e.now) (of_numbers a.d.now a.iqmp.now a.p.now a.q.now) a.comment.now a.checkint _ _ _ _ _ _ c.blob_length-key.ensures c.pair_length-pair.ensures c.added.ensures c.added-entries.ensures c.added-2.ensures c.image_length-size.ensures in
-    rw c.refused.ensures (too_large image a.out.now (capped_above _ _ 65535 size (omega (arith, c.if-size-gt65535.true))))
+returns-then-size-gt65535 c =
+    let size = size_is (goal.at.returns-then-size-gt65535 c).After-image_length-size in
+    rw c.refused.ensures (too_large _ c.args.out.now (capped_above _ _ 65535 size (omega (arith, c.if-size-gt65535.true))))
 
 pub returns-then-out-size : goal.returns-then-out-size
-returns-then-out-size c = let a = c.args in
-    let image = written_image a.checkint (alone (key_of Rsa (of_modulus a.n.now a.e.now) (of_numbers a.d.now a.iqmp.now a.p.now a.q.now) a.comment.now)) in
-    let size : c.image_length-size.result ≡ capped (length image) =
-    alone_measured Rsa (of_modulus a.n.now a.e.now) (of_numbers a.d.now a.iqmp.now a.p.now a.q.now) a.comment.now a.checkint _ _ _ _ _ _ c.blob_length-key.ensures c.pair_length-pair.ensures c.added.ensures c.added-entries.ensures c.added-2.ensures c.image_length-size.ensures in
-    let exact : c.image_length-size.result ≡ length image = capped_exact _ _ _ size c.if-size-gt65535.false (omega arith) in
-    rw c.refused-then-out-size.ensures (no_room image a.out.now (omega (arith, exact, c.if-size-gt65535.false)) (omega (arith, exact, c.if-out-size.true)))
+returns-then-out-size c =
+    let exact = capped_exact _ _ _ (size_is (goal.at.returns-then-out-size c).After-image_length-size) c.if-size-gt65535.false (omega arith) in
+    rw c.refused-then-out-size.ensures (no_room _ c.args.out.now (omega (arith, exact, c.if-size-gt65535.false)) (omega (arith, exact, c.if-out-size.true)))
 
 pub put_plain-requires : goal.put_plain-requires
 unfolding written_image
 put_plain-requires c = let a = c.args in
-    let image = written_image a.checkint (alone (key_of Rsa (of_modulus a.n.now a.e.now) (of_numbers a.d.now a.iqmp.now a.p.now a.q.now) a.comment.now)) in
-    let size : c.image_length-size.result ≡ capped (length image) =
-    alone_measured Rsa (of_modulus a.n.now a.e.now) (of_numbers a.d.now a.iqmp.now a.p.now a.q.now) a.comment.now a.checkint _ _ _ _ _ _ c.blob_length-key.ensures c.pair_length-pair.ensures c.added.ensures c.added-entries.ensures c.added-2.ensures c.image_length-size.ensures in
-    let exact : c.image_length-size.result ≡ length image = capped_exact _ _ _ size c.if-size-gt65535.false (omega arith) in
-    let es = alone (entry (written_pair Rsa (of_modulus a.n.now a.e.now) (of_numbers a.d.now a.iqmp.now a.p.now a.q.now)) a.comment.now) in
+    let pair = written_pair Rsa (of_modulus a.n.now a.e.now) (of_numbers a.d.now a.iqmp.now a.p.now a.q.now) in
+    let exact = capped_exact _ _ _ (size_is (goal.at.put_plain-requires c).After-image_length-size) c.if-size-gt65535.false (omega arith) in
+    let es = alone (entry pair a.comment.now) in
     let entries = entry_measured Rsa (of_modulus a.n.now a.e.now) (of_numbers a.d.now a.iqmp.now a.p.now a.q.now) a.comment.now _ _ _ c.pair_length-pair.ensures c.added.ensures c.added-entries.ensures in
-    let same = entries_exact a.checkint (alone (blob Rsa (of_modulus a.n.now a.e.now))) es _ entries (omega (arith, exact, c.if-size-gt65535.false)) in
-    (same, omega (arith, same, exact, c.if-size-gt65535.false, image_length_lem a.checkint (alone (blob Rsa (of_modulus a.n.now a.e.now))) es))
+    let keys = alone (blob Rsa (of_modulus a.n.now a.e.now)) in
+    let same = entries_exact a.checkint keys es _ entries (omega (arith, exact, c.if-size-gt65535.false)) in
+    (same, omega (arith, same, exact, c.if-size-gt65535.false, image_length_lem a.checkint keys es))
 
 pub returns : goal.returns
-returns c = let a = c.args in
-    let image = written_image a.checkint (alone (key_of Rsa (of_modulus a.n.now a.e.now) (of_numbers a.d.now a.iqmp.now a.p.now a.q.now) a.comment.now)) in
-    let size : c.image_length-size.result ≡ capped (length image) =
-    alone_measured Rsa (of_modulus a.n.now a.e.now) (of_numbers a.d.now a.iqmp.now a.p.now a.q.now) a.comment.now a.checkint _ _ _ _ _ _ c.blob_length-key.ensures c.pair_length-pair.ensures c.added.ensures c.added-entries.ensures c.added-2.ensures c.image_length-size.ensures in
-    let exact : c.image_length-size.result ≡ length image = capped_exact _ _ _ size c.if-size-gt65535.false (omega arith) in
-    done image a.out.now _ _ (omega (arith, exact, c.if-size-gt65535.false)) (omega (arith, exact, c.if-out-size.false)) c.put_plain.ensures
+returns c =
+    let exact = capped_exact _ _ _ (size_is (goal.at.returns c).After-image_length-size) c.if-size-gt65535.false (omega arith) in
+    done _ c.args.out.now _ _ (omega (arith, exact, c.if-size-gt65535.false)) (omega (arith, exact, c.if-out-size.false)) c.put_plain.ensures

@@ -1,6 +1,0 @@
--- `c_armour::saltorchard_import` meets its contract: the reply is handed on. Rests on the callees' contracts.
-use Rattle.c_reply.specs.Replies.{handed_on}
-use Rattle.c_armour.proofs.saltorchard_import.Goals as goal
-
-pub returns : goal.returns
-returns c = handed_on _ _ _ _ _ c.reply_of.ensures c.import.ensures

@@ -1,5 +1,0 @@
--- `c_numbers::refused_image` meets its contract: each number is its callee's. Rests on the callees' contracts.
-use Rattle.c_numbers.proofs.refused_image.Goals as goal
-
-pub returns : goal.returns
-returns c = rw (c.nowhere-zero.ensures, c.number.ensures, c.count.ensures)
