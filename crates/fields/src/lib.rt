@@ -6,7 +6,7 @@
 
 ghost use Rattle.std.specs.Prelude.{◌≡◌, ◌-◌, get_or};
 ghost use Rattle.fields.specs.Bytes.{same_bytes};
-ghost use Rattle.fields.specs.Fields.{has_room, number4, uint32_at, bytes_at, string_at, fixed_at, end_at, IsView, fault};
+ghost use Rattle.fields.specs.Fields.{has_room, uint32_at, bytes_at, string_at, fixed_at, end_at, IsView, fault};
 ghost use Rattle.fields.specs.Refusals.{number_of, count_of};
 
 // Why an image, a comment or a buffer is refused.
@@ -94,13 +94,6 @@ pub struct Cursor {
 // What was read, and the place after it; or why it is refused.
 pub type Read<T> = Result<(T, Cursor), Fault>;
 
-// Four bytes as a number, the first the highest.
-fn joined(a: u8, b: u8, c: u8, d: u8) -> u32
-    ensures { result ≡ number4 a b c d }
-{
-    (((a as u32) * 256 + (b as u32)) * 256 + (c as u32)) * 256 + (d as u32)
-}
-
 impl Cursor {
     // Do k more bytes remain in the enclosing part, and is that part within the image?
     #[tactic(auto, unfolding(crate::specs::Fields::has_room))]
@@ -124,7 +117,7 @@ impl Cursor {
     {
         let Cursor { at, end } = self;
         if self.has(image, 4) {
-            let n = joined(image[at], image[at + 1], image[at + 2], image[at + 3]);
+            let n = u32::from_be_bytes([image[at], image[at + 1], image[at + 2], image[at + 3]]);
             return Ok((n, Cursor { at: at + 4, end }));
         }
         Err(Refusal::Length.at(at))

@@ -3,37 +3,39 @@
 // A word is some bytes as one number, the first the lowest; two words are equal exactly if their bytes are.
 #![tactic(auto)]
 
-ghost use Rattle.std.specs.Prelude.{◌≡◌, ◌+◌, ◌%◌, ◌≤◌, ◌<◌, [], ◌∷◌, length, drop};
+ghost use Rattle.std.specs.Prelude.{◌≡◌, ◌+◌, ◌%◌, ◌≤◌, ◌<◌, length, drop};
 ghost use Rattle.fields.specs.Bytes.{same_bytes};
-ghost use Rattle.words.specs.Words.{low, IsWord, same_piece};
-
-// Four bytes as a number, the first the lowest.
-fn lowest_first(a: u8, b: u8, c: u8, d: u8) -> u32
-    ensures { (result ≡ low (a ∷ b ∷ c ∷ d ∷ [])) × (a < 256) × (b < 256) × (c < 256) × (d < 256) }
-{
-    (((d as u32) * 256 + (c as u32)) * 256 + (b as u32)) * 256 + (a as u32)
-}
+ghost use Rattle.words.specs.Words.{IsWord, same_piece};
 
 // The bytes at the place as a number, the first the lowest: two, four or eight of them. Compiled, each is one load.
-fn two(bytes: &[u8], at: usize) -> u32
+fn two(bytes: &[u8], at: usize) -> u16
     requires { at + 2 ≤ length bytes.now }
     ensures { IsWord 2 bytes.now at result }
 {
-    lowest_first(bytes[at], bytes[at + 1], 0, 0)
+    u16::from_le_bytes([bytes[at], bytes[at + 1]])
 }
 
 fn four(bytes: &[u8], at: usize) -> u32
     requires { at + 4 ≤ length bytes.now }
     ensures { IsWord 4 bytes.now at result }
 {
-    lowest_first(bytes[at], bytes[at + 1], bytes[at + 2], bytes[at + 3])
+    u32::from_le_bytes([bytes[at], bytes[at + 1], bytes[at + 2], bytes[at + 3]])
 }
 
 fn eight(bytes: &[u8], at: usize) -> u64
     requires { at + 8 ≤ length bytes.now }
     ensures { IsWord 8 bytes.now at result }
 {
-    (four(bytes, at + 4) as u64) * 4294967296 + (four(bytes, at) as u64)
+    u64::from_le_bytes([
+        bytes[at],
+        bytes[at + 1],
+        bytes[at + 2],
+        bytes[at + 3],
+        bytes[at + 4],
+        bytes[at + 5],
+        bytes[at + 6],
+        bytes[at + 7],
+    ])
 }
 
 // A text of fewer than 32 bytes is pieces of 1, 2, 4, 8 and 16 bytes, one for each binary digit that its length has, the shortest first.

@@ -1,17 +1,12 @@
--- `words::eight` meets its contract. Rests on `eight_bytes`: a word of eight bytes is one of four, and another above it.
+-- `words::eight` meets its contract. Rests on `eight_bytes`, the bytes one by one.
+use Prim.Native.Nat.{◌+◌}
 use native.Mathlib.Omega.{arith}
+use Rattle.fields.specs.Bytes.{AllBytes}
 use Rattle.words.specs.Words.{eight_bytes}
 use Rattle.words.proofs.eight.Goals as goal
 
-pub overflow_add-at : goal.overflow_add-at
-overflow_add-at c = omega arith
-
-pub four-requires : goal.four-requires
-four-requires c = omega arith
-
-pub four-requires-2 : goal.four-requires-2
-four-requires-2 c = omega arith
-
 pub returns : goal.returns
 returns c = let a = c.args in
-    eight_bytes a.bytes.now a.at c.four-2.result c.four.result (omega arith) c.four-2.ensures c.four.ensures
+    let byte : AllBytes a.bytes.now = λ i. (c.type_inv.bytes i).fits in
+    rw (eight_bytes a.bytes.now a.at (omega arith))
+    (omega (arith, c.from_le_bytes.ensures), (byte a.at, (byte (a.at + 1), (byte (a.at + 2), (byte (a.at + 3), (byte (a.at + 4), (byte (a.at + 5), (byte (a.at + 6), (byte (a.at + 7), tt)))))))))
