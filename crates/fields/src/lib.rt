@@ -26,7 +26,7 @@ pub enum Refusal {
 }
 
 impl Refusal {
-    // The rules' number.
+    // The rules' number, which the C interface answers.
     pub fn number(self) -> u8
         ensures { result ≡ number_of self }
     {
@@ -84,7 +84,8 @@ impl Part {
     };
 }
 
-// A place in the image, and the end of the part that encloses it.
+// A place in the image, and the end of the part that encloses it. The image is lent beside it: with a reference in here each answer
+// would hold one too, and its equation would speak of memory.
 #[derive(Clone, Copy, Debug, PartialEq, Eq)]
 pub struct Cursor {
     pub at: usize,
@@ -201,7 +202,7 @@ pub fn byte(image: &[u8], i: usize) -> u8
     image.get(i).copied().unwrap_or(0)
 }
 
-// Are the bytes the same?
+// Are the bytes the same? One `==`, about which `same_determined` is.
 pub fn same(a: &[u8], b: &[u8]) -> bool
     ensures { result ≡ same_bytes a.now b.now }
 {

@@ -42,6 +42,7 @@ impl Places {
         self.all.get(index).copied().unwrap_or(0)
     }
 
+    // One `==`, about which `same_determined` is.
     pub fn same(self, other: Places) -> bool
         ensures { result ≡ same_places self other }
     {

@@ -39,7 +39,8 @@ fn eight(bytes: &[u8], at: usize) -> u64
 }
 
 // A text of fewer than 32 bytes is pieces of 1, 2, 4, 8 and 16 bytes, one for each binary digit that its length has, the shortest first.
-// The next five compare one piece each; what the text doesn't have is the same.
+// The next five compare one piece each; what the text doesn't have is the same. Each reads a number of another type: one generic function
+// would need a trait of them with an impl for each.
 fn same_one(text: &[u8], name: &[u8]) -> bool
     requires { length name.now ≡ length text.now }
     ensures { result ≡ same_piece 1 name.now text.now }
