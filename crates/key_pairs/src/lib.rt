@@ -55,7 +55,7 @@ pub fn read_scalar(c: Cursor, image: &[u8], size: usize) -> Read<Part>
 }
 
 // Where a keypair's private parts are: the scalar without leading zeros, or Ed25519's seed; or RSA's d, iqmp, p
-// and q. What its kind lacks is absent.
+// and q. What its kind lacks is absent. It is no enum: a caller hands any of these back, and `handed_record::same_private` compares each.
 #[derive(Clone, Copy, PartialEq, Eq)]
 pub struct Private {
     pub scalar: Part,

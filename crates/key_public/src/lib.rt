@@ -35,7 +35,8 @@ pub fn read_ecdsa_public(c: Cursor, image: &[u8]) -> Read<(Curve, Part)>
 }
 
 // Where a public key's parts are: the point, or Ed25519's public string; or RSA's modulus and exponent, and how
-// many bits the modulus has. What its kind lacks is absent, and the bits are 0.
+// many bits the modulus has. What its kind lacks is absent, and the bits are 0. It is no enum: a caller hands any of these
+// back, and `handed_header::same_public` compares each.
 #[derive(Clone, Copy, PartialEq, Eq)]
 pub struct Public {
     pub point: Part,

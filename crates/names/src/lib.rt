@@ -22,6 +22,7 @@ pub enum Cipher {
     Aes256Gcm,
 }
 
+// The table's rows, one after the other. `spells` compares up to eight bytes at once; a `match` on byte strings, compiled, compares each.
 pub fn cipher_named(name: &[u8]) -> Option<Cipher>
     ensures { result ≡ cipher_named name.now }
 {
@@ -202,7 +203,7 @@ pub fn algorithm_named(name: &[u8]) -> Option<Algorithm>
 }
 
 impl Algorithm {
-    // A number for each algorithm, another for another.
+    // A number for each algorithm, another for another: the C interface's.
     pub fn code(self) -> u8
         ensures { result ≡ algorithm_code self }
     {

@@ -1,5 +1,5 @@
-// The numbers that stand for an algorithm, a cipher and a KDF where there is nothing but numbers. The
-// algorithm's own is `Algorithm::code`.
+// The numbers that stand for an algorithm, a cipher and a KDF where there is nothing but numbers: the C interface has
+// them. The algorithm's own is `Algorithm::code`.
 #![tactic(auto)]
 
 ghost use Rattle.std.specs.Prelude.{◌≡◌};

@@ -17,7 +17,7 @@ fn named(start: usize, length: usize) -> Part
     Part { start, length }
 }
 
-// Where each name stands in the table.
+// Where each name stands in the table: a place is what these promise, and `algorithm_spelled` and its neighbours are about it.
 
 pub fn algorithm_name(algorithm: Algorithm) -> Part
     ensures { result ≡ algorithm_place algorithm }

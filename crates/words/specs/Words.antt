@@ -64,17 +64,24 @@ four_bytes w s i h =
     (next_byte (suc w) s (i + 2) (i + 3) (omega arith) (omega (arith, h))
     ∙ ap (λ (l : List ℕ). get_or s (i + 2) 0 ∷ l) (next_byte w s (i + 3) (i + 4) (omega arith) (omega (arith, h)))))
 
-pub eight_bytes :
+pub eight_apart :
     (s : List ℕ) (i : ℕ) → i + 8 ≤ length s
     → take 8 (drop i s)
     ≡ get_or s i 0 ∷ get_or s (i + 1) 0 ∷ get_or s (i + 2) 0 ∷ get_or s (i + 3) 0 ∷ get_or s (i + 4) 0 ∷ get_or s (i + 5) 0 ∷ get_or s (i + 6) 0 ∷ get_or s (i + 7) 0 ∷ []
-eight_bytes s i h =
+eight_apart s i h =
     four_bytes 4 s i (omega (arith, h))
     ∙ ap (λ (l : List ℕ). get_or s i 0 ∷ get_or s (i + 1) 0 ∷ get_or s (i + 2) 0 ∷ get_or s (i + 3) 0 ∷ l)
     (rw (plus 5 1 refl, plus 6 2 refl, plus 7 3 refl) at (four_bytes 0 s (i + 4) (omega (arith, h))))
   where
     plus : (k j : ℕ) → k ≡ 4 + j → i + 4 + j ≡ i + k
     plus k j e = omega (arith, e)
+
+pub eight_bytes :
+    (s : List ℕ) (i m n : ℕ) → i + 8 ≤ length s → IsWord 4 s i m → IsWord 4 s (i + 4) n → IsWord 8 s i (n * 4294967296 + m)
+eight_bytes s i m n h p q =
+    let f = four_bytes 0 s i (omega (arith, h)) in
+    let d = rw f at p.1 in
+    rw (four_bytes 4 s i (omega (arith, h))) (omega (arith, rw f at p.0, q.0), (d.0, (d.1.0, (d.1.1.0, (d.1.1.1.0, q.1)))))
 
 -- ---- pieces
 
