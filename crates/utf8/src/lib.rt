@@ -41,7 +41,8 @@ fn end_of(text: &[u8], from: usize, left: Rest) -> Option<usize>
 }
 
 // Where the characters of one row end, from the place on: a first byte lies from low to high, as the one at the place is known to, and
-// this is left after it. Compiled, each row has a loop of its own, whose bounds are constants.
+// this is left after it. Compiled, each row has a loop of its own, whose bounds are constants. It goes on from where a character ended, so
+// it is no `for`.
 fn past_row(text: &[u8], from: usize, low: u8, high: u8, left: Rest) -> Option<usize>
     requires from_in_bounds { from < length text.now }
     requires left_value { leaves low high (ranges left) ≡ true }
