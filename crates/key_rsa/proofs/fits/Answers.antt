@@ -1,6 +1,6 @@
 -- `key_rsa::fits` meets its contract: a part has no more bytes than its length says, and bytes that the modulus's bits fill are within them.
 -- Rests on the law `short_fits` of bits, and on `at_most`.
-use Rattle.std.proofs.Common.{ℕ, ◌+◌, ◌≤◌, List, leb, length, arith, sym, ◌∙◌}
+use Rattle.std.proofs.Common.{ℕ, ◌+◌, ◌≤◌, List, leb, length, arith}
 use borrow.Author.Tests.{leb-true, leb-false}
 use Rattle.fields.specs.Fields.{view_of}
 use Rattle.fields.specs.Place.{by_bool}
