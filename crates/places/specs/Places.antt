@@ -46,6 +46,10 @@ slots_from l i (suc n) h =
 pub list_all : (l : List ℕ) → length l ≡ 16 → slots 0 16 l ≡ l
 list_all l h = slots_from l 0 16 h
 
+-- so two arrays of sixteen are compared as their lists are
+same_lists : (p q : Places) → length p.all ≡ 16 → length q.all ≡ 16 → same_bytes (list_of p) (list_of q) ≡ same_places p q
+same_lists p q h k = ap₂ same_bytes (list_all p.all h) (list_all q.all k)
+
 pub pushed_list : (x : ℕ) (l : List ℕ) → pushed x (places_of l) ≡ places_of (x ∷ l)
 pushed_list x l = refl
 
