@@ -1,5 +1,5 @@
 -- A scalar's string, at any size: what its bytes say of zeros, length and place.
-use Rattle.std.specs.Prelude.{ℕ, zero, suc, ◌+◌, ◌-◌, ◌≤◌, ◌<◌, ◌≡◌, refl, Bool, true, false, ◌||◌, List, ltb, leb, eqb, length, get_or}
+use Rattle.std.specs.Prelude.{ℕ, zero, suc, ◌+◌, ◌≤◌, ◌<◌, ◌≡◌, refl, Bool, true, false, ◌||◌, List, ltb, leb, eqb, length, get_or}
 use Rattle.std.proofs.Common.{arith, ltb-true, leb-true, leb-false, eqb-true, lt-ltb, le-leb}
 use Rattle.fields.specs.Bytes.{both_true}
 use Rattle.fields.specs.Fields.{view_of}

@@ -1,6 +1,6 @@
 -- docs/RULES.md, 9.4: a record holds sixteen places. A list as sixteen numbers.
-use Rattle.std.specs.Prelude.{ℕ, zero, suc, ◌+◌, ◌-◌, ◌≤◌, ◌≡◌, refl, Bool, true, cond, ◌&&◌, List, [], ◌∷◌, eqb, ltb, length, get_or, take, drop}
-use Rattle.std.proofs.Common.{add-one, arith, sym, ◌∙◌, ap, ap₂, eq-eqb, lt-ltb, drop-cons, drop_of_length-le, min, leb, leb-true, leb-false, take_all, length-drop}
+use Rattle.std.specs.Prelude.{ℕ, zero, suc, ◌+◌, ◌-◌, ◌≤◌, ◌≡◌, refl, Bool, true, cond, List, [], ◌∷◌, ltb, length, get_or, take, drop}
+use Rattle.std.proofs.Common.{add-one, arith, sym, ◌∙◌, ap, ap₂, lt-ltb, drop-cons, drop_of_length-le, min, leb, leb-true, leb-false, take_all, length-drop}
 use Rattle.fields.specs.Bytes.{same_bytes, same_true, same_self}
 use Rattle.fields.specs.Place.{by_bool}
 use Rattle.places.specs.declared.Places.{Places}
