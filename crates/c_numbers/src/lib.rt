@@ -3,6 +3,7 @@
 #![tactic(auto)]
 
 ghost use Rattle.std.specs.Prelude.{◌≡◌};
+ghost use Rattle.fields.specs.Fields.{part};
 ghost use Rattle.c_numbers.specs.Numbers.{place_of, refused_image, accepted_image, image_of, half_image, header_of, refused_key, accepted_key, looked_key};
 
 use fields::{Fault, Part, Refusal};
@@ -14,14 +15,14 @@ use reader_image::Fields;
 
 // Where a field stands; 0 and 0 where the image has none.
 #[repr(C)]
-#[derive(Clone, Copy, PartialEq, Eq)]
+#[derive(Clone, Copy, Default, PartialEq, Eq)]
 pub struct Place {
     pub start: u64,
     pub length: u64,
 }
 
 #[repr(C)]
-#[derive(Clone, Copy, PartialEq, Eq)]
+#[derive(Clone, Copy, Default, PartialEq, Eq)]
 pub struct Image {
     pub number: u64,
     pub count: u64,
@@ -54,7 +55,7 @@ pub struct Image {
 
 // One key of an image.
 #[repr(C)]
-#[derive(Clone, Copy)]
+#[derive(Clone, Copy, Default)]
 pub struct Key {
     pub number: u64,
     pub count: u64,
@@ -84,45 +85,15 @@ impl From<Part> for Place {
     }
 }
 
-impl Place {
-    // Of a field that the image doesn't have.
-    const ABSENT: Place = Place {
-        start: 0,
-        length: 0,
-    };
-}
+impl From<Place> for Part {
+    ghost from_gives = { λ place stands. stands ≡ part place.start place.length };
 
-impl Image {
-    // Nothing of an image.
-    const NOTHING: Image = Image {
-        number: 0,
-        count: 0,
-        at: 0,
-        kind: 0,
-        algorithm: 0,
-        cipher: 0,
-        kdf: 0,
-        rounds: 0,
-        checkint: 0,
-        padding: 0,
-        form: 0,
-        blob: Place::ABSENT,
-        point: Place::ABSENT,
-        scalar: Place::ABSENT,
-        comment: Place::ABSENT,
-        salt: Place::ABSENT,
-        ciphertext: Place::ABSENT,
-        tag: Place::ABSENT,
-        section: 0,
-        bits: 0,
-        modulus: Place::ABSENT,
-        exponent: Place::ABSENT,
-        d: Place::ABSENT,
-        iqmp: Place::ABSENT,
-        p: Place::ABSENT,
-        q: Place::ABSENT,
-        keys: 0,
-    };
+    fn from(place: Place) -> Part {
+        Part {
+            start: place.start as usize,
+            length: place.length as usize,
+        }
+    }
 }
 
 fn refused_image(f: Fault) -> Image
@@ -132,7 +103,7 @@ fn refused_image(f: Fault) -> Image
         number: f.why.number() as u64,
         count: f.why.count() as u64,
         at: f.at as u64,
-        ..Image::NOTHING
+        ..Image::default()
     }
 }
 
@@ -143,9 +114,6 @@ fn accepted_image(f: Fields, form: bool) -> Image
     let public = header.public;
     let private = section.private;
     Image {
-        number: 0,
-        count: 0,
-        at: 0,
         kind: kind_code(section.kind) as u64,
         algorithm: header.algorithm.code() as u64,
         cipher: cipher_code(header.cipher) as u64,
@@ -170,6 +138,7 @@ fn accepted_image(f: Fields, form: bool) -> Image
         p: private.p.into(),
         q: private.q.into(),
         keys: header.count as u64,
+        ..Image::default()
     }
 }
 
@@ -203,7 +172,7 @@ pub fn half_image(h: Header) -> Image
         modulus: key.modulus.into(),
         exponent: key.exponent.into(),
         keys: h.count as u64,
-        ..Image::NOTHING
+        ..Image::default()
     }
 }
 
@@ -226,18 +195,7 @@ pub fn refused_key(f: Fault) -> Key
         number: f.why.number() as u64,
         count: f.why.count() as u64,
         at: f.at as u64,
-        algorithm: 0,
-        bits: 0,
-        blob: Place::ABSENT,
-        point: Place::ABSENT,
-        scalar: Place::ABSENT,
-        comment: Place::ABSENT,
-        modulus: Place::ABSENT,
-        exponent: Place::ABSENT,
-        d: Place::ABSENT,
-        iqmp: Place::ABSENT,
-        p: Place::ABSENT,
-        q: Place::ABSENT,
+        ..Key::default()
     }
 }
 
@@ -247,9 +205,6 @@ fn accepted_key(f: KeyFields) -> Key
     let public = f.public;
     let pair = f.private;
     Key {
-        number: 0,
-        count: 0,
-        at: 0,
         algorithm: f.algorithm.code() as u64,
         bits: public.bits as u64,
         blob: f.blob.into(),
@@ -262,6 +217,7 @@ fn accepted_key(f: KeyFields) -> Key
         iqmp: pair.iqmp.into(),
         p: pair.p.into(),
         q: pair.q.into(),
+        ..Key::default()
     }
 }
 
