@@ -2,23 +2,13 @@
 #![tactic(auto)]
 
 ghost use Rattle.std.specs.Prelude.{◌≡◌};
-ghost use Rattle.c_handed.specs.Handed.{part_of, code_of, rounds_of, half_from, placed_half, half_of};
+ghost use Rattle.c_handed.specs.Handed.{code_of, rounds_of, half_from, placed_half, half_of};
 
-use c_numbers::{Image, Place};
-use fields::Part;
+use c_numbers::Image;
 use key_public::Public;
 use names::{Algorithm, Cipher, Kdf};
 use names_codes::{algorithm_coded, cipher_coded, kdf_coded};
 use reader_header::Header;
-
-fn part_of(p: Place) -> Part
-    ensures { result ≡ part_of p }
-{
-    Part {
-        start: p.start as usize,
-        length: p.length as usize,
-    }
-}
 
 // A code is a byte, and 255 names nothing.
 #[tactic(auto, unfolding(crate::specs::Handed::code_of))]
@@ -41,19 +31,19 @@ fn half_from(x: Image, algorithm: Algorithm, cipher: Cipher, kdf: Kdf) -> Header
     ensures { result ≡ half_from x algorithm cipher kdf }
 {
     let public = Public {
-        point: part_of(x.point),
-        modulus: part_of(x.modulus),
-        exponent: part_of(x.exponent),
+        point: x.point.into(),
+        modulus: x.modulus.into(),
+        exponent: x.exponent.into(),
         bits: x.bits as usize,
     };
     Header {
         cipher,
         kdf,
-        salt: part_of(x.salt),
+        salt: x.salt.into(),
         rounds: rounds_of(x.rounds),
         count: x.keys as usize,
         algorithm,
-        blob: part_of(x.blob),
+        blob: x.blob.into(),
         public,
         section: x.section as usize,
     }
