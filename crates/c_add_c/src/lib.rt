@@ -1,4 +1,5 @@
 // The addition of a key, exported to C.
+// Each export says word for word what the function of c_add does: the C interface needs it in a static library, which no crate can use.
 #![tactic(auto)]
 
 ghost use Rattle.names.specs.declared.Algorithm.TheVariants.{Rsa};

@@ -1,4 +1,5 @@
 // The text form, exported to C.
+// Each export says word for word what the function of c_armour does: the C interface needs it in a static library, which no crate can use.
 #![tactic(auto)]
 
 ghost use Rattle.std.specs.Prelude.{length};

@@ -1,4 +1,5 @@
 // The comment change, exported to C.
+// Each export says word for word what the function of c_change does: the C interface needs it in a static library, which no crate can use.
 #![tactic(auto)]
 
 ghost use Rattle.edit_file.specs.Edits.{change_reply, change_left};

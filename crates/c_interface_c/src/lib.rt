@@ -1,5 +1,6 @@
 // The number of the C interface that an archive has, exported. Header and Rust crate refer to this name, so that they link only with an
 // archive of their own number.
+// The export says word for word what the function of c_interface does: the C interface needs it in a static library, which no crate can use.
 #![tactic(auto)]
 
 ghost use Rattle.std.specs.Prelude.{◌≡◌};

@@ -1,4 +1,5 @@
 // The full read, exported to C.
+// The export says word for word what the function of c_read does: the C interface needs it in a static library, which no crate can use.
 #![tactic(auto)]
 
 ghost use Rattle.std.specs.Prelude.{◌≡◌};

@@ -1,4 +1,5 @@
 // The removal of a key, exported to C.
+// The export says word for word what the function of c_remove does: the C interface needs it in a static library, which no crate can use.
 #![tactic(auto)]
 
 ghost use Rattle.edit_file.specs.Edits.{remove_reply, remove_left};

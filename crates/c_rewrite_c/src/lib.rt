@@ -1,4 +1,5 @@
 // An image written again, exported to C.
+// The export says word for word what the function of c_rewrite does: the C interface needs it in a static library, which no crate can use.
 #![tactic(auto)]
 
 ghost use Rattle.std.specs.Prelude.{length};

@@ -1,4 +1,5 @@
 // Reconnect settings, exported to C.
+// Each export says word for word what the function of c_settings does: the C interface needs it in a static library, which no crate can use.
 #![tactic(auto)]
 
 ghost use Rattle.std.specs.Prelude.{◌≡◌};

@@ -1,4 +1,5 @@
 // The writers, exported to C.
+// Each export says word for word what the function of c_writing does: the C interface needs it in a static library, which no crate can use.
 #![tactic(auto)]
 
 ghost use Rattle.std.specs.Prelude.{false, length};
