@@ -1,20 +1,21 @@
 -- How many bytes four signs give: three, or two before one `=`, or one before two, with no stray bits; and none where they are not the
 -- signs of some bytes. Rests on the alphabet's rule and on the arithmetic of 24 bits.
-use Prim.Native.Nat.{ℕ, ◌*◌, ◌/◌, ◌%◌, ◌<◌, ◌≤◌}
+use Prim.Native.Nat.{ℕ, zero, suc, ◌*◌, ◌/◌, ◌%◌, ◌<◌, ◌≤◌}
 use native.Mathlib.Omega.{arith}
-use Rattle.std.specs.Prelude.{◌≡◌, Bool, ◌&&◌, List, [], ◌∷◌, eqb, take}
+use Rattle.std.specs.Prelude.{Some, None, ◌≡◌, Bool, ◌&&◌, List, [], ◌∷◌, eqb, take}
 use Rattle.std.proofs.Math.Path.{refl, sym}
 use Rattle.std.proofs.Common.{ap, ◌∙◌, append-nil}
 use Rattle.std.proofs.Math.Bool.{true, false, cond}
 use borrow.Author.Tests.{eq-eqb, ne_eqb, eqb-true, lt-ltb, ltb-true}
 use Rattle.std.proofs.Math.ListN.{length}
 use Rattle.fields.specs.Bytes.{AllBytes, same_bytes, same_true, same_self, both_true}
+use Rattle.fields.specs.Place.{by_bool, clash}
 use Rattle.armour_signs.specs.Alphabet.{signs, sign_of, value_of}
 use Rattle.armour_signs.specs.Rule.{sign_value}
 use Rattle.armour_text.specs.Base64.{pad, bits_of_bytes, bits_of_values, bytes_of_bits, bytes_of_signs, encode, loosely}
 use Rattle.armour_text.specs.Groups.{bits_of, group_0, group_1, group_2, group_3}
 use Rattle.armour_text.specs.Inverse.{sign_0, sign_1, sign_2, sign_3, loosely-encode}
-use Rattle.armour_groups.specs.Kinds.{kind_of, one_of, two_of, three_of}
+use Rattle.armour_groups.specs.Kinds.{kind_of, counted, one_of, two_of, three_of}
 
 -- two tests are the same that hold together
 alike : (a b : Bool) → (a ≡ true → b ≡ true) → (b ≡ true → a ≡ true) → a ≡ b
@@ -44,6 +45,10 @@ pad_value = refl
 
 no_pad : (x : ℕ) → value_of x < 64 → x ≡ pad → ⊥
 no_pad x h e = let f : value_of x ≡ 64 = ap value_of e ∙ pad_value in omega arith
+
+positive : (n : ℕ) → eqb n 0 ≡ false → 0 < n
+positive zero e = clash cc
+positive (suc n) e = omega arith
 
 second_zero : (w x q : ℕ) → x ≡ 16 * q → bits_of_values w x 0 0 / 256 % 256 ≡ 0
 second_zero w x q e = omega arith
@@ -179,6 +184,19 @@ module _ (w x y z : ℕ) (hw : w < 256) (hx : x < 256) (hy : y < 256) (hz : z < 
   pub kind_signs : W < 64 → X < 64 → Y < 64 → Z < 64 → kind_of w x y z ≡ 3
   kind_signs iw ix iy iz =
       sym (kind_three (no_pad y iy) (no_pad z iz) true (sym (both _ _ (lt-ltb W 64 iw) (both _ _ (lt-ltb X 64 ix) (both _ _ (lt-ltb Y 64 iy) (lt-ltb Z 64 iz))))))
+
+-- ---- what an answer says of the number
+
+pub counted_none : (n : ℕ) → counted n ≡ None → n ≡ 0
+unfolding counted
+counted_none n e = by_bool (eqb n 0) (λ t. eqb-true n 0 t) (λ f. let q : Some n ≡ None = rw f at e in clash cc)
+
+pub counted_some : (n m : ℕ) → counted n ≡ Some m → (m ≡ n) × (0 < n)
+unfolding counted
+counted_some n m e =
+    by_bool (eqb n 0)
+    (λ t. let q : None ≡ Some m = rw t at e in clash cc)
+    (λ f. let q : Some n ≡ Some m = rw f at e in (cc, positive n f))
 
 -- ---- laws of the kind
 

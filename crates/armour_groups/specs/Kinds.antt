@@ -1,7 +1,7 @@
 -- How many bytes four signs give: three, or two before one `=`, or one before two, with no stray bits; and none where they are not the
 -- signs of some bytes.
 use Prim.Native.Nat.{ℕ, ◌%◌}
-use Rattle.std.specs.Prelude.{Bool, ◌&&◌, [], ◌∷◌, eqb, ltb}
+use Rattle.std.specs.Prelude.{Option, Some, None, Bool, ◌&&◌, [], ◌∷◌, eqb, ltb}
 use Rattle.std.proofs.Math.Bool.{cond}
 use Rattle.std.proofs.Math.ListN.{length}
 use Rattle.fields.specs.Bytes.{same_bytes}
@@ -9,6 +9,10 @@ use Rattle.armour_text.specs.Base64.{bytes_of_signs, encode}
 
 unfoldable pub kind_of : ℕ → ℕ → ℕ → ℕ → ℕ
 kind_of w x y z = cond (same_bytes (encode (bytes_of_signs w x y z)) (w ∷ x ∷ y ∷ z ∷ [])) (length (bytes_of_signs w x y z)) 0
+
+-- as an answer: there are some, or none
+unfoldable pub counted : ℕ → Option ℕ
+counted n = cond (eqb n 0) None (Some n)
 
 -- ---- what the values must be
 

@@ -3,7 +3,7 @@
 
 ghost use Rattle.std.specs.Prelude.{◌≡◌, ◌&&◌, cond, eqb};
 ghost use Rattle.armour_signs.specs.Alphabet.{value_of};
-ghost use Rattle.armour_groups.specs.Kinds.{kind_of, one_of, two_of};
+ghost use Rattle.armour_groups.specs.Kinds.{kind_of, counted, one_of, two_of};
 
 use armour_signs::{is_sign, value};
 
@@ -22,29 +22,30 @@ fn is_two(w: u8, x: u8, y: u8) -> bool
 }
 
 // Before `=`, and before another.
-fn one(w: u8, x: u8, z: u8) -> usize
-    ensures { result ≡ cond (eqb z 61 && one_of (value_of w) (value_of x)) 1 0 }
+#[tactic(auto, unfolding(crate::specs::Kinds::counted))]
+fn one(w: u8, x: u8, z: u8) -> Option<usize>
+    ensures { result ≡ counted (cond (eqb z 61 && one_of (value_of w) (value_of x)) 1 0) }
 {
     if (z == b'=') & is_one(value(w), value(x)) {
-        return 1;
+        return Some(1);
     }
-    0
+    None
 }
 
 // Before one `=`.
-fn two(w: u8, x: u8, y: u8) -> usize
-    ensures { result ≡ cond (two_of (value_of w) (value_of x) (value_of y)) 2 0 }
+#[tactic(auto, unfolding(crate::specs::Kinds::counted))]
+fn two(w: u8, x: u8, y: u8) -> Option<usize>
+    ensures { result ≡ counted (cond (two_of (value_of w) (value_of x) (value_of y)) 2 0) }
 {
     if is_two(value(w), value(x), value(y)) {
-        return 2;
+        return Some(2);
     }
-    0
+    None
 }
 
-// How many bytes four signs give: three, or two before one `=`, or one before two; 0 where they are not the signs of some bytes, as the
-// contract has it.
-pub fn kind(w: u8, x: u8, y: u8, z: u8) -> usize
-    ensures { result ≡ kind_of w x y z }
+// How many bytes four signs give, if they are the signs of some: three, or two before one `=`, or one before two.
+pub fn kind(w: u8, x: u8, y: u8, z: u8) -> Option<usize>
+    ensures { result ≡ counted (kind_of w x y z) }
 {
     if y == b'=' {
         return one(w, x, z);
@@ -53,7 +54,7 @@ pub fn kind(w: u8, x: u8, y: u8, z: u8) -> usize
         return two(w, x, y);
     }
     if is_sign(w) & (is_sign(x) & (is_sign(y) & is_sign(z))) {
-        return 3;
+        return Some(3);
     }
-    0
+    None
 }

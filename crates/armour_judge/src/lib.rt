@@ -13,7 +13,8 @@ ghost use Rattle.armour_judge.specs.Judge.{Bodies};
 ghost use Rattle.armour_judge.specs.Two.{Pairs};
 ghost use Rattle.armour_judge.specs.Judgement.{judge_of};
 
-// Four signs, the place after them, and how many columns the last one's line has left.
+// Four signs, the place after them, and how many columns the last one's line has left. Place and columns are two numbers here and below,
+// as in the theorems of specs/.
 #[derive(Clone, Copy)]
 pub struct Four {
     pub w: u8,
@@ -164,10 +165,7 @@ fn judge_rest(text: &[u8], from: usize, before: usize) -> Option<usize>
     let mut n = before;
     while !is_end(text, at) {
         let four = group_at(text, at, left)?;
-        let m = armour_groups::kind(four.w, four.x, four.y, four.z);
-        if m == 0 {
-            return None;
-        }
+        let m = armour_groups::kind(four.w, four.x, four.y, four.z)?;
         if m < 3 {
             if is_end(text, four.at) {
                 return Some(n + m);
