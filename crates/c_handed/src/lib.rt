@@ -10,7 +10,7 @@ use names::{Algorithm, Cipher, Kdf};
 use names_codes::{algorithm_coded, cipher_coded, kdf_coded};
 use reader_header::Header;
 
-// A code is a byte, and 255 names nothing.
+// A code is a byte, and 255 names nothing: no `Option`, as `code_of` and `rounds_of`, under `half_own`, are numbers.
 #[tactic(auto, unfolding(crate::specs::Handed::code_of))]
 fn code_of(number: u64) -> u8
     ensures { result ≡ code_of number }

@@ -1,5 +1,5 @@
 // What a read found, the header read alone, or of one key, in plain numbers: the structs of the functions for C that
-// read.
+// read. Their layout is the C interface's: a code for each kind, and 0 for what isn't there.
 #![tactic(auto)]
 
 ghost use Rattle.std.specs.Prelude.{◌≡◌};
