@@ -1,13 +1,13 @@
 // Import: the bytes that the text of an armoured file carries.
 //
+// Text, values and buffer go side by side: a struct that lends the three would bring a loan into each contract.
 // All of the text is judged first, and only then decoded, so a refused import has written nothing.
 #![tactic(auto)]
 
-ghost use Rattle.std.specs.Prelude.{◌≡◌, ◌+◌, ◌/◌, ◌%◌, ◌≤◌, ◌<◌, length, take, drop};
+ghost use Rattle.std.specs.Prelude.{◌≡◌, ◌+◌, ◌/◌, ◌%◌, ◌≤◌, ◌<◌, length, drop};
 ghost use Rattle.std.proofs.lemmas.List.Edits.{sets};
 ghost use Rattle.writer_reply.specs.Reply.{Answers};
-ghost use Rattle.armour_signs.specs.Alphabet.{value_of, values};
-ghost use Rattle.armour_text.specs.Base64.{bits_of_values, bytes_of_bits};
+ghost use Rattle.armour_text.specs.Base64.{bytes_of_bits};
 ghost use Rattle.armour_text.specs.Import.{carried, import_reply, import_left};
 ghost use Rattle.armour_judge.specs.Rest.{EndedAt};
 ghost use Rattle.armour_judge.specs.Signs.{FourAt};
@@ -15,8 +15,11 @@ ghost use Rattle.armour_import.specs.Fill.{Ready, Lines};
 ghost use Rattle.armour_import.specs.FillTwo.{Full, Feed};
 ghost use Rattle.armour_import.specs.Reply.{Body};
 
+mod values;
+
 use armour_judge::Four;
 use fields::Refusal;
+use values::Values;
 use writer_reply::Written;
 
 // Past a line end of a text that was judged.
@@ -68,32 +71,6 @@ fn four_at(text: &[u8], at: usize, left: usize) -> Four
     }
 }
 
-fn value(table: &[u8], sign: u8) -> u8
-    requires { table.now ≡ values }
-    ensures { result ≡ value_of sign }
-{
-    table[sign as usize]
-}
-
-fn bits(w: u8, x: u8, y: u8, z: u8) -> u32
-    ensures { result ≡ bits_of_values w x y z }
-{
-    (((w as u32) * 64 + (x as u32)) * 64 + (y as u32)) * 64 + (z as u32)
-}
-
-// The 24 bits of four signs.
-fn bits_of(table: &[u8], w: u8, x: u8, y: u8, z: u8) -> u32
-    requires { table.now ≡ values }
-    ensures { result ≡ bits_of_values (value_of w) (value_of x) (value_of y) (value_of z) }
-{
-    bits(
-        value(table, w),
-        value(table, x),
-        value(table, y),
-        value(table, z),
-    )
-}
-
 // The bytes of 24 bits.
 fn bytes_of(n: u32) -> [u8; 3]
     ensures { result ≡ bytes_of_bits n }
@@ -115,18 +92,17 @@ fn store_three(out: &mut [u8], o: usize, n: u32)
     out[o + 2] = c;
 }
 
-fn store_two(out: &mut [u8], o: usize, n: u32)
-    requires { o + 2 ≤ length out.old }
-    ensures { out.new ≡ sets out.old o (take 2 (bytes_of_bits n)) }
-{
-    let [a, b, _] = bytes_of(n);
-    out[o] = a;
-    out[o + 1] = b;
-}
-
 // The last bytes of a text that was judged, those from o on, fewer than three. The value of `A` is 0.
-fn fill_rest(text: &[u8], at: usize, left: usize, table: &[u8], o: usize, n: usize, out: &mut [u8])
-    requires table_value { (table.now ≡ values) × Body text.now n × Lines text.now (carried text.now) o at left }
+fn fill_rest(
+    text: &[u8],
+    at: usize,
+    left: usize,
+    values: &Values,
+    o: usize,
+    n: usize,
+    out: &mut [u8],
+)
+    requires body { Body text.now n × Lines text.now (carried text.now) o at left }
     requires o_le_n { (o ≤ n) × (n < o + 3) × (n ≤ length out.old) × (left % 2 ≡ 0) }
     ensures { out.new ≡ sets out.old o (drop o (carried text.now)) }
 {
@@ -135,16 +111,18 @@ fn fill_rest(text: &[u8], at: usize, left: usize, table: &[u8], o: usize, n: usi
     }
     let f = four_at(text, at, left);
     if n - o == 1 {
-        let [a, _, _] = bytes_of(bits_of(table, f.w, f.x, b'A', b'A'));
+        let [a, _, _] = bytes_of(values.bits_of(f.w, f.x, b'A', b'A'));
         out[o] = a;
         return;
     }
-    store_two(out, o, bits_of(table, f.w, f.x, f.y, b'A'));
+    let [a, b, _] = bytes_of(values.bits_of(f.w, f.x, f.y, b'A'));
+    out[o] = a;
+    out[o + 1] = b;
 }
 
 // The bytes of seventeen groups that come next in their line.
-fn fill_run(text: &[u8], at: usize, table: &[u8], o: usize, out: &mut [u8])
-    requires { (table.now ≡ values) × Full text.now (carried text.now) at o × (o + 51 ≤ length out.old) }
+fn fill_run(text: &[u8], at: usize, values: &Values, o: usize, out: &mut [u8])
+    requires { Full text.now (carried text.now) at o × (o + 51 ≤ length out.old) }
     ensures { (sets out.new (o + 51) (drop (o + 51) (carried text.now)) ≡ sets out.old o (drop o (carried text.now))) × (length out.new ≡ length out.old) }
 {
     for i in 0..17 {
@@ -152,33 +130,33 @@ fn fill_run(text: &[u8], at: usize, table: &[u8], o: usize, out: &mut [u8])
         store_three(
             out,
             o + 3 * i,
-            bits_of(table, text[p], text[p + 1], text[p + 2], text[p + 3]),
+            values.bits_of(text[p], text[p + 1], text[p + 2], text[p + 3]),
         );
     }
 }
 
 // The bytes of two whole lines that come next, and the place past them. The line end between them parts a group.
-fn fill_two(text: &[u8], at: usize, table: &[u8], o: usize, out: &mut [u8]) -> usize
-    requires table_value { (table.now ≡ values) × Lines text.now (carried text.now) o at 0 }
+fn fill_two(text: &[u8], at: usize, values: &Values, o: usize, out: &mut [u8]) -> usize
+    requires lines { Lines text.now (carried text.now) o at 0 }
     requires o_in_bounds { (o + 105 ≤ length (carried text.now)) × (o + 105 ≤ length out.old) }
     ensures lines { Lines text.now (carried text.now) (o + 105) result 0 }
     ensures text_after { (sets out.new (o + 105) (drop (o + 105) (carried text.now)) ≡ sets out.old o (drop o (carried text.now))) × (length out.new ≡ length out.old) }
 {
     let p = after_end(text, at);
     let q = after_end(text, p + 70);
-    fill_run(text, p, table, o, out);
+    fill_run(text, p, values, o, out);
     store_three(
         out,
         o + 51,
-        bits_of(table, text[p + 68], text[p + 69], text[q], text[q + 1]),
+        values.bits_of(text[p + 68], text[p + 69], text[q], text[q + 1]),
     );
-    fill_run(text, q + 2, table, o + 54, out);
+    fill_run(text, q + 2, values, o + 54, out);
     q + 70
 }
 
 // The bytes from `done` on; `fill` leaves fewer than 105 to it.
-fn fill_last(text: &[u8], from: usize, table: &[u8], done: usize, n: usize, out: &mut [u8])
-    requires table_value { (table.now ≡ values) × Body text.now n × Lines text.now (carried text.now) done from 0 }
+fn fill_last(text: &[u8], from: usize, values: &Values, done: usize, n: usize, out: &mut [u8])
+    requires body { Body text.now n × Lines text.now (carried text.now) done from 0 }
     requires done_le_n { (done ≤ n) × (n ≤ length out.old) }
     ensures { out.new ≡ sets out.old done (drop done (carried text.now)) }
 {
@@ -187,26 +165,26 @@ fn fill_last(text: &[u8], from: usize, table: &[u8], done: usize, n: usize, out:
     let mut o = done;
     while 3 <= n - o {
         let f = four_at(text, at, left);
-        store_three(out, o, bits_of(table, f.w, f.x, f.y, f.z));
+        store_three(out, o, values.bits_of(f.w, f.x, f.y, f.z));
         o += 3;
         at = f.at;
         left = f.left;
     }
-    fill_rest(text, at, left, table, o, n, out);
+    fill_rest(text, at, left, values, o, n, out);
 }
 
 // The bytes of a text that was judged, of which there are n. Each step says where the next begins, so here and above it is no `for`.
-fn fill(text: &[u8], table: &[u8], n: usize, out: &mut [u8])
-    requires { (table.now ≡ values) × Body text.now n × (n ≤ length out.old) }
+fn fill(text: &[u8], values: &Values, n: usize, out: &mut [u8])
+    requires { Body text.now n × (n ≤ length out.old) }
     ensures { out.new ≡ sets out.old 0 (carried text.now) }
 {
     let mut at: usize = 35;
     let mut o: usize = 0;
     while 105 <= n - o {
-        at = fill_two(text, at, table, o, out);
+        at = fill_two(text, at, values, o, out);
         o += 105;
     }
-    fill_last(text, at, table, o, n, out);
+    fill_last(text, at, values, o, n, out);
 }
 
 // The bytes that the text carries at the start of the buffer. Refused, which changes nothing: 2 for any text but export's, with
@@ -223,6 +201,6 @@ pub fn import(text: &[u8], out: &mut [u8]) -> Written
     if out.len() < n {
         return writer_reply::refused(Refusal::Room);
     }
-    fill(text, &armour_signs::value_table(), n, out);
+    fill(text, &Values::new(), n, out);
     Ok(n)
 }

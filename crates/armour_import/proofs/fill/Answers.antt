@@ -4,12 +4,12 @@ use Rattle.armour_import.proofs.fill.Goals as goal
 
 pub fill_two-at-requires : goal.fill_two-at-requires
 fill_two-at-requires c = record {
-  table_value = (c.requires.0, c.loop-o.invariant.1);
-  o_in_bounds = (omega (arith, c.loop-o-test.true, c.requires.1.size, c.loop-o.invariant.0), omega (arith, c.loop-o-test.true, c.requires.2, c.loop-o.invariant.0, c.loop-o.invariant.3));
+  lines = c.loop-o.invariant.1;
+  o_in_bounds = (omega (arith, c.loop-o-test.true, c.requires.0.size, c.loop-o.invariant.0), omega (arith, c.loop-o-test.true, c.requires.1, c.loop-o.invariant.0, c.loop-o.invariant.3));
 }
 
 pub fill_last-requires : goal.fill_last-requires
 fill_last-requires c = record {
-  table_value = (c.requires.0, c.requires.1, c.loop-o.invariant.1);
-  done_le_n = (c.loop-o.invariant.0, omega (arith, c.requires.2, c.loop-o.invariant.3));
+  body = (c.requires.0, c.loop-o.invariant.1);
+  done_le_n = (c.loop-o.invariant.0, omega (arith, c.requires.1, c.loop-o.invariant.3));
 }

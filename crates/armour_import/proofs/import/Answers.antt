@@ -11,7 +11,7 @@ returns-then-out-n c = let a = c.args in
     rw c.refused-then-out-n.ensures (no_room a.text.now a.out.now _ (judged_body _ _ (rw c.in-Some.is at c.judge.ensures)) c.if-n-gt65535.false c.if-out-n.true)
 
 pub fill-requires : goal.fill-requires
-fill-requires c = (c.value_table.ensures, judged_body _ _ (rw c.in-Some.is at c.judge.ensures), c.if-out-n.false)
+fill-requires c = (judged_body _ _ (rw c.in-Some.is at c.judge.ensures), c.if-out-n.false)
 
 pub returns-in_default : goal.returns-in_default
 returns-in_default c = let a = c.args in rw c.refused.ensures (refused_text a.text.now a.out.now (rw c.in_default.is at c.judge.ensures))
