@@ -10,6 +10,6 @@ loop-p-preserved c = let l = c.loop-p.invariant in
 
 pub put_rest-requires : goal.put_rest-requires
 put_rest-requires c = record {
-  at_in_bounds = (omega (arith, c.loop-p.invariant.1), c.requires.2);
+  at_in_bounds = omega (arith, c.loop-p.invariant.1);
   next_in_bounds = (c.loop-p.invariant.0.end, omega (arith, c.loop-p-test.false));
 }

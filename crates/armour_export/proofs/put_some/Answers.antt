@@ -9,6 +9,6 @@ pub twelve_in_line-requires : goal.twelve_in_line-requires
 twelve_in_line-requires c = let a = c.args in
     let i : a.p.next + 12 ≤ length a.bytes.now = omega (arith, c.if-bytes-p-lt12.false) in
     record {
-      at_in_bounds = (omega (arith, room_twelve a.bytes.now a.out.now a.p.at a.p.left a.p.next i c.requires.0), i, c.requires.2);
+      at_in_bounds = (omega (arith, room_twelve a.bytes.now a.out.now a.p.at a.p.left a.p.next i c.requires.0), i);
       le_left = omega (arith, c.if-p-lt16.false);
     }

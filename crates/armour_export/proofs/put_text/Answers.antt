@@ -7,7 +7,7 @@ use Rattle.armour_export.proofs.put_text.Goals as goal
 pub put_signs-end-requires : goal.put_signs-end-requires
 unfolding opening
 put_signs-end-requires c = let a = c.args in
-    (signs_room a.bytes.now a.out.now c.requires _ _ c.put.ensures, refl, c.sign_table-table.ensures)
+    (signs_room a.bytes.now a.out.now c.requires _ _ c.put.ensures, refl)
 
 pub put_end-requires : goal.put_end-requires
 unfolding opening
