@@ -96,6 +96,8 @@ impl From<Place> for Part {
     }
 }
 
+// A place is converted by `From`, and all that a read answers by a function with the name of its definition, as docs/CONTRACTS.md has them.
+
 fn refused_image(f: Fault) -> Image
     ensures { result ≡ refused_image f }
 {
