@@ -11,7 +11,7 @@ ghost use Rattle.c_settings.specs.Settings.{setting_of};
 use c_reply::{Reply, reply_of};
 use fields::Refusal;
 
-// A setting in plain numbers. Refused or empty, all after `number` is 0.
+// A setting in plain numbers, laid out as the C interface has it. Refused or empty, all after `number` is 0.
 #[repr(C)]
 #[derive(Clone, Copy, Debug, PartialEq, Eq)]
 pub struct Setting {
@@ -21,6 +21,7 @@ pub struct Setting {
     pub milliseconds: u64,
 }
 
+// A function and no `From`, as c_numbers has it: the contract names the definition.
 #[tactic(auto, unfolding(crate::specs::Settings::setting_of, setting_record::specs::Bits::told_setting))]
 fn setting_of(answer: Result<Option<setting_record::Setting>, Refusal>) -> Setting
     ensures { result ≡ setting_of answer }

@@ -12,7 +12,7 @@ ghost use Rattle.setting_record.specs.Record.{record_at, read_reply, write_reply
 use fields::{Cursor, Refusal};
 use writer_reply::Written;
 
-// A kind of key, by its code, and a delay.
+// A kind of key and a delay. The kind is its code: `told_setting` and the theorems of claims/Settings tell it as the record's number.
 #[derive(Clone, Copy, Debug, PartialEq, Eq)]
 pub struct Setting {
     pub kind: u8,
@@ -95,7 +95,8 @@ pub fn writable(version: u8, milliseconds: u64) -> bool
     milliseconds % one == 0 && milliseconds / one < 16777216
 }
 
-// A setting as a record's number, or why there is none.
+// A setting as a record's number, or why there is none. What is asked for comes as the numbers that the C interface hands in, any of
+// them: here those that are none are refused.
 #[tactic(auto, unfolding(crate::specs::Packing::pack_of, crate::specs::Packing::writable, crate::specs::Bits::is_version, crate::specs::Bits::unit))]
 pub fn pack(version: u8, kind: u8, milliseconds: u64) -> Result<u32, Refusal>
     ensures { result ≡ pack_of version kind milliseconds }
