@@ -24,6 +24,8 @@ pub fn same_public(a: Public, b: Public) -> bool
     a == b // bits too
 }
 
+// Each kind by a function of its own, and a header field by field: the cases of the three kinds together are too many for the
+// proof of the derived `==` of a whole header.
 fn same_cipher(a: Cipher, b: Cipher) -> bool
     ensures { result ≡ eqb (cipher_code a) (cipher_code b) }
 {

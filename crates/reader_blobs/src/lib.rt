@@ -1,4 +1,5 @@
 // The public blobs of a container, one after the other.
+// An image and its cursor are two parameters, since a struct of both would put a reference into each answer.
 #![tactic(auto)]
 
 ghost use Rattle.std.specs.Prelude.{◌≡◌};

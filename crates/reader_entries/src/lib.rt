@@ -1,5 +1,6 @@
 // A key of a plain section: its keypair, held to the blob of its number, and its comment. The definitions are of one
-// key after the other.
+// key after the other. An image and its cursor are two parameters, since a struct of both would put a reference into each
+// answer; kind and public key are two, as in those definitions and in the fields of a header.
 #![tactic(auto)]
 
 ghost use Rattle.std.specs.Prelude.{◌≡◌};

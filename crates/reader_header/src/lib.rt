@@ -1,4 +1,5 @@
 // The container's header: magic, cipher, KDF with its options, key count, public blobs.
+// An image and its cursor are two parameters, since a struct of both would put a reference into each answer.
 #![tactic(auto)]
 
 ghost use Rattle.std.specs.Prelude.{◌≡◌};
