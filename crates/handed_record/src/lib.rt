@@ -1,7 +1,7 @@
 // Records that are handed in: is every field what an accepted read of the image gives?
 #![tactic(auto)]
 
-ghost use Rattle.std.specs.Prelude.{◌≡◌, eqb};
+ghost use Rattle.std.specs.Prelude.{◌≡◌};
 ghost use Rattle.handed_record.specs.Judge.{kind_code, same_private, same_section, is_read};
 
 use handed_header::same_header;
@@ -9,7 +9,7 @@ use key_pairs::Private;
 use reader_image::Fields;
 use reader_section::{Kind, Section};
 
-// 1 plain, 2 encrypted.
+// 1 plain, 2 encrypted: the C interface's numbers.
 pub fn kind_code(kind: Kind) -> u8
     ensures { result ≡ kind_code kind }
 {
@@ -26,24 +26,11 @@ pub fn same_private(a: Private, b: Private) -> bool
     a == b // every part
 }
 
-fn same_kind(a: Kind, b: Kind) -> bool
-    ensures { result ≡ eqb (kind_code a) (kind_code b) }
-{
-    a == b
-}
-
 #[tactic(auto, unfolding(crate::specs::Judge::same_section, crate::specs::Judge::same_private))]
 pub fn same_section(a: Section, b: Section) -> bool
     ensures { result ≡ same_section a b }
 {
-    same_kind(a.kind, b.kind)
-        && a.checkint == b.checkint
-        && a.padding == b.padding
-        && a.private == b.private
-        && a.comment == b.comment
-        && a.places == b.places
-        && a.ciphertext == b.ciphertext
-        && a.tag == b.tag
+    a == b
 }
 
 #[tactic(auto, unfolding(crate::specs::Judge::is_read))]

@@ -135,7 +135,8 @@ fn others_in_form(image: &[u8], b: Cursor, places: &[u16]) -> bool
 }
 
 // Do all scalars of a record stand so, the first key's and those of the others, whose blobs are from `second` on? Of an
-// image's own record, that is whether the image is in the writer's form.
+// image's own record, that is whether the image is in the writer's form. No record is handed in: of any record the sum
+// `second` could be too large for a number.
 #[tactic(auto, unfolding(crate::specs::Form::scalars_in_form), using(places::specs::Places::others_listed))]
 pub fn scalars_in_form(
     image: &[u8],

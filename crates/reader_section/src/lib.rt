@@ -1,4 +1,5 @@
 // The container's section: plain, with its keys and padding, or encrypted, with its tag.
+// An image and its cursor are two parameters, since a struct of both would put a reference into each answer.
 #![tactic(auto)]
 
 ghost use Rattle.std.specs.Prelude.{◌≡◌, ◌<◌, take};
@@ -23,7 +24,7 @@ pub enum Kind {
 // comment are the first key's, and places says where each key begins. A scalar's place is that of its bytes
 // without leading zeros; for Ed25519 the seed's. The order is for speed: a number stands between
 // private and comment, and each is then copied by itself.
-#[derive(Clone, Copy)]
+#[derive(Clone, Copy, PartialEq, Eq)]
 pub struct Section {
     pub padding: usize,
     pub private: Private,
@@ -33,6 +34,16 @@ pub struct Section {
     pub places: Places,
     pub ciphertext: Part,
     pub tag: Part,
+}
+
+// What the public blobs say of a section's keys: the first one's kind and public key, where the next blob begins, and how
+// many more there are.
+#[derive(Clone, Copy)]
+struct Blobs {
+    algorithm: Algorithm,
+    public: Public,
+    next: Cursor,
+    more: usize,
 }
 
 // Two checkints, which must be equal.
@@ -91,7 +102,9 @@ fn plain(checkint: u32, padding: usize, private: Private, comment: Part, places:
     }
 }
 
-// Where so many keys from c on begin, their blobs from b on, and the place after the last.
+// Where so many keys from c on begin, their blobs from b on, and the place after the last. It calls itself, as was asked
+// (docs/DECISIONS.md, 133): a key's place goes before those of the keys after it.
+#[tactic(auto, using(crate::specs::Section::more_none, crate::specs::Section::more_next))]
 fn read_more(c: Cursor, image: &[u8], b: Cursor, remaining: usize) -> Read<Places>
     ensures { result ≡ read_more image.now c b remaining }
 {
@@ -104,7 +117,9 @@ fn read_more(c: Cursor, image: &[u8], b: Cursor, remaining: usize) -> Read<Place
     Ok((places.push(c.at), end))
 }
 
-// The same. After a key alone nothing is called.
+// The same. After a key alone nothing is called: what a function that calls itself answers is handed up by copies
+// (docs/DECISIONS.md, 136).
+#[tactic(auto, using(crate::specs::Section::more_none))]
 fn read_others(c: Cursor, image: &[u8], b: Cursor, more: usize) -> Read<Places>
     ensures { result ≡ read_more image.now c b more }
 {
@@ -123,24 +138,21 @@ fn read_end(c: Cursor, image: &[u8], past: Cursor) -> Result<(), Fault>
     past.finish()
 }
 
-// The keys from c on, the padding after the last and the image's end: one key of this algorithm and public key, and
-// so many more, their blobs from b on. The first key's two parts are read one by one: as one entry they would be copied once more.
+// The keys from c on, those of these blobs, the padding after the last and the image's end. The first key's two parts are
+// read one by one: as one entry they would be copied once more.
 #[tactic(auto, unfolding(crate::specs::Section::followed_at), using(crate::specs::Section::keys_followed, reader_entries::proofs::Pairing::entry_paired))]
 fn read_keys(
     c: Cursor,
     image: &[u8],
-    algorithm: Algorithm,
-    public: Public,
-    b: Cursor,
-    more: usize,
+    blobs: Blobs,
     checkint: u32,
     past: Cursor,
 ) -> Result<Section, Fault>
-    ensures { result ≡ ended_at past (closed_at image.now checkint (keys_at image.now c algorithm public b more)) }
+    ensures { result ≡ ended_at past (closed_at image.now checkint (keys_at image.now c blobs.algorithm blobs.public blobs.next blobs.more)) }
 {
-    let (private, next) = reader_entries::read_pair(c, image, algorithm, public)?;
+    let (private, next) = reader_entries::read_pair(c, image, blobs.algorithm, blobs.public)?;
     let (comment, next) = reader_entries::read_comment(next, image)?;
-    let (others, end) = read_others(next, image, b, more)?;
+    let (others, end) = read_others(next, image, blobs.next, blobs.more)?;
     read_end(end, image, past)?;
     Ok(plain(
         checkint,
@@ -151,28 +163,20 @@ fn read_keys(
     ))
 }
 
-// The inside of a plain section, of which c is the whole, and the image's end. The first key is of this algorithm
-// and public key; so many more have their blobs from b on.
+// The inside of a plain section, of which c is the whole, and the image's end. Its keys are those of these blobs.
 #[tactic(auto, unfolding(crate::specs::Section::content_at, crate::specs::Section::ended_at))]
-fn read_content(
-    c: Cursor,
-    image: &[u8],
-    algorithm: Algorithm,
-    public: Public,
-    b: Cursor,
-    more: usize,
-    past: Cursor,
-) -> Result<Section, Fault>
-    ensures { result ≡ ended_at past (content_at image.now c algorithm public b more) }
+fn read_content(c: Cursor, image: &[u8], blobs: Blobs, past: Cursor) -> Result<Section, Fault>
+    ensures { result ≡ ended_at past (content_at image.now c blobs.algorithm blobs.public blobs.next blobs.more) }
 {
     if c.remaining() % 8 != 0 {
         return Err(Refusal::Length.at(c.at));
     }
     let (checkint, next) = read_checkints(c, image)?;
-    read_keys(next, image, algorithm, public, b, more, checkint, past)
+    read_keys(next, image, blobs, checkint, past)
 }
 
-// A plain section and the image's end; what is wrong within the section comes first.
+// A plain section and the image's end; what is wrong within the section comes first. The first key is of this algorithm
+// and public key; so many more have their blobs from b on. They come one by one, since this crate knows no header.
 #[tactic(auto, unfolding(crate::specs::Section::plain_at))]
 pub fn read_plain(
     c: Cursor,
@@ -189,7 +193,13 @@ pub fn read_plain(
         at: section.start,
         end: section.start + section.length,
     };
-    read_content(inside, image, algorithm, public, b, more, past)
+    let blobs = Blobs {
+        algorithm,
+        public,
+        next: b,
+        more,
+    };
+    read_content(inside, image, blobs, past)
 }
 
 #[tactic(auto, unfolding(key_pairs::specs::Pairs::scalar_place))]
