@@ -9,26 +9,25 @@ use Rattle.reader_header.specs.declared.Header.{Header}
 use Rattle.reader_header.specs.Header.{header_at, told_header}
 use Rattle.reader_image.specs.Container.{read_at, section_read_at, told_read}
 use Rattle.record_found.specs.declared.Found.{Found}
-use Rattle.record_found.specs.declared.FoundHeader.{FoundHeader}
 use Rattle.reader_image.specs.declared.Fields.{Fields}
 
-abbrev pub found_of : Result Fields Fault → Found
+abbrev pub found_of : Result Fields Fault → Found Fields
 found_of r = record { number = (told_read r).number; count = (told_read r).count; at = (told_read r).at; fields = (told_read r).fields }
 
-unfoldable pub found_at : List ℕ → Found
+unfoldable pub found_at : List ℕ → Found Fields
 found_at s = found_of (read_at s)
 
 -- by a section read, and by a header read
-unfoldable pub section_found_at : List ℕ → Header → Found
+unfoldable pub section_found_at : List ℕ → Header → Found Fields
 section_found_at s half = found_of (section_read_at s half)
 
-unfoldable pub header_found_at : List ℕ → FoundHeader
+unfoldable pub header_found_at : List ℕ → Found Header
 header_found_at s =
     record {
       number = (told_header (header_at s)).number;
       count = (told_header (header_at s)).count;
       at = (told_header (header_at s)).at;
-      half = (told_header (header_at s)).header;
+      fields = (told_header (header_at s)).header;
     }
 
 -- number, count and place are those of a refusal

@@ -15,22 +15,14 @@ use reader_header::Header;
 use reader_image::Fields;
 use reader_section::{Kind, Section};
 
-// The refusal's number, count and place, 0 where the image is accepted, and the fields.
+// The refusal's number, count and place, 0 where the image is accepted, and the fields that were read, a record's or a half's.
+// It isn't a Result, since the replies' promises, `IsReply` and its like, are stated by these three.
 #[derive(Clone, Copy)]
-pub struct Found {
+pub struct Found<T> {
     pub number: u8,
     pub count: usize,
     pub at: usize,
-    pub fields: Fields,
-}
-
-// The same of a header read, and the half.
-#[derive(Clone, Copy)]
-pub struct FoundHeader {
-    pub number: u8,
-    pub count: usize,
-    pub at: usize,
-    pub half: Header,
+    pub fields: T,
 }
 
 // The half of a refused image has no field.
@@ -73,7 +65,7 @@ fn no_fields() -> Fields
 }
 
 #[tactic(auto, unfolding(reader_image::specs::Container::told_read))]
-fn found_of(read: Result<Fields, Fault>) -> Found
+fn found_of(read: Result<Fields, Fault>) -> Found<Fields>
     ensures { result ≡ found_of read }
 {
     match read {
@@ -93,35 +85,36 @@ fn found_of(read: Result<Fields, Fault>) -> Found
 }
 
 #[tactic(auto, unfolding(crate::specs::Found::found_at))]
-pub fn find(image: &[u8]) -> Found
+pub fn find(image: &[u8]) -> Found<Fields>
     ensures { result ≡ found_at image.now }
 {
     found_of(reader_image::read(image))
 }
 
 #[tactic(auto, unfolding(crate::specs::Found::section_found_at))]
-pub fn find_section(image: &[u8], half: Header) -> Found
+pub fn find_section(image: &[u8], half: Header) -> Found<Fields>
     ensures { result ≡ section_found_at image.now half }
 {
     found_of(reader_image::read_section(image, half))
 }
 
+// Not by `found_of`: each is stated by a definition of its own, `told_read` and `told_header`.
 #[tactic(auto, unfolding(crate::specs::Found::header_found_at, reader_header::specs::Header::told_header))]
-pub fn find_header(image: &[u8]) -> FoundHeader
+pub fn find_header(image: &[u8]) -> Found<Header>
     ensures { result ≡ header_found_at image.now }
 {
     match reader_header::read_header(image) {
-        Ok(half) => FoundHeader {
+        Ok(fields) => Found {
             number: 0,
             count: 0,
             at: 0,
-            half,
+            fields,
         },
-        Err(Fault { why, at }) => FoundHeader {
+        Err(Fault { why, at }) => Found {
             number: why.number(),
             count: why.count(),
             at,
-            half: no_header(),
+            fields: no_header(),
         },
     }
 }
@@ -141,13 +134,14 @@ fn held_by(image: &[u8], number: u8) -> &[u8]
     fields::view(image, Part::ABSENT)
 }
 
-pub fn held(image: &[u8], found: Found) -> &[u8]
+// This and the next aren't one generic function: each has its theorem, `held_determined` and `held_half_determined`.
+pub fn held(image: &[u8], found: Found<Fields>) -> &[u8]
     ensures { IsView result image.entry (held_part image.now found.number) }
 {
     held_by(image, found.number)
 }
 
-pub fn held_half(image: &[u8], half: FoundHeader) -> &[u8]
+pub fn held_half(image: &[u8], half: Found<Header>) -> &[u8]
     ensures { IsView result image.entry (held_part image.now half.number) }
 {
     held_by(image, half.number)

@@ -10,7 +10,7 @@ use Rattle.record_found.specs.Found.{found_at, section_found_at, header_found_at
 use Rattle.record_reading.specs.Reply.{IsFound, IsReply, IsSectionReply, IsHeaderReply, Alike, held_alike}
 
 found_determined :
-    (found : Found) (image : Bor (List ℕ)) (n m c d a b : ℕ) (v w : Bor (List ℕ)) (f g : Fields) → IsFound found n c a v f image
+    {X : Type 0} (found : Found X) (image : Bor (List ℕ)) (n m c d a b : ℕ) (v w : Bor (List ℕ)) (f g : X) → IsFound found n c a v f image
     → IsFound found m d b w g image → Alike n m c d a b f g v w
 found_determined found image = held_alike found.number found.count found.at found.fields image
 
@@ -27,5 +27,4 @@ read_section_determined image half = found_determined (section_found_at image.no
 pub read_header_determined :
     (image : Bor (List ℕ)) (n m c d a b : ℕ) (v w : Bor (List ℕ)) (h k : Header) → IsHeaderReply n c a v h image → IsHeaderReply m d b w k image
     → Alike n m c d a b h k v w
-read_header_determined image =
-    held_alike (header_found_at image.now).number (header_found_at image.now).count (header_found_at image.now).at (header_found_at image.now).half image
+read_header_determined image = found_determined (header_found_at image.now) image

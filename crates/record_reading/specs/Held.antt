@@ -100,7 +100,7 @@ read_then_comment image over v number count at fields r w =
 -- ---- a header read, then the section read of the header that it gave, is the full read
 
 -- a header without a refusal was accepted
-found_header : (s : List ℕ) → (header_found_at s).number ≡ 0 → header_at s ≡ Ok (header_found_at s).half
+found_header : (s : List ℕ) → (header_found_at s).number ≡ 0 → header_at s ≡ Ok (header_found_at s).fields
 unfolding header_found_at told_header
 found_header s accepted =
     by_header (header_at s)
@@ -120,11 +120,11 @@ header_then_section image over v n c a m d b half fields h accepted r =
     let read : header_at image.now ≡ Ok half = found_header image.now zero ∙ ap Ok (sym h.3) in
     let found : section_found_at over.now half ≡ found_at image.now = ap (λ (s : List ℕ). section_found_at s half) same ∙ found_section image.now half read in
     let p : Part = held_part image.now (found_at image.now).number in
-    let w : IsView v over p = subst (λ (x : Part). IsView v over x) (ap₂ (λ (s : List ℕ) (f : Found). held_part s f.number) same found) r.4 in (
-      r.0 ∙ ap (λ (f : Found). f.number) found,
-      r.1 ∙ ap (λ (f : Found). f.count) found,
-      r.2 ∙ ap (λ (f : Found). f.at) found,
-      r.3 ∙ ap (λ (f : Found). f.fields) found,
+    let w : IsView v over p = subst (λ (x : Part). IsView v over x) (ap₂ (λ (s : List ℕ) (f : Found Fields). held_part s f.number) same found) r.4 in (
+      r.0 ∙ ap (λ (f : Found Fields). f.number) found,
+      r.1 ∙ ap (λ (f : Found Fields). f.count) found,
+      r.2 ∙ ap (λ (f : Found Fields). f.at) found,
+      r.3 ∙ ap (λ (f : Found Fields). f.fields) found,
       held_view image over v (header_found_at image.now).number p zero h.4 w,
     )
 

@@ -7,7 +7,6 @@ use Rattle.reader_image.specs.declared.Fields.{Fields}
 use Rattle.fields.specs.Fields.{IsView}
 use Rattle.reader_header.specs.declared.Header.{Header}
 use Rattle.record_found.specs.declared.Found.{Found}
-use Rattle.record_found.specs.declared.FoundHeader.{FoundHeader}
 use Rattle.record_found.specs.Found.{found_at, section_found_at, header_found_at, held_part}
 
 -- n, c and a are the number, the count and the place, and what is held is x, over the image itself or over no bytes of it
@@ -15,8 +14,8 @@ abbrev pub IsHeld : {X : Type 0} → ℕ → ℕ → ℕ → X → ℕ → ℕ �
 IsHeld number count at x n c a over y image =
     (n ≡ number) × (c ≡ count) × (a ≡ at) × (y ≡ x) × IsView over image (held_part image.now number)
 
--- number, count and place, the record, and the image that it holds
-abbrev pub IsFound : Found → ℕ → ℕ → ℕ → Bor (List ℕ) → Fields → Bor (List ℕ) → Type 0
+-- number, count and place, the record or the half, and the image that it holds
+abbrev pub IsFound : {X : Type 0} → Found X → ℕ → ℕ → ℕ → Bor (List ℕ) → X → Bor (List ℕ) → Type 0
 IsFound found number count at over fields image =
     IsHeld found.number found.count found.at found.fields number count at over fields image
 
@@ -27,12 +26,8 @@ abbrev pub IsSectionReply : ℕ → ℕ → ℕ → Bor (List ℕ) → Fields �
 IsSectionReply number count at over fields image half = IsFound (section_found_at image.now half) number count at over fields image
 
 -- a header and its half
-abbrev pub IsFoundHeader : FoundHeader → ℕ → ℕ → ℕ → Bor (List ℕ) → Header → Bor (List ℕ) → Type 0
-IsFoundHeader found number count at over half image =
-    IsHeld found.number found.count found.at found.half number count at over half image
-
 abbrev pub IsHeaderReply : ℕ → ℕ → ℕ → Bor (List ℕ) → Header → Bor (List ℕ) → Type 0
-IsHeaderReply number count at over half image = IsFoundHeader (header_found_at image.now) number count at over half image
+IsHeaderReply number count at over half image = IsFound (header_found_at image.now) number count at over half image
 
 -- ---- any two such replies are alike: in their numbers, in what they hold, and in its bytes and place
 
