@@ -1,6 +1,7 @@
 // Reads an image from standard input and writes the report on it to standard output. One byte more than
 // an image may have is read, so that a longer input is above the limit too. Where a read fails there is no
-// report: why stands on standard error.
+// report: why stands on standard error. Both rooms are of fixed size, the longest input that is looked at and the longest report.
+// `keys` names other words, another room and another function; all that the two share is in standard_streams.
 #![tactic(auto)]
 
 use std::io;

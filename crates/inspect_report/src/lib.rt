@@ -113,6 +113,7 @@ fn put_report(out: &mut [u8], image: &[u8]) -> usize
 pub fn write_report(image: &[u8], out: &mut [u8]) -> Written
     ensures { IsReport image.now out.old result out.new }
 {
+    // A room of its own, with a length beside it: the library allocates nothing.
     let mut text = [0u8; 256];
     let n = put_report(&mut text, image);
     report_parts::hand_text(&text[..n], out)

@@ -39,7 +39,7 @@ fn put_last(out: &mut [u8], at: usize, kind: Kind, comment: usize) -> usize
     }
 }
 
-// The line of a key.
+// The line of a key. Its parameters are all that the line says: so nothing else of the image can be in it.
 fn put_line(
     out: &mut [u8],
     at: usize,
@@ -104,6 +104,7 @@ fn put_report(out: &mut [u8], image: &[u8]) -> usize
 pub fn write_keys_report(image: &[u8], out: &mut [u8]) -> Written
     ensures { IsKeysReport image.now out.old result out.new }
 {
+    // A room of its own, with a length beside it: the library allocates nothing.
     let mut text = [0u8; 1536];
     let n = put_report(&mut text, image);
     report_parts::hand_text(&text[..n], out)
