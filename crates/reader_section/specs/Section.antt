@@ -37,9 +37,9 @@ checkints_at s c =
 unfoldable pub padding_at : List ℕ → Cursor → Tested
 padding_at s c =
     cond (ltb (c.end - c.at) 8)
-    (cond (same_bytes (view_of s (part c.at (c.end - c.at))) (take (c.end - c.at) padding_bytes)) (Ok tt)
-    (Err (fault FormatEncoding c.at)))
-    (Err (fault Length c.at))
+    (cond (same_bytes (view_of s (part c.at (c.end - c.at))) (take (c.end - c.at) padding_bytes))
+    (Ok tt)
+    (Err (fault FormatEncoding c.at))) (Err (fault Length c.at))
 
 abbrev pub plain_of : ℕ → ℕ → Private → Part → Places → Section
 plain_of checkint padding private comment places =
