@@ -46,18 +46,13 @@ pub fn read_comment(c: Cursor, image: &[u8]) -> Read<Part>
     Err(Refusal::CharacterEncoding.at(c.at))
 }
 
-// A private key, and the place after its keypair, which is held to the public key of its blob. RSA and the curves go apart:
-// the compiler then knows what a kind lacks, and neither compares nor copies it.
+// A private key, and the place after its keypair, which is held to the public key of its blob.
 #[tactic(auto, unfolding(crate::specs::Entries::pair_at))]
 pub fn read_pair(c: Cursor, image: &[u8], algorithm: Algorithm, public: Public) -> Read<Private>
     ensures { result ≡ pair_at image.now c algorithm public }
 {
     let ((a, p, private), next) = key_pairs::read_keypair(c, image)?;
-    let same = match a {
-        Algorithm::Rsa => same_key(image, Algorithm::Rsa, p, algorithm, public),
-        Algorithm::Elliptic(_) => same_key(image, a, p, algorithm, public),
-    };
-    if same {
+    if same_key(image, a, p, algorithm, public) {
         return Ok((private, next));
     }
     Err(Refusal::PublicKey.at(c.at))
