@@ -5,6 +5,7 @@
 ghost use Rattle.std.specs.Prelude.{◌≡◌};
 ghost use Rattle.names.specs.declared.Algorithm.TheVariants.{Elliptic as OnCurve, Rsa};
 ghost use Rattle.format.specs.Format.{key_of, of_point, of_scalar, of_modulus, of_numbers};
+ghost use Rattle.writer_plain.specs.Lent.{lent_algorithm, lent_public, lent_private};
 ghost use Rattle.edit_file.specs.Edits.{IsAdd};
 ghost use Rattle.key_add.specs.More.{more_at, IsRoom};
 ghost use Rattle.key_add.specs.Add.{MayAdd};
@@ -12,7 +13,9 @@ ghost use Rattle.key_add.specs.Add.{MayAdd};
 use fields::{Fault, Refusal};
 use names::Elliptic;
 use reader_image::Fields;
+use writer_numbers::Numbers;
 use writer_parts::added;
+use writer_plain::KeyParts;
 use writer_reply::Written;
 
 // The record of the image, if it may be edited and has fewer than 16 keys.
@@ -50,29 +53,30 @@ fn make_room(
     edit_add::open(lent, n, header.count + 1, header.section, end, blob, own)
 }
 
-// Adds a key over a curve that was checked.
+// Adds a key that was checked.
 #[tactic(auto, using(crate::specs::Add::padding_inside))]
-fn add_curve(
-    lent: &mut [u8],
-    n: usize,
-    f: Fields,
-    e: Elliptic,
-    public: &[u8],
-    private: &[u8],
-    comment: &[u8],
-) -> Written
-    requires { MayAdd lent.old n f (key_of (OnCurve e) (of_point public.now) (of_scalar private.now) comment.now) }
-    ensures { IsAdd lent.old n (key_of (OnCurve e) (of_point public.now) (of_scalar private.now) comment.now) result lent.new }
+fn add_checked(lent: &mut [u8], n: usize, f: Fields, key: &KeyParts, comment: &[u8]) -> Written
+    requires { MayAdd lent.old n f (key_of (lent_algorithm key.now) (lent_public key.now) (lent_private key.now) comment.now) }
+    ensures { IsAdd lent.old n (key_of (lent_algorithm key.now) (lent_public key.now) (lent_private key.now) comment.now) result lent.new }
 {
     let Fields { header, section } = f;
-    let blob = added(4, writer_curve::blob_length(e, public));
-    let pair = writer_curve::pair_length(e, public, private);
+    let blob = added(4, key.blob_length());
+    let pair = key.pair_length();
     let size = make_room(lent, n, f, blob, pair, comment)?;
     let entry = n - section.padding + blob;
-    writer_curve::put_blob(lent, header.section, e, public);
-    let past = writer_curve::put_pair(lent, entry, e, public, private);
+    key.put_blob(lent, header.section);
+    let past = key.put_pair(lent, entry);
     buffer::put_string(lent, past, comment);
     Ok(size)
+}
+
+// Adds a key of lent parts: the image's tests come first, then the key's own.
+fn add_parts(lent: &mut [u8], n: usize, key: &KeyParts, comment: &[u8]) -> Written
+    ensures { IsAdd lent.old n (key_of (lent_algorithm key.now) (lent_public key.now) (lent_private key.now) comment.now) result lent.new }
+{
+    let fields = read_for_more(lent, n)?;
+    key.check(false)?;
+    add_checked(lent, n, fields, key, comment)
 }
 
 // Adds a key over a curve: the public string or point, the seed or scalar of exactly its length, the comment.
@@ -86,41 +90,15 @@ pub fn add_key(
 ) -> Written
     ensures { IsAdd lent.old n (key_of (OnCurve e) (of_point public.now) (of_scalar private.now) comment.now) result lent.new }
 {
-    let fields = read_for_more(lent, n)?;
-    writer_curve::check(false, e, public, private)?;
-    add_curve(lent, n, fields, e, public, private, comment)
+    let key = KeyParts::Curve {
+        algorithm: e,
+        point: public,
+        scalar: private,
+    };
+    add_parts(lent, n, &key, comment)
 }
 
-// Adds an RSA key that was checked. A trait over this and `add_curve` would be no plainer: five methods with
-// contracts, for two bodies of eight lines.
-#[tactic(auto, using(crate::specs::Add::padding_inside))]
-fn add_numbers(
-    lent: &mut [u8],
-    n: usize,
-    f: Fields,
-    m: &[u8],
-    e: &[u8],
-    d: &[u8],
-    iqmp: &[u8],
-    p: &[u8],
-    q: &[u8],
-    comment: &[u8],
-) -> Written
-    requires { MayAdd lent.old n f (key_of Rsa (of_modulus m.now e.now) (of_numbers d.now iqmp.now p.now q.now) comment.now) }
-    ensures { IsAdd lent.old n (key_of Rsa (of_modulus m.now e.now) (of_numbers d.now iqmp.now p.now q.now) comment.now) result lent.new }
-{
-    let Fields { header, section } = f;
-    let blob = added(4, writer_numbers::blob_length(m, e));
-    let pair = writer_numbers::pair_length(m, e, d, iqmp, p, q);
-    let size = make_room(lent, n, f, blob, pair, comment)?;
-    let entry = n - section.padding + blob;
-    writer_numbers::put_blob(lent, header.section, m, e);
-    let past = writer_numbers::put_pair(lent, entry, m, e, d, iqmp, p, q);
-    buffer::put_string(lent, past, comment);
-    Ok(size)
-}
-
-// Adds an RSA key: its six mpints, the modulus m first, and the comment.
+// Adds an RSA key: its six mpints, the modulus m first, and the comment. They are six parameters, as C hands them in.
 pub fn add_rsa(
     lent: &mut [u8],
     n: usize,
@@ -134,7 +112,13 @@ pub fn add_rsa(
 ) -> Written
     ensures { IsAdd lent.old n (key_of Rsa (of_modulus m.now e.now) (of_numbers d.now iqmp.now p.now q.now) comment.now) result lent.new }
 {
-    let fields = read_for_more(lent, n)?;
-    writer_numbers::check(m, e, d, iqmp, p, q)?;
-    add_numbers(lent, n, fields, m, e, d, iqmp, p, q, comment)
+    let numbers = Numbers {
+        n: m,
+        e,
+        d,
+        iqmp,
+        p,
+        q,
+    };
+    add_parts(lent, n, &KeyParts::Rsa(numbers), comment)
 }

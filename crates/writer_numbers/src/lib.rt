@@ -1,4 +1,4 @@
-// An RSA key, as the writers check, measure and put it.
+// An RSA key's six mpints, as the writers check, measure and put them.
 #![tactic(auto)]
 
 ghost use Rattle.std.specs.Prelude.{◌≡◌, length};
@@ -6,23 +6,27 @@ ghost use Rattle.fields.specs.Bytes.{string};
 ghost use Rattle.names.specs.declared.Algorithm.TheVariants.{Rsa};
 ghost use Rattle.names.specs.Algorithms.{algorithm_name};
 ghost use Rattle.mpint.specs.Mpint.{at_most, modulus_size};
-ghost use Rattle.format.specs.Format.{of_modulus, of_numbers, blob, written_pair};
+ghost use Rattle.format.specs.Format.{blob, written_pair};
 ghost use Rattle.buffer.specs.Puts.{IsPut};
 ghost use Rattle.buffer.specs.Runs.{IsRun};
 ghost use Rattle.writer_parts.specs.Checks.{all_mpints, sizes_fit, key_checked, passed};
 ghost use Rattle.writer_parts.specs.Sizes.{capped};
+ghost use Rattle.writer_numbers.specs.Numbers.{public_numbers, private_numbers};
 
 use fields::Refusal;
 use mpint::is_mpint;
 use writer_parts::{added, has_room};
 use writer_reply::Written;
 
-// Are all six positive and minimal?
-#[tactic(auto, unfolding(writer_parts::specs::Checks::all_mpints))]
-fn all_mpints(n: &[u8], e: &[u8], d: &[u8], iqmp: &[u8], p: &[u8], q: &[u8]) -> bool
-    ensures { result ≡ all_mpints (of_modulus n.now e.now) (of_numbers d.now iqmp.now p.now q.now) }
-{
-    is_mpint(n) && is_mpint(e) && is_mpint(d) && is_mpint(iqmp) && is_mpint(p) && is_mpint(q)
+// The six numbers of an RSA key.
+#[derive(Clone, Copy)]
+pub struct Numbers<'a> {
+    pub n: &'a [u8],
+    pub e: &'a [u8],
+    pub d: &'a [u8],
+    pub iqmp: &'a [u8],
+    pub p: &'a [u8],
+    pub q: &'a [u8],
 }
 
 // Has a number at most as many bits as the modulus n has? One that has no more bytes than these bits fill is
@@ -34,21 +38,6 @@ fn fits(n: &[u8], bits: usize, number: &[u8]) -> bool
     number.len() <= bits / 8 || mpint::at_most(number, n)
 }
 
-// Has the modulus its size, and no other number more bits?
-#[tactic(auto, unfolding(writer_parts::specs::Checks::sizes_fit))]
-fn sizes_fit(n: &[u8], e: &[u8], d: &[u8], iqmp: &[u8], p: &[u8], q: &[u8]) -> bool
-    ensures { result ≡ sizes_fit (of_modulus n.now e.now) (of_numbers d.now iqmp.now p.now q.now) }
-{
-    let Some(bits) = mpint::modulus_size(n) else {
-        return false;
-    };
-    fits(n, bits, e)
-        && fits(n, bits, d)
-        && fits(n, bits, iqmp)
-        && fits(n, bits, p)
-        && fits(n, bits, q)
-}
-
 // The algorithm's name, as a string.
 #[tactic(auto, unfolding(fields::specs::Bytes::string, fields::specs::Bytes::uint32))]
 fn put_algorithm(out: &mut [u8], at: usize) -> usize
@@ -57,78 +46,99 @@ fn put_algorithm(out: &mut [u8], at: usize) -> usize
     buffer::put(out, at, b"\0\0\0\x07ssh-rsa")
 }
 
-// A public key: the name, e and n.
-fn put_key(out: &mut [u8], at: usize, n: &[u8], e: &[u8]) -> usize
-    ensures { IsRun out.old at (blob Rsa (of_modulus n.now e.now)) result out.new }
-{
-    let a = put_algorithm(out, at);
-    let b = buffer::put_string(out, a, e);
-    buffer::put_string(out, b, n)
-}
-
-// The length of a public blob.
-pub fn blob_length(n: &[u8], e: &[u8]) -> usize
-    ensures { result ≡ capped (length (blob Rsa (of_modulus n.now e.now))) }
-{
-    added(added(19, e.len()), n.len())
-}
-
-// A public blob, as a string.
-pub fn put_blob(out: &mut [u8], at: usize, n: &[u8], e: &[u8]) -> usize
-    ensures { IsPut out.old at (string (blob Rsa (of_modulus n.now e.now))) result out.new }
-{
-    let size = blob_length(n, e);
-    if !has_room(out.len(), at, added(4, size)) {
-        return at;
+impl<'a> Numbers<'a> {
+    // Are all six positive and minimal?
+    #[tactic(auto, unfolding(writer_parts::specs::Checks::all_mpints))]
+    fn all_mpints(&self) -> bool
+        ensures { result ≡ all_mpints (public_numbers self.now) (private_numbers self.now) }
+    {
+        is_mpint(self.n)
+            && is_mpint(self.e)
+            && is_mpint(self.d)
+            && is_mpint(self.iqmp)
+            && is_mpint(self.p)
+            && is_mpint(self.q)
     }
-    let a = buffer::put_uint32(out, at, size);
-    put_key(out, a, n, e)
-}
 
-// The length of a keypair.
-pub fn pair_length(n: &[u8], e: &[u8], d: &[u8], iqmp: &[u8], p: &[u8], q: &[u8]) -> usize
-    ensures { result ≡ capped (length (written_pair Rsa (of_modulus n.now e.now) (of_numbers d.now iqmp.now p.now q.now))) }
-{
-    let public = added(added(35, n.len()), e.len());
-    let two = added(added(public, d.len()), iqmp.len());
-    added(added(two, p.len()), q.len())
-}
+    // Has the modulus its size, and no other number more bits?
+    #[tactic(auto, unfolding(writer_parts::specs::Checks::sizes_fit))]
+    fn sizes_fit(&self) -> bool
+        ensures { result ≡ sizes_fit (public_numbers self.now) (private_numbers self.now) }
+    {
+        let Some(bits) = mpint::modulus_size(self.n) else {
+            return false;
+        };
+        fits(self.n, bits, self.e)
+            && fits(self.n, bits, self.d)
+            && fits(self.n, bits, self.iqmp)
+            && fits(self.n, bits, self.p)
+            && fits(self.n, bits, self.q)
+    }
 
-// A keypair: the name and the six numbers.
-pub fn put_pair(
-    out: &mut [u8],
-    at: usize,
-    n: &[u8],
-    e: &[u8],
-    d: &[u8],
-    iqmp: &[u8],
-    p: &[u8],
-    q: &[u8],
-) -> usize
-    ensures { IsPut out.old at (written_pair Rsa (of_modulus n.now e.now) (of_numbers d.now iqmp.now p.now q.now)) result out.new }
-{
-    if !has_room(out.len(), at, pair_length(n, e, d, iqmp, p, q)) {
-        return at;
+    // What a writer refuses of a key, or the length 0.
+    #[tactic(auto, unfolding(writer_parts::specs::Checks::key_checked))]
+    pub fn check(&self) -> Written
+        ensures { result ≡ key_checked Rsa (public_numbers self.now) (private_numbers self.now) passed }
+    {
+        if !self.all_mpints() {
+            return writer_reply::refused(Refusal::FormatEncoding);
+        }
+        if !self.sizes_fit() {
+            return writer_reply::refused(Refusal::Length);
+        }
+        Ok(0)
     }
-    let at_n = put_algorithm(out, at);
-    let at_e = buffer::put_string(out, at_n, n);
-    let at_d = buffer::put_string(out, at_e, e);
-    let at_iqmp = buffer::put_string(out, at_d, d);
-    let at_p = buffer::put_string(out, at_iqmp, iqmp);
-    let at_q = buffer::put_string(out, at_p, p);
-    buffer::put_string(out, at_q, q)
-}
 
-// What a writer refuses of a key, or the length 0.
-#[tactic(auto, unfolding(writer_parts::specs::Checks::key_checked))]
-pub fn check(n: &[u8], e: &[u8], d: &[u8], iqmp: &[u8], p: &[u8], q: &[u8]) -> Written
-    ensures { result ≡ key_checked Rsa (of_modulus n.now e.now) (of_numbers d.now iqmp.now p.now q.now) passed }
-{
-    if !all_mpints(n, e, d, iqmp, p, q) {
-        return writer_reply::refused(Refusal::FormatEncoding);
+    // The length of a public blob.
+    pub fn blob_length(&self) -> usize
+        ensures { result ≡ capped (length (blob Rsa (public_numbers self.now))) }
+    {
+        added(added(19, self.e.len()), self.n.len())
     }
-    if !sizes_fit(n, e, d, iqmp, p, q) {
-        return writer_reply::refused(Refusal::Length);
+
+    // A public key: the name, e and n.
+    fn put_key(&self, out: &mut [u8], at: usize) -> usize
+        ensures { IsRun out.old at (blob Rsa (public_numbers self.now)) result out.new }
+    {
+        let a = put_algorithm(out, at);
+        let b = buffer::put_string(out, a, self.e);
+        buffer::put_string(out, b, self.n)
     }
-    Ok(0)
+
+    // A public blob, as a string.
+    pub fn put_blob(&self, out: &mut [u8], at: usize) -> usize
+        ensures { IsPut out.old at (string (blob Rsa (public_numbers self.now))) result out.new }
+    {
+        let size = self.blob_length();
+        if !has_room(out.len(), at, added(4, size)) {
+            return at;
+        }
+        let a = buffer::put_uint32(out, at, size);
+        self.put_key(out, a)
+    }
+
+    // The length of a keypair.
+    pub fn pair_length(&self) -> usize
+        ensures { result ≡ capped (length (written_pair Rsa (public_numbers self.now) (private_numbers self.now))) }
+    {
+        let public = added(added(35, self.n.len()), self.e.len());
+        let two = added(added(public, self.d.len()), self.iqmp.len());
+        added(added(two, self.p.len()), self.q.len())
+    }
+
+    // A keypair: the name and the six numbers.
+    pub fn put_pair(&self, out: &mut [u8], at: usize) -> usize
+        ensures { IsPut out.old at (written_pair Rsa (public_numbers self.now) (private_numbers self.now)) result out.new }
+    {
+        if !has_room(out.len(), at, self.pair_length()) {
+            return at;
+        }
+        let at_n = put_algorithm(out, at);
+        let at_e = buffer::put_string(out, at_n, self.n);
+        let at_d = buffer::put_string(out, at_e, self.e);
+        let at_iqmp = buffer::put_string(out, at_d, self.d);
+        let at_p = buffer::put_string(out, at_iqmp, self.iqmp);
+        let at_q = buffer::put_string(out, at_p, self.p);
+        buffer::put_string(out, at_q, self.q)
+    }
 }

@@ -1,3 +1,4 @@
 pub mod Plain
 pub mod Fits
 pub mod Held
+pub mod Lent

@@ -2,20 +2,21 @@
 use native.Mathlib.Omega.{arith}
 use mathlib.Core.Path.{◌≡◌}
 use lib.ListN.{length}
-use Rattle.names.specs.declared.Algorithm.TheVariants.{Elliptic as OnCurve}
-use Rattle.format.specs.Format.{of_point, of_scalar, entry, key_of, alone, blob, written_pair, written_image}
+use Rattle.format.specs.Format.{entry, key_of, alone, blob, written_pair, written_image}
 use Rattle.writer_reply.specs.Sized.{too_large, no_room, done}
 use Rattle.writer_parts.specs.Sizes.{capped, capped_above, capped_exact}
 use Rattle.writer_parts.specs.Fields.{image_length_lem, entries_exact, entry_measured, alone_measured}
+use Rattle.writer_plain.specs.Lent.{lent_algorithm, lent_public, lent_private}
 use Rattle.writer_plain.proofs.write_sized.Goals as goal
 use Rattle.writer_plain.proofs.write_sized.Goals.{After-image_length-size}
 
 -- what is added up is the image's length
 size_is :
     (c : After-image_length-size)
-    → c.image_length-size.result ≡ capped (length (written_image c.args.checkint (alone (key_of (OnCurve c.args.algorithm) (of_point c.args.point.now) (of_scalar c.args.scalar.now) c.args.comment.now))))
+    → c.image_length-size.result ≡ capped (length (written_image c.args.checkint (alone (key_of (lent_algorithm c.args.key.now) (lent_public c.args.key.now) (lent_private c.args.key.now) c.args.comment.now))))
 size_is c = let a = c.args in
-    alone_measured (OnCurve a.algorithm) (of_point a.point.now) (of_scalar a.scalar.now) a.comment.now a.checkint _ _ _ _ _ _ c.blob_length-key.ensures c.pair_length-pair.ensures c.added.ensures c.added-entries.ensures c.added-2.ensures c.image_length-size.ensures
+    let k = a.key.now in
+    alone_measured (lent_algorithm k) (lent_public k) (lent_private k) a.comment.now a.checkint _ _ _ _ _ _ c.blob_length.ensures c.pair_length.ensures c.added-pair.ensures c.added-entries.ensures c.added-blob.ensures c.image_length-size.ensures
 
 pub returns-then-size-gt65535 : goal.returns-then-size-gt65535
 returns-then-size-gt65535 c =
@@ -30,11 +31,12 @@ returns-then-out-size c =
 pub put_plain-requires : goal.put_plain-requires
 unfolding written_image
 put_plain-requires c = let a = c.args in
-    let pair = written_pair (OnCurve a.algorithm) (of_point a.point.now) (of_scalar a.scalar.now) in
+    let k = a.key.now in
+    let pair = written_pair (lent_algorithm k) (lent_public k) (lent_private k) in
     let exact = capped_exact _ _ _ (size_is (goal.at.put_plain-requires c).After-image_length-size) c.if-size-gt65535.false (omega arith) in
     let es = alone (entry pair a.comment.now) in
-    let entries = entry_measured (OnCurve a.algorithm) (of_point a.point.now) (of_scalar a.scalar.now) a.comment.now _ _ _ c.pair_length-pair.ensures c.added.ensures c.added-entries.ensures in
-    let keys = alone (blob (OnCurve a.algorithm) (of_point a.point.now)) in
+    let entries = entry_measured (lent_algorithm k) (lent_public k) (lent_private k) a.comment.now _ _ _ c.pair_length.ensures c.added-pair.ensures c.added-entries.ensures in
+    let keys = alone (blob (lent_algorithm k) (lent_public k)) in
     let same = entries_exact a.checkint keys es _ entries (omega (arith, exact, c.if-size-gt65535.false)) in
     (same, omega (arith, same, exact, c.if-size-gt65535.false, image_length_lem a.checkint keys es))
 

@@ -1,10 +1,10 @@
--- `writer_numbers::sizes_fit` meets its contract. Rests on the laws of a modulus's size and on the callees' contracts.
+-- `Numbers::sizes_fit` meets its contract. Rests on the laws of a modulus's size and on the callees' contracts.
 use native.Mathlib.Omega.{arith}
 use mathlib.Core.Path.{sym, ◌∙◌}
 use Rattle.std.proofs.lemmas.Grind.{common_steps}
 use Rattle.mpint.specs.Laws.{size_inside, size_outside}
 use Rattle.writer_parts.specs.Checks.{sizes_fit}
-use Rattle.writer_numbers.proofs.sizes_fit.Goals as goal
+use Rattle.writer_numbers.proofs.Numbers.sizes_fit.Goals as goal
 
 pub returns-in_default : goal.returns-in_default
 unfolding sizes_fit

@@ -1,0 +1,13 @@
+-- `Numbers::blob_length` meets its contract: the name, two lengths and two numbers. Rests on `blob_size`.
+use Prim.Native.Nat.{ℕ, ◌+◌}
+use mathlib.Core.Path.{sym, ◌∙◌, ap}
+use lib.ListN.{length}
+use Rattle.writer_parts.specs.Sizes.{capped, capped_sum}
+use Rattle.writer_numbers.specs.Parts.{blob_size}
+use Rattle.writer_numbers.proofs.Numbers.blob_length.Goals as goal
+
+pub returns : goal.returns
+returns c = let a = c.args in
+    let six = a.self.now in
+    c.added-2.ensures ∙ ap (λ (k : ℕ). capped (k + length six.n.now)) c.added.ensures ∙ capped_sum _ _
+    ∙ ap capped (sym (blob_size six.n.now six.e.now))
