@@ -1,2 +1,3 @@
 pub mod Encrypted
 pub mod Parts
+pub mod Sealed

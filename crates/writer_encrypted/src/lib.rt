@@ -2,130 +2,117 @@
 // checks all, in the rules' order, before it changes a byte.
 #![tactic(auto)]
 
-ghost use Rattle.std.specs.Prelude.{◌≡◌, true, ℕ, ◌+◌, ◌<◌, length};
+ghost use Rattle.std.specs.Prelude.{◌≡◌, true, ◌+◌, ◌<◌, ◌≤◌, length};
 ghost use Rattle.fields.specs.Bytes.{string};
 ghost use Rattle.names.specs.Ciphers.{cipher_name, kdf_name};
-ghost use Rattle.format.specs.Format.{options, encrypted_image};
+ghost use Rattle.format.specs.Format.{options};
 ghost use Rattle.buffer.specs.Runs.{IsRun};
 ghost use Rattle.writer_reply.specs.Reply.{IsSized};
 ghost use Rattle.writer_encrypted.specs.Encrypted.{options_fit, IsEncrypted};
 ghost use Rattle.writer_encrypted.specs.Parts.{front};
+ghost use Rattle.writer_encrypted.specs.Sealed.{sealed_image};
 
 use fields::{Cursor, Refusal};
 use names::{Cipher, Kdf};
 use writer_reply::Written;
 
-// `none` has no salt and no rounds.
-fn options_fit(kdf: Kdf, salt: &[u8], rounds: u32) -> bool
-    ensures { result ≡ options_fit kdf salt.now rounds }
-{
-    match kdf {
-        Kdf::Bcrypt => true,
-        Kdf::None => salt.is_empty() && rounds == 0,
-    }
+// What an encrypted image is made of.
+#[derive(Clone, Copy)]
+struct Sealed<'a> {
+    cipher: Cipher,
+    kdf: Kdf,
+    salt: &'a [u8],
+    rounds: u32,
+    blob: &'a [u8],
+    ciphertext: &'a [u8],
+    tag: &'a [u8],
 }
 
-fn options_length(kdf: Kdf, salt: &[u8]) -> usize
-    requires { length salt.now < 65536 }
-    ensures { ((rounds : ℕ) → result ≡ length (options kdf salt.now rounds)) × (result < 65545) }
-{
-    match kdf {
-        Kdf::None => 0,
-        Kdf::Bcrypt => 8 + salt.len(),
-    }
-}
-
-// The lengths of the two names.
-fn names_length(cipher: Cipher, kdf: Kdf) -> usize
-    ensures { (result ≡ length (cipher_name cipher) + length (kdf_name kdf)) × (result < 256) }
-{
-    names_spelling::cipher_name(cipher).length + names_spelling::kdf_name(kdf).length
-}
-
-// The KDF's options, as a string.
-fn put_options(out: &mut [u8], at: usize, kdf: Kdf, salt: &[u8], rounds: u32) -> usize
-    requires { length salt.now < 65536 }
-    ensures { IsRun out.old at (string (options kdf salt.now rounds)) result out.new }
-{
-    match kdf {
-        Kdf::None => buffer::put_uint32(out, at, 0),
-        Kdf::Bcrypt => {
-            let a = buffer::put_uint32(out, at, 8 + salt.len());
-            let b = buffer::put_string(out, a, salt);
-            buffer::put_uint32(out, b, rounds as usize)
+impl<'a> Sealed<'a> {
+    // `none` has no salt and no rounds.
+    fn options_fit(&self) -> bool
+        ensures { result ≡ options_fit self.now.kdf self.now.salt.now self.now.rounds }
+    {
+        match self.kdf {
+            Kdf::Bcrypt => true,
+            Kdf::None => self.salt.is_empty() && self.rounds == 0,
         }
     }
-}
 
-// All that stands before the public blob, its length too.
-fn put_front(
-    out: &mut [u8],
-    cipher: Cipher,
-    kdf: Kdf,
-    salt: &[u8],
-    rounds: u32,
-    blob: usize,
-) -> usize
-    requires { length salt.now < 65536 }
-    ensures { IsRun out.old 0 (front cipher kdf salt.now rounds blob) result out.new }
-{
-    let a = buffer::put(out, 0, b"openssh-key-v1\0");
-    let b = names_spelling::put_cipher(out, a, cipher);
-    let c = names_spelling::put_kdf(out, b, kdf);
-    let d = put_options(out, c, kdf, salt, rounds);
-    let e = buffer::put_uint32(out, d, 1);
-    buffer::put_uint32(out, e, blob)
-}
-
-// Puts every field of an encrypted image. The caller has seen to lengths and room.
-fn put_encrypted(
-    out: &mut [u8],
-    cipher: Cipher,
-    kdf: Kdf,
-    salt: &[u8],
-    rounds: u32,
-    blob: &[u8],
-    ciphertext: &[u8],
-    tag: &[u8],
-) -> usize
-    requires { length salt.now < 65536 }
-    ensures { IsRun out.old 0 (encrypted_image cipher kdf salt.now rounds blob.now ciphertext.now tag.now) result out.new }
-{
-    let a = put_front(out, cipher, kdf, salt, rounds, blob.len());
-    let b = buffer::put(out, a, blob);
-    let c = buffer::put_string(out, b, ciphertext);
-    buffer::put(out, c, tag)
-}
-
-// An encrypted image of parts that were checked, if its size and the room allow.
-fn write_sealed(
-    cipher: Cipher,
-    kdf: Kdf,
-    salt: &[u8],
-    rounds: u32,
-    blob: &[u8],
-    ciphertext: &[u8],
-    tag: &[u8],
-    out: &mut [u8],
-) -> Written
-    requires { (length tag.now < 256) × (options_fit kdf salt.now rounds ≡ true) }
-    ensures { IsSized (encrypted_image cipher kdf salt.now rounds blob.now ciphertext.now tag.now) out.old result out.new }
-{
-    if 65535 < blob.len() || 65535 < ciphertext.len() || 65535 < salt.len() {
-        return writer_reply::refused(Refusal::Size);
+    fn options_length(&self) -> usize
+        ensures { (result ≡ length (options self.now.kdf self.now.salt.now self.now.rounds)) × (result ≤ 8 + length self.now.salt.now) }
+    {
+        match self.kdf {
+            Kdf::None => 0,
+            Kdf::Bcrypt => 8 + self.salt.len(),
+        }
     }
-    let head = 39 + names_length(cipher, kdf) + options_length(kdf, salt);
-    let size = head + blob.len() + ciphertext.len() + tag.len();
-    if 65535 < size {
-        return writer_reply::refused(Refusal::Size);
+
+    // The lengths of the two names.
+    fn names_length(&self) -> usize
+        ensures { (result ≡ length (cipher_name self.now.cipher) + length (kdf_name self.now.kdf)) × (result < 256) }
+    {
+        names_spelling::cipher_name(self.cipher).length + names_spelling::kdf_name(self.kdf).length
     }
-    if out.len() < size {
-        return writer_reply::refused(Refusal::Room);
+
+    // The KDF's options, as a string.
+    fn put_options(&self, out: &mut [u8], at: usize) -> usize
+        ensures { IsRun out.old at (string (options self.now.kdf self.now.salt.now self.now.rounds)) result out.new }
+    {
+        match self.kdf {
+            Kdf::None => buffer::put_uint32(out, at, 0),
+            Kdf::Bcrypt => {
+                let a = buffer::put_uint32(out, at, 8 + self.salt.len());
+                let b = buffer::put_string(out, a, self.salt);
+                buffer::put_uint32(out, b, self.rounds as usize)
+            }
+        }
     }
-    Ok(put_encrypted(out, cipher, kdf, salt, rounds, blob, ciphertext, tag))
+
+    // All that stands before the public blob, its length too.
+    fn put_front(&self, out: &mut [u8]) -> usize
+        ensures { IsRun out.old 0 (front self.now.cipher self.now.kdf self.now.salt.now self.now.rounds (length self.now.blob.now)) result out.new }
+    {
+        let a = buffer::put(out, 0, b"openssh-key-v1\0");
+        let b = names_spelling::put_cipher(out, a, self.cipher);
+        let c = names_spelling::put_kdf(out, b, self.kdf);
+        let d = self.put_options(out, c);
+        let e = buffer::put_uint32(out, d, 1);
+        buffer::put_uint32(out, e, self.blob.len())
+    }
+
+    // Puts every field. The caller has seen to lengths and room.
+    fn put(&self, out: &mut [u8]) -> usize
+        ensures { IsRun out.old 0 (sealed_image self.now) result out.new }
+    {
+        let a = self.put_front(out);
+        let b = buffer::put(out, a, self.blob);
+        let c = buffer::put_string(out, b, self.ciphertext);
+        buffer::put(out, c, self.tag)
+    }
+
+    // Writes parts that were checked, if their size and the room allow.
+    fn write(&self, out: &mut [u8]) -> Written
+        requires { (length self.now.tag.now < 256) × (options_fit self.now.kdf self.now.salt.now self.now.rounds ≡ true) }
+        ensures { IsSized (sealed_image self.now) out.old result out.new }
+    {
+        if 65535 < self.blob.len() || 65535 < self.ciphertext.len() || 65535 < self.salt.len() {
+            return writer_reply::refused(Refusal::Size);
+        }
+        let head = 39 + self.names_length() + self.options_length();
+        let size = head + self.blob.len() + self.ciphertext.len() + self.tag.len();
+        if 65535 < size {
+            return writer_reply::refused(Refusal::Size);
+        }
+        if out.len() < size {
+            return writer_reply::refused(Refusal::Room);
+        }
+        Ok(self.put(out))
+    }
 }
 
-// An encrypted image: the public blob, the ciphertext and the tag as they are given.
+// An encrypted image: the public blob, the ciphertext and the tag as they are given. They are seven parameters, as C
+// hands them in.
 #[tactic(auto, unfolding(crate::specs::Encrypted::encrypted_reply, crate::specs::Encrypted::encrypted_left))]
 pub fn write_encrypted(
     cipher: Cipher,
@@ -139,7 +126,16 @@ pub fn write_encrypted(
 ) -> Written
     ensures { IsEncrypted cipher kdf salt.now rounds blob.now ciphertext.now tag.now out.old result out.new }
 {
-    if cipher.is_none() || !options_fit(kdf, salt, rounds) {
+    let sealed = Sealed {
+        cipher,
+        kdf,
+        salt,
+        rounds,
+        blob,
+        ciphertext,
+        tag,
+    };
+    if cipher.is_none() || !sealed.options_fit() {
         return writer_reply::refused(Refusal::Crypto);
     }
     let whole = Cursor {
@@ -153,5 +149,5 @@ pub fn write_encrypted(
     if tag.len() != cipher.tag_length() {
         return writer_reply::refused(Refusal::Length);
     }
-    write_sealed(cipher, kdf, salt, rounds, blob, ciphertext, tag, out)
+    sealed.write(out)
 }

@@ -1,12 +1,10 @@
 -- docs/RULES.md, 10.2 and 10.9: the keys that a caller hands in are taken as they are, a record's with their scalars filled.
 use Rattle.std.specs.Prelude.{ℕ, ◌+◌, ◌≡◌, refl, Bool, true, false, List, [], ◌∷◌, map}
-use Rattle.std.proofs.Common.{sym, ◌∙◌, ap, ap₂}
+use Rattle.std.proofs.Common.{sym, ◌∙◌, ap}
 use Rattle.names.specs.declared.Elliptic.{Elliptic}
 use Rattle.names.specs.declared.Algorithm.TheVariants.{Elliptic as OnCurve, Rsa}
-use Rattle.format.specs.Format.{PublicBytes, PrivateBytes, Key, key_of, of_point, of_scalar, of_modulus, of_numbers, filled, filled_key}
+use Rattle.format.specs.Format.{PublicBytes, PrivateBytes, Key, key_of, of_point, of_scalar, of_modulus, of_numbers, filled_key}
 use Rattle.writer_curve.specs.Taken.{scalar_taken}
-use Rattle.writer_plain.specs.declared.KeyParts.{KeyParts}
-use Rattle.writer_plain.specs.Lent.{lent_algorithm, lent_private, lent_taken}
 use Rattle.writer_table.specs.Table.{part_bytes, comment_at, algorithm_at, key_at}
 
 abbrev pub key_taken : Bool → Key → Key
@@ -67,21 +65,6 @@ module _ (filling : Bool) (text table : List ℕ) (j : ℕ) where
 pub taken_comment : (filling : Bool) (k : Key) → (key_taken filling k).comment ≡ k.comment
 taken_comment true k = refl
 taken_comment false k = refl
-
--- of a key that is handed in as its parts
-pub taken_algorithm : (filling : Bool) (k : Key) → (key_taken filling k).algorithm ≡ k.algorithm
-taken_algorithm true k = refl
-taken_algorithm false k = refl
-
-pub taken_public : (filling : Bool) (k : Key) → (key_taken filling k).public ≡ k.public
-taken_public true k = refl
-taken_public false k = refl
-
-pub taken_private :
-    (filling : Bool) (parts : KeyParts) (k : Key) → lent_algorithm parts ≡ k.algorithm → lent_private parts ≡ k.private
-    → lent_taken filling parts ≡ (key_taken filling k).private
-taken_private true parts k a x = ap₂ filled a x
-taken_private false parts k a x = x
 
 pub key_comment : (text table : List ℕ) (j : ℕ) → (key_at text table j).comment ≡ comment_at text table j
 unfolding key_at

@@ -1,6 +1,6 @@
 -- `writer_rows::check_key` meets its contract: the parts are the key's. Rests on the callees' contracts and on what filling changes.
 use Rattle.writer_table.specs.Table.{key_at}
-use Rattle.writer_rows.specs.Taken.{taken_algorithm, taken_public, taken_private}
+use Rattle.writer_rows.proofs.Parts.{taken_algorithm, taken_public, taken_private}
 use Rattle.writer_rows.proofs.check_key.Goals as goal
 
 pub returns : goal.returns

@@ -1,8 +1,8 @@
--- `writer_encrypted::put_front` meets its contract: six fields, put one after the other. Rests on the laws of runs.
+-- `Sealed::put_front` meets its contract: six fields, put one after the other. Rests on the laws of runs.
 use Rattle.format.specs.Format.{magic}
 use Rattle.buffer.specs.Runs.{start, step, run, finish}
 use Rattle.writer_encrypted.specs.Parts.{front}
-use Rattle.writer_encrypted.proofs.put_front.Goals as goal
+use Rattle.writer_encrypted.proofs.Sealed.put_front.Goals as goal
 
 pub returns : goal.returns
 unfolding front magic
