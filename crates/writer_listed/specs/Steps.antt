@@ -1,9 +1,10 @@
 -- The keys of a record one by one, as the code goes over them.
 use Rattle.std.specs.Prelude.{ℕ, zero, suc, ◌+◌, ◌-◌, ◌≤◌, ◌<◌, ◌≡◌, List, [], ◌∷◌, map, length, take, drop, get_or, Some, None}
-use Rattle.std.proofs.Common.{arith, add-one}
+use Rattle.std.proofs.Common.{arith, add-one, min, leb, leb-true, leb-false}
 use Rattle.std.proofs.Math.Path.{refl}
 use Rattle.std.proofs.Math.Seq.{drop-nil}
 use Rattle.fields.specs.Bytes.{join}
+use Rattle.fields.specs.Place.{by_bool}
 use Rattle.fields.specs.declared.Cursor.{Cursor}
 use Rattle.places.specs.declared.Places.{Places}
 use Rattle.places.specs.Places.{list_of, after_first}
@@ -73,8 +74,26 @@ module _ (s : List ℕ) (b : Cursor) where
 -- ---- what is put of them
 
 -- the rows of the keys from number k on
-abbrev rows_at : List ℕ → Cursor → Places → ℕ → ℕ → List (List ℕ)
+abbrev pub rows_at : List ℕ → Cursor → Places → ℕ → ℕ → List (List ℕ)
 rows_at s b p k count = map (row_of s) (others_at s b (places_from p k count))
+
+-- they are none past the last place, or where a key isn't there; else one and those after it
+module _ (s : List ℕ) (b : Cursor) (p : Places) (k count : ℕ) where
+  pub rows_none : min count 16 ≤ k → rows_at s b p k count ≡ []
+  rows_none h =
+      by_bool (leb count k)
+      (λ w. rw (places_none p k count (leb-true count k w), others_none s b))
+      (λ w. rw (places_past p k count (omega (arith, h, leb-false count k w)), others_none s b))
+
+  pub rows_nothing : k < min count 16 → key_placed s b (get_or (list_of p) k 0) ≡ None → rows_at s b p k count ≡ []
+  rows_nothing h e =
+      rw (places_more p k count (omega (arith, h)) (omega (arith, h)), others_nothing s b (get_or (list_of p) k 0) (places_from p (k + 1) count) e)
+
+  pub rows_more :
+      k < min count 16 → (x : KeyFields) (d : Cursor) → key_placed s b (get_or (list_of p) k 0) ≡ Some (x, d)
+      → rows_at s b p k count ≡ row_of s x ∷ rows_at s d p (k + 1) count
+  rows_more h x d e =
+      rw (places_more p k count (omega (arith, h)) (omega (arith, h)), others_key s b (get_or (list_of p) k 0) (places_from p (k + 1) count) x d e)
 
 module _ (s : List ℕ) (b : Cursor) (p : Places) (k count : ℕ) (old : List ℕ) (at : ℕ) where
   -- nothing

@@ -2,13 +2,13 @@
 // first key's are the record's own; the others are read anew, each where it begins, with the blob of its number.
 #![tactic(auto)]
 
-ghost use Rattle.std.specs.Prelude.{◌≡◌, map};
+ghost use Rattle.std.specs.Prelude.{◌≡◌};
 ghost use Rattle.fields.specs.Bytes.{join};
 ghost use Rattle.buffer.specs.Puts.{IsPut};
 ghost use Rattle.buffer.specs.Runs.{IsRun};
-ghost use Rattle.writer_listed.specs.Listed.{kept_part, others_at, IsListed};
+ghost use Rattle.writer_listed.specs.Listed.{kept_part, IsListed};
 ghost use Rattle.writer_listed.specs.Rows.{row_of};
-ghost use Rattle.writer_listed.specs.Steps.{places_from};
+ghost use Rattle.writer_listed.specs.Steps.{rows_at};
 
 use fields::{Cursor, Part};
 use places::Places;
@@ -27,15 +27,13 @@ fn kept(image: &[u8], part: Part) -> Part
     Part::ABSENT
 }
 
-// Puts numbers into the table, as `buffer::put` does bytes.
+// Puts numbers into the table, as `buffer::put` does bytes. One put for both would be generic, and `IsPut`, by which
+// the contracts and theorems of puts are stated, is of lists of numbers, not of a type parameter.
 #[tactic(auto, unfolding(buffer::specs::Puts::next, buffer::specs::Puts::placed, buffer::specs::Puts::fits, buffer::specs::Puts::splice))]
 fn put_numbers(table: &mut [usize], at: usize, numbers: &[usize]) -> usize
     ensures { IsPut table.old at numbers.now result table.new }
 {
-    if table.len() < at {
-        return at;
-    }
-    if table.len() - at < numbers.len() {
+    if !writer_parts::has_room(table.len(), at, numbers.len()) {
         return at;
     }
     let past = at + numbers.len();
@@ -85,31 +83,28 @@ fn put_row(table: &mut [usize], at: usize, image: &[u8], k: KeyFields) -> usize
     put_numbers(table, at, &row)
 }
 
-// Puts those of the keys from number k on, counted from 0, up to the last or the first that isn't there.
+// Puts those of the keys after the first, up to the last or the first that isn't there. The second one's blob is
+// at `second`.
 fn put_others(
     table: &mut [usize],
     at: usize,
     image: &[u8],
     places: Places,
-    k: usize,
     count: usize,
-    blob: Cursor,
+    second: Cursor,
 ) -> usize
-    ensures { IsRun table.old at (join (map (row_of image.now) (others_at image.now blob (places_from places k count)))) result table.new }
+    ensures { IsRun table.old at (join (rows_at image.now second places 1 count)) result table.new }
 {
-    if count <= k {
-        return at;
+    let mut past = at;
+    let mut blob = second;
+    for k in 1..count.min(16) {
+        let Some((key, next)) = reader_entries::read_key(blob, image, places.get(k) as usize) else {
+            return past;
+        };
+        past = put_row(table, past, image, key);
+        blob = next;
     }
-    if 16 <= k {
-        return at;
-    }
-    match reader_entries::read_key(blob, image, places.get(k) as usize) {
-        None => at,
-        Some((key, next)) => {
-            let past = put_row(table, at, image, key);
-            put_others(table, past, image, places, k + 1, count, next)
-        }
-    }
+    past
 }
 
 // An image of a record's keys, in their order, with its checkint.
@@ -133,6 +128,6 @@ pub fn write_listed(image: &[u8], f: Fields, out: &mut [u8]) -> Written
     };
     let mut table = [0usize; 304];
     let one = put_row(&mut table, 0, image, key);
-    let size = put_others(&mut table, one, image, places, 1, header.count, blob);
+    let size = put_others(&mut table, one, image, places, header.count, blob);
     writer_keys::write_filled(image, &table[..size], section.checkint, out)
 }

@@ -1,25 +1,25 @@
--- `writer_listed::put_others` meets its contract, by the number of keys that are left. Rests on `put_none`, `put_past`, `put_nothing` and
--- `put_more`, and on the callees' contracts.
+-- `writer_listed::put_others` meets its contract: key by key. Rests on the laws of runs and on the callees' contracts.
 use native.Mathlib.Omega.{arith}
 use mathlib.Core.Path.{sym, ◌∙◌, ap}
+use Rattle.buffer.specs.Runs.{start, step, finish}
 use Rattle.reader_entries.specs.Entries.{key_placed}
-use Rattle.writer_listed.specs.Steps.{put_none, put_past, put_nothing, put_more}
-use Rattle.writer_listed.proofs.+put_others.Goals as goal
+use Rattle.writer_listed.specs.Steps.{rows_none, rows_nothing, rows_more}
+use Rattle.writer_listed.proofs.put_others.Goals as goal
 
-pub returns-then-count-k : goal.returns-then-count-k
-returns-then-count-k t c = put_none c.args.image.now c.args.blob c.args.places c.args.k c.args.count c.args.table.now c.args.at c.if-count-k.true
+pub loop-k-init : goal.loop-k-init
+loop-k-init c room = start room
 
-pub returns-then-k-ge16 : goal.returns-then-k-ge16
-returns-then-k-ge16 t c = put_past c.args.image.now c.args.blob c.args.places c.args.k c.args.count c.args.table.now c.args.at c.if-k-ge16.true
+pub loop-k-preserved : goal.loop-k-preserved
+loop-k-preserved c room = let a = c.args in
+    let found = ap (key_placed a.image.now c.loop-k.blob) (sym c.get.ensures) ∙ sym c.read_key.ensures ∙ c.in-Some.is in
+    let more = rows_more a.image.now c.loop-k.blob a.places c.loop-k.k a.count (omega arith) c.in-Some.key c.in-Some.next found in
+    step (rw more at (c.loop-k.invariant room)) c.put_row-past.ensures
 
-pub overflow_add-k : goal.overflow_add-k
-overflow_add-k t c = omega (arith, c.if-k-ge16.false)
+pub returns-in_default : goal.returns-in_default
+returns-in_default c room = let a = c.args in
+    let missing = ap (key_placed a.image.now c.loop-k.blob) (sym c.get.ensures) ∙ sym c.read_key.ensures ∙ c.in_default.is in
+    finish (rw (rows_nothing a.image.now c.loop-k.blob a.places c.loop-k.k a.count (omega arith) missing) at (c.loop-k.invariant room))
 
-pub returns-in-None : goal.returns-in-None
-returns-in-None t c = put_nothing c.args.image.now c.args.blob c.args.places c.args.k c.args.count c.args.table.now c.args.at (omega (arith, c.if-count-k.false)) (omega (arith, c.if-k-ge16.false)) (ap (key_placed c.args.image.now c.args.blob) (sym c.get.ensures) ∙ sym c.read_key.ensures ∙ c.in-None.is)
-
-pub shape_of-table : goal.shape_of-table
-shape_of-table t c = c.put_others.auto.table ∙ c.put_row-past.auto.table
-
-pub returns-in-Some : goal.returns-in-Some
-returns-in-Some t c = put_more c.args.image.now c.args.blob c.args.places c.args.k c.args.count c.args.table.now c.args.at (omega (arith, c.if-count-k.false)) (omega (arith, c.if-k-ge16.false)) c.in-Some.key c.in-Some.next (ap (key_placed c.args.image.now c.args.blob) (sym c.get.ensures) ∙ sym c.read_key.ensures ∙ c.in-Some.is) _ _ _ _ c.put_row-past.ensures c.put_others.ensures
+pub returns : goal.returns
+returns c room = let a = c.args in
+    finish (rw (rows_none a.image.now c.loop-k.blob a.places c.loop-k.k a.count (omega arith)) at (c.loop-k.invariant room))
