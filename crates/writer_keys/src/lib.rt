@@ -22,110 +22,112 @@ use writer_parts::added;
 use writer_reply::Written;
 use writer_table::part_at;
 
-// What is refused of so many keys, in their order, or the length 0.
-fn check_keys(filling: bool, text: &[u8], table: &[usize], count: usize) -> Written
-    requires { count * 19 ≤ length table.now }
-    ensures { result ≡ keys_checked (keys_taken filling (keys_from text.now table.now 0 count)) passed }
-{
-    for i in 0..count {
-        writer_rows::check_at(filling, text, table, 19 * i)?;
-    }
-    Ok(0)
-}
-
-// The length of their blobs, each with its length field.
-fn blobs_length(text: &[u8], table: &[usize], count: usize) -> usize
-    requires { count * 19 ≤ length table.now }
-    ensures { result ≡ capped (blobs_length (map key_blob (keys_from text.now table.now 0 count))) }
-{
-    let mut sum = 0;
-    for i in 0..count {
-        let one = added(4, writer_rows::blob_length_at(text, table, 19 * i));
-        sum = added(sum, one);
-    }
-    sum
-}
-
-// The length of their entries: each keypair, and its comment with its length field.
-fn entries_length(text: &[u8], table: &[usize], count: usize) -> usize
-    requires { count * 19 ≤ length table.now }
-    ensures { result ≡ capped (entries_length (map written_entry (keys_from text.now table.now 0 count))) }
-{
-    let mut sum = 0;
-    for i in 0..count {
-        let pair = added(4, writer_rows::pair_length_at(text, table, 19 * i));
-        let comment = part_at(text, table, 19 * i, 5);
-        sum = added(sum, added(pair, comment.len()));
-    }
-    sum
-}
-
-// Puts their blobs.
-fn put_blobs(out: &mut [u8], at: usize, text: &[u8], table: &[usize], count: usize) -> usize
-    requires { count * 19 ≤ length table.now }
-    ensures { IsRun out.old at (join (blobs_of (keys_from text.now table.now 0 count))) result out.new }
-{
-    let mut past = at;
-    for i in 0..count {
-        past = writer_rows::put_blob_at(out, past, text, table, 19 * i);
-    }
-    past
-}
-
-// Puts their entries.
-fn put_entries(out: &mut [u8], at: usize, text: &[u8], table: &[usize], count: usize) -> usize
-    requires { count * 19 ≤ length table.now }
-    ensures { IsRun out.old at (join (entries_of (keys_from text.now table.now 0 count))) result out.new }
-{
-    let mut past = at;
-    for i in 0..count {
-        let pair = writer_rows::put_pair_at(out, past, text, table, 19 * i);
-        past = buffer::put_string(out, pair, part_at(text, table, 19 * i, 5));
-    }
-    past
-}
-
-// Puts every field of an image. The caller has seen to the entries' length and to room.
-fn put_keys(
-    out: &mut [u8],
-    text: &[u8],
-    table: &[usize],
+// Keys that are handed in as one text and a table of their numbers, and how many they are.
+#[derive(Clone, Copy)]
+struct Keys<'a> {
+    text: &'a [u8],
+    table: &'a [usize],
     count: usize,
-    checkint: u32,
-    entries: usize,
-) -> usize
-    requires count_in_bounds { count * 19 ≤ length table.now }
-    requires entries_value { (entries ≡ entries_length (map written_entry (keys_from text.now table.now 0 count))) × (entries < 65536) }
-    ensures { IsRun out.old 0 (written_image checkint (keys_from text.now table.now 0 count)) result out.new }
-{
-    let content = 8 + entries;
-    let padding = buffer::padding(content);
-    let front = b"openssh-key-v1\0\0\0\0\x04none\0\0\0\x04none\0\0\0\0";
-    let a = buffer::put(out, 0, front);
-    let b = buffer::put_uint32(out, a, count);
-    let c = put_blobs(out, b, text, table, count);
-    let d = buffer::put_uint32(out, c, content + padding);
-    let e = buffer::put_uint32(out, d, checkint as usize);
-    let f = buffer::put_uint32(out, e, checkint as usize);
-    let g = put_entries(out, f, text, table, count);
-    buffer::put_padding(out, g, padding)
+    ghost counted: { count * 19 ≤ length table.now },
 }
 
-// An image of keys that were checked, if its size and the room allow.
-fn write_sized(text: &[u8], table: &[usize], count: usize, checkint: u32, out: &mut [u8]) -> Written
-    requires { count * 19 ≤ length table.now }
-    ensures { IsSized (written_image checkint (keys_from text.now table.now 0 count)) out.old result out.new }
-{
-    let blobs = blobs_length(text, table, count);
-    let entries = entries_length(text, table, count);
-    let size = writer_parts::image_length(blobs, entries);
-    if 65535 < size {
-        return writer_reply::refused(Refusal::Size);
+impl<'a> Keys<'a> {
+    // What is refused of them, in their order, or the length 0.
+    fn check(&self, filling: bool) -> Written
+        ensures { result ≡ keys_checked (keys_taken filling (keys_from self.now.text.now self.now.table.now 0 self.now.count)) passed }
+    {
+        for i in 0..self.count {
+            writer_rows::check_at(filling, self.text, self.table, 19 * i)?;
+        }
+        Ok(0)
     }
-    if out.len() < size {
-        return writer_reply::refused(Refusal::Room);
+
+    // The length of their blobs, each with its length field.
+    fn blobs_length(&self) -> usize
+        ensures { result ≡ capped (blobs_length (map key_blob (keys_from self.now.text.now self.now.table.now 0 self.now.count))) }
+    {
+        let mut sum = 0;
+        for i in 0..self.count {
+            let one = added(
+                4,
+                writer_rows::blob_length_at(self.text, self.table, 19 * i),
+            );
+            sum = added(sum, one);
+        }
+        sum
     }
-    Ok(put_keys(out, text, table, count, checkint, entries))
+
+    // The length of their entries: each keypair, and its comment with its length field.
+    fn entries_length(&self) -> usize
+        ensures { result ≡ capped (entries_length (map written_entry (keys_from self.now.text.now self.now.table.now 0 self.now.count))) }
+    {
+        let mut sum = 0;
+        for i in 0..self.count {
+            let pair = added(
+                4,
+                writer_rows::pair_length_at(self.text, self.table, 19 * i),
+            );
+            let comment = part_at(self.text, self.table, 19 * i, 5);
+            sum = added(sum, added(pair, comment.len()));
+        }
+        sum
+    }
+
+    // Puts their blobs.
+    fn put_blobs(&self, out: &mut [u8], at: usize) -> usize
+        ensures { IsRun out.old at (join (blobs_of (keys_from self.now.text.now self.now.table.now 0 self.now.count))) result out.new }
+    {
+        let mut past = at;
+        for i in 0..self.count {
+            past = writer_rows::put_blob_at(out, past, self.text, self.table, 19 * i);
+        }
+        past
+    }
+
+    // Puts their entries.
+    fn put_entries(&self, out: &mut [u8], at: usize) -> usize
+        ensures { IsRun out.old at (join (entries_of (keys_from self.now.text.now self.now.table.now 0 self.now.count))) result out.new }
+    {
+        let mut past = at;
+        for i in 0..self.count {
+            let pair = writer_rows::put_pair_at(out, past, self.text, self.table, 19 * i);
+            past = buffer::put_string(out, pair, part_at(self.text, self.table, 19 * i, 5));
+        }
+        past
+    }
+
+    // Puts every field of an image. The caller has seen to the entries' length and to room.
+    fn put(&self, out: &mut [u8], checkint: u32, entries: usize) -> usize
+        requires { (entries ≡ entries_length (map written_entry (keys_from self.now.text.now self.now.table.now 0 self.now.count))) × (entries < 65536) }
+        ensures { IsRun out.old 0 (written_image checkint (keys_from self.now.text.now self.now.table.now 0 self.now.count)) result out.new }
+    {
+        let content = 8 + entries;
+        let padding = buffer::padding(content);
+        let front = b"openssh-key-v1\0\0\0\0\x04none\0\0\0\x04none\0\0\0\0";
+        let a = buffer::put(out, 0, front);
+        let b = buffer::put_uint32(out, a, self.count);
+        let c = self.put_blobs(out, b);
+        let d = buffer::put_uint32(out, c, content + padding);
+        let e = buffer::put_uint32(out, d, checkint as usize);
+        let f = buffer::put_uint32(out, e, checkint as usize);
+        let g = self.put_entries(out, f);
+        buffer::put_padding(out, g, padding)
+    }
+
+    // An image of keys that were checked, if its size and the room allow.
+    fn write(&self, checkint: u32, out: &mut [u8]) -> Written
+        ensures { IsSized (written_image checkint (keys_from self.now.text.now self.now.table.now 0 self.now.count)) out.old result out.new }
+    {
+        let entries = self.entries_length();
+        let size = writer_parts::image_length(self.blobs_length(), entries);
+        if 65535 < size {
+            return writer_reply::refused(Refusal::Size);
+        }
+        if out.len() < size {
+            return writer_reply::refused(Refusal::Room);
+        }
+        Ok(self.put(out, checkint, entries))
+    }
 }
 
 // An image of the keys that the table names, their scalars filled with zeros in front, or as they are.
@@ -139,9 +141,13 @@ fn write_named(
     ensures { IsNamed filling text.now table.now checkint out.old result out.new }
 {
     writer_table::check(text, table)?;
-    let count = table.len() / 19;
-    check_keys(filling, text, table, count)?;
-    write_sized(text, table, count, checkint, out)
+    let keys = Keys {
+        text,
+        table,
+        count: table.len() / 19,
+    };
+    keys.check(filling)?;
+    keys.write(checkint, out)
 }
 
 // An image of the keys that the table names, whose scalars may lack leading zeros, as a record's do.

@@ -16,18 +16,18 @@ returns-in_err-check c = let a = c.args in
     let p = err_from_is_err_and c.from_residual.result c.from_residual.ensures.1 in
     rw (p.1, p.2, reply) (refl, refl, refl)
 
-pub returns-in_err-check_keys : goal.returns-in_err-check_keys
+pub returns-in_err-check-2 : goal.returns-in_err-check-2
 unfolding named_left keys_named
-returns-in_err-check_keys c = let a = c.args in
+returns-in_err-check-2 c = let a = c.args in
     let keys = named_keys a.filling a.text.now a.table.now in
     let reply = named_passed a.filling a.text.now a.table.now _ a.checkint (length a.out.now) (sym c.check.ensures ∙ c.in_ok-check.was) in
-    let p = err_from_is_err_and c.from_residual-in_err-check_keys.result c.from_residual-in_err-check_keys.ensures.1 in
-    rw (p.1, p.2, reply, (checking_keys keys).refuses _ _ (sym c.check_keys.ensures ∙ c.in_err-check_keys.was)) (refl, refl, refl)
+    let p = err_from_is_err_and c.from_residual-in_err-check-2.result c.from_residual-in_err-check-2.ensures.1 in
+    rw (p.1, p.2, reply, (checking_keys keys).refuses _ _ (sym c.check-2.ensures ∙ c.in_err-check-2.was)) (refl, refl, refl)
 
 pub returns : goal.returns
 unfolding named_left keys_named
 returns c = let a = c.args in
     let keys = named_keys a.filling a.text.now a.table.now in
     let reply = named_passed a.filling a.text.now a.table.now _ a.checkint (length a.out.now) (sym c.check.ensures ∙ c.in_ok-check.was) in
-    rw (reply, (checking_keys keys).passes _ _ (sym c.check_keys.ensures ∙ c.in_ok-check_keys.was), written_named a.filling a.text.now a.table.now a.checkint)
-    (answered _ _ _ _ c.write_sized.ensures)
+    rw (reply, (checking_keys keys).passes _ _ (sym c.check-2.ensures ∙ c.in_ok-check-2.was), written_named a.filling a.text.now a.table.now a.checkint)
+    (answered _ _ _ _ c.write.ensures)

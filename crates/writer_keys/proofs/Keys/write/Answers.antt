@@ -1,4 +1,4 @@
--- `writer_keys::write_sized` meets its contract: the lengths that it adds up are the image's. Rests on `image_measured`.
+-- `Keys::write` meets its contract: the lengths that it adds up are the image's. Rests on `image_measured`.
 use native.Mathlib.Omega.{arith}
 use mathlib.Core.Path.{◌≡◌}
 use mathlib.Core.List.{map}
@@ -8,14 +8,14 @@ use Rattle.writer_reply.specs.Sized.{too_large, no_room, done}
 use Rattle.writer_parts.specs.Sizes.{capped, capped_above, capped_exact}
 use Rattle.writer_parts.specs.Fields.{image_length_lem, image_measured, entries_exact}
 use Rattle.writer_keys.specs.Passes.{keys_from}
-use Rattle.writer_keys.proofs.write_sized.Goals as goal
-use Rattle.writer_keys.proofs.write_sized.Goals.{After-image_length-size}
+use Rattle.writer_keys.proofs.Keys.write.Goals as goal
+use Rattle.writer_keys.proofs.Keys.write.Goals.{After-image_length-size}
 
 -- what is added up is the image's length
-size_is : (c : After-image_length-size) → c.image_length-size.result ≡ capped (length (written_image c.args.checkint (keys_from c.args.text.now c.args.table.now 0 c.args.count)))
+size_is : (c : After-image_length-size) → c.image_length-size.result ≡ capped (length (written_image c.args.checkint (keys_from c.args.self.now.text.now c.args.self.now.table.now 0 c.args.self.now.count)))
 unfolding written_image
-size_is c = let keys = keys_from c.args.text.now c.args.table.now 0 c.args.count in
-    image_measured c.args.checkint (map key_blob keys) (map written_entry keys) _ _ _ c.blobs_length-blobs.ensures c.entries_length-entries.ensures c.image_length-size.ensures
+size_is c = let keys = keys_from c.args.self.now.text.now c.args.self.now.table.now 0 c.args.self.now.count in
+    image_measured c.args.checkint (map key_blob keys) (map written_entry keys) _ _ _ c.blobs_length.ensures c.entries_length-entries.ensures c.image_length-size.ensures
 
 pub returns-then-size-gt65535 : goal.returns-then-size-gt65535
 returns-then-size-gt65535 c =
@@ -27,16 +27,16 @@ returns-then-out-size c =
     let exact = capped_exact _ _ _ (size_is (goal.at.returns-then-out-size c).After-image_length-size) c.if-size-gt65535.false (omega arith) in
     rw c.refused-then-out-size.ensures (no_room _ c.args.out.now (omega (arith, exact, c.if-size-gt65535.false)) (omega (arith, exact, c.if-out-size.true)))
 
-pub put_keys-requires : goal.put_keys-requires
+pub put-requires : goal.put-requires
 unfolding written_image
-put_keys-requires c = let a = c.args in
-    let keys = keys_from a.text.now a.table.now 0 a.count in
-    let exact = capped_exact _ _ _ (size_is (goal.at.put_keys-requires c).After-image_length-size) c.if-size-gt65535.false (omega arith) in
+put-requires c = let a = c.args in
+    let keys = keys_from a.self.now.text.now a.self.now.table.now 0 a.self.now.count in
+    let exact = capped_exact _ _ _ (size_is (goal.at.put-requires c).After-image_length-size) c.if-size-gt65535.false (omega arith) in
     let same = entries_exact a.checkint (map key_blob keys) (map written_entry keys) _ c.entries_length-entries.ensures (omega (arith, exact, c.if-size-gt65535.false)) in
     let small = image_length_lem a.checkint (map key_blob keys) (map written_entry keys) in
-    record { count_in_bounds = c.requires; entries_value = (same, omega (arith, same, exact, c.if-size-gt65535.false, small)) }
+    (same, omega (arith, same, exact, c.if-size-gt65535.false, small))
 
 pub returns : goal.returns
 returns c =
     let exact = capped_exact _ _ _ (size_is (goal.at.returns c).After-image_length-size) c.if-size-gt65535.false (omega arith) in
-    done _ c.args.out.now _ _ (omega (arith, exact, c.if-size-gt65535.false)) (omega (arith, exact, c.if-out-size.false)) c.put_keys.ensures
+    done _ c.args.out.now _ _ (omega (arith, exact, c.if-size-gt65535.false)) (omega (arith, exact, c.if-out-size.false)) c.put.ensures
