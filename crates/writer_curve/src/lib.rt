@@ -1,4 +1,5 @@
-// A key over a curve, as the writers check, measure and put it.
+// A key over a curve, as the writers check, measure and put it. Kind, point and scalar stay parameters: a blob has no
+// scalar, so a struct of the three would ask more of who has a public key alone.
 #![tactic(auto)]
 
 ghost use Rattle.std.specs.Prelude.{◌≡◌, ◌++◌, ◌+◌, ◌<◌, length};
@@ -62,7 +63,8 @@ pub fn blob_length(algorithm: Elliptic, point: &[u8]) -> usize
     added(names_length(algorithm) + 4, point.len())
 }
 
-// A public blob, as a string.
+// A public blob, as a string. `Numbers::put_blob` goes alike: one for both would need the two `put_key` public, and
+// what these leave where there is no room isn't determined.
 pub fn put_blob(out: &mut [u8], at: usize, algorithm: Elliptic, point: &[u8]) -> usize
     ensures { IsPut out.old at (string (blob (OnCurve algorithm) (of_point point.now))) result out.new }
 {

@@ -96,7 +96,8 @@ impl<'a> Keys<'a> {
         past
     }
 
-    // Puts every field of an image. The caller has seen to the entries' length and to room.
+    // Puts every field of an image. The caller has seen to the entries' length and to room. `writer_plain::put_plain`
+    // puts one key alike: one for both would take a closure for the blobs and one for the entries, to save eight lines.
     fn put(&self, out: &mut [u8], checkint: u32, entries: usize) -> usize
         requires { (entries ≡ entries_length (map written_entry (keys_from self.now.text.now self.now.table.now 0 self.now.count))) × (entries < 65536) }
         ensures { IsRun out.old 0 (written_image checkint (keys_from self.now.text.now self.now.table.now 0 self.now.count)) result out.new }
@@ -130,7 +131,8 @@ impl<'a> Keys<'a> {
     }
 }
 
-// An image of the keys that the table names, their scalars filled with zeros in front, or as they are.
+// An image of the keys that the table names, their scalars filled with zeros in front, or as they are: `filling` is a
+// bool, as in the contracts (`IsNamed`).
 fn write_named(
     filling: bool,
     text: &[u8],

@@ -105,7 +105,7 @@ impl<'a> Numbers<'a> {
         buffer::put_string(out, b, self.n)
     }
 
-    // A public blob, as a string.
+    // A public blob, as a string. `writer_curve::put_blob` says why it is another.
     pub fn put_blob(&self, out: &mut [u8], at: usize) -> usize
         ensures { IsPut out.old at (string (blob Rsa (public_numbers self.now))) result out.new }
     {

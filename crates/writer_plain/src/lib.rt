@@ -35,7 +35,8 @@ pub enum KeyParts<'a> {
 }
 
 impl<'a> KeyParts<'a> {
-    // What a writer refuses of a key, or the length 0. A record's scalar is filled with zeros in front.
+    // What a writer refuses of a key, or the length 0. A record's scalar is filled with zeros in front. `filling` is a
+    // bool, as in `scalar_taken`.
     pub fn check(&self, filling: bool) -> Written
         ensures { result ≡ key_checked (lent_algorithm self.now) (lent_public self.now) (lent_taken filling self.now) passed }
     {
@@ -152,7 +153,7 @@ pub fn write_key(key: &KeyParts, checkint: u32, comment: &[u8], out: &mut [u8]) 
     write_sized(key, checkint, comment, out)
 }
 
-// The same over a curve: the public string or point, the seed or scalar.
+// The same over a curve: the public string or point, the seed or scalar. They are parameters, as C hands them in.
 pub fn write_parts(
     algorithm: Elliptic,
     point: &[u8],

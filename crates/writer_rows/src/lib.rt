@@ -1,4 +1,5 @@
-// One key of a table, as the writer of several keys checks, measures and puts it.
+// One key of a table, as the writer of several keys checks, measures and puts it. Text, table and place stay
+// parameters: the first two are the caller's for all keys, and only the place is another for each.
 #![tactic(auto)]
 
 ghost use Rattle.std.specs.Prelude.{◌≡◌, length};
