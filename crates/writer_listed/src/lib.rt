@@ -126,6 +126,7 @@ pub fn write_listed(image: &[u8], f: Fields, out: &mut [u8]) -> Written
         at: first.start + first.length,
         end: image.len(),
     };
+    // There is no heap: the table has room for sixteen keys' numbers, and what is filled has its length beside it.
     let mut table = [0usize; 304];
     let one = put_row(&mut table, 0, image, key);
     let size = put_others(&mut table, one, image, places, header.count, blob);

@@ -1,4 +1,5 @@
-// The table of keys that a caller hands in beside one text: its numbers, its parts, and whether it can be used.
+// The table of keys that a caller hands in beside one text: its numbers, its parts, and whether it can be used. Text
+// and table are two parameters, as C hands them in, and the place of a key's numbers is another at each call.
 #![tactic(auto)]
 
 ghost use Rattle.std.specs.Prelude.{◌≡◌, ◌+◌, ◌*◌, ◌≤◌, length, get_or};
