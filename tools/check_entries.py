@@ -11,7 +11,7 @@ THEOREMS = "crates/claims/specs/Entries.antt"
 # A struct that holds a reference: the checker makes no plain form of the contract, which cites the definition that the line has.
 BY_HAND = {"recorded_rewrite": (("record_writing", "rewrite"), "IsHanded")}
 # Their functions put bytes where they fit and answer a place: they refuse nothing.
-PUTS = ("buffer", "names_spelling", "report_parts", "writer_curve", "writer_numbers", "writer_rows", "edit_shells")
+PUTS = ("buffer", "names_spelling", "report_parts", "writer_curve", "writer_numbers", "writer_plain", "writer_rows", "edit_shells")
 
 LENT = re.compile(r"&(?:'\w+ )?mut \[u8[\];]")
 # What reads from a stream or a file fills a buffer with what that gives, and is a program's, which hands it on.

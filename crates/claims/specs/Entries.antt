@@ -6,6 +6,8 @@ use Rattle.std.specs.Prelude.{ℕ, List}
 use contract.Lifetimes.{Lfts}
 use borrow.Fn.Kinds.{Dens, res_t, ended_of, ParamKind, ResultKind, Out}
 use denote.Triple.Clauses.{AtExit}
+use Rattle.writer_plain.proofs.write_key.Reads as write_key_reads
+use Rattle.writer_plain.proofs.write_key.Kinds as write_key_kinds
 use Rattle.writer_plain.proofs.write_parts.Reads as write_parts_reads
 use Rattle.writer_plain.proofs.write_parts.Kinds as write_parts_kinds
 use Rattle.writer_rsa.proofs.write_parts.Reads as write_numbers_reads
@@ -77,6 +79,7 @@ use Rattle.c_add.proofs.saltorchard_add_rsa.Kinds as saltorchard_add_rsa_kinds
 use Rattle.c_remove.proofs.saltorchard_remove_key.Reads as saltorchard_remove_key_reads
 use Rattle.c_remove.proofs.saltorchard_remove_key.Kinds as saltorchard_remove_key_kinds
 use Rattle.reader_image.specs.declared.Fields.{Fields}
+use Rattle.writer_plain.specs.Lent.{lent_algorithm, lent_public, lent_private}
 use Rattle.claims.specs.Demand.{Asked, Demanded, demand_three}
 use Rattle.setting_record.proofs.write.Reads as write_setting_reads
 use Rattle.setting_record.proofs.write.Kinds as write_setting_kinds
@@ -90,12 +93,20 @@ use Rattle.c_settings.proofs.saltorchard_store_put.Reads as saltorchard_store_pu
 use Rattle.c_settings.proofs.saltorchard_store_put.Kinds as saltorchard_store_put_kinds
 use Rattle.c_settings.proofs.saltorchard_store_move.Reads as saltorchard_store_move_reads
 use Rattle.c_settings.proofs.saltorchard_store_move.Kinds as saltorchard_store_move_kinds
-use Rattle.claims.specs.Refusals.{write_parts, write_numbers, write_rsa, write_plain, write_encrypted, rewrite, rewrite_record, change_comment, hand_text, write_report, write_keys_report, export, import, write_setting, store_put, store_move, Promise, saltorchard_write_plain, saltorchard_write_rsa, saltorchard_write_encrypted, saltorchard_rewrite, saltorchard_change_comment, saltorchard_export, saltorchard_import, saltorchard_write_setting, saltorchard_store_put, saltorchard_store_move, PromiseC, write_listed, write_keys, write_named, change_comment_of, remove_key, add_key, add_rsa, change_places, remove_places, open_places, saltorchard_write_keys, saltorchard_change_comment_of, saltorchard_add_key, saltorchard_add_rsa, saltorchard_remove_key}
+use Rattle.claims.specs.Refusals.{write_key, write_parts, write_numbers, write_rsa, write_plain, write_encrypted, rewrite, rewrite_record, change_comment, hand_text, write_report, write_keys_report, export, import, write_setting, store_put, store_move, Promise, saltorchard_write_plain, saltorchard_write_rsa, saltorchard_write_encrypted, saltorchard_rewrite, saltorchard_change_comment, saltorchard_export, saltorchard_import, saltorchard_write_setting, saltorchard_store_put, saltorchard_store_move, PromiseC, write_listed, write_keys, write_named, change_comment_of, remove_key, add_key, add_rsa, change_places, remove_places, open_places, saltorchard_write_keys, saltorchard_change_comment_of, saltorchard_add_key, saltorchard_add_rsa, saltorchard_remove_key}
 
 -- what meets the contract keeps the line: a are the arguments, in their order, r the answer, s what the lent places hold at the end
 abbrev pub Listed : (n : ℕ) (ps : List (ParamKind n)) (r : ResultKind n) → Out n ps r → Out n ps r → Type 0
 Listed n ps r Post Line =
     (κs : Lfts n) (a : Dens κs ps) (w : (res_t r κs).Denot) (s : AtExit (ended_of n ps r) κs) → Post κs a w s → Line κs a w s
+
+-- writer_plain::write_key
+pub write_key_listed :
+    Listed 4 write_key_kinds.ps write_key_kinds.r write_key_reads.Post
+    (λ κs a r s.
+    Promise (write_key (lent_algorithm a.0.now) (lent_public a.0.now) (lent_private a.0.now) a.1.0 a.1.1.0.now)
+    a.1.1.1.0.now r s.1.1.1.0.now)
+write_key_listed κs a r s p = p
 
 -- writer_plain::write_parts
 pub write_parts_listed :

@@ -64,7 +64,7 @@ use Rattle.c_add.specs.Added.{coded_add_reply}
 use Rattle.laws_places.specs.Read.{read_said}
 use Rattle.claims.specs.Places.{place_within}
 use Rattle.claims.specs.Change.{may_edit}
-use Rattle.claims.specs.Refusals.{by_kind, Entry, write_parts, write_numbers, write_rsa, write_plain, write_encrypted, rewrite, rewrite_record, recorded_rewrite, write_listed, write_keys, write_named, change_comment, change_comment_of, remove_key, add_key, add_rsa, change_places, remove_places, open_places, curve_key, rsa_key, hand_text, write_report, write_keys_report, export, import, write_setting, store_put, store_move, Promise, EntryC, saltorchard_write_plain, saltorchard_write_rsa, saltorchard_write_encrypted, saltorchard_rewrite, saltorchard_write_keys, saltorchard_change_comment, saltorchard_change_comment_of, saltorchard_add_key, saltorchard_add_rsa, saltorchard_remove_key, saltorchard_export, saltorchard_import, saltorchard_write_setting, saltorchard_store_put, saltorchard_store_move, PromiseC}
+use Rattle.claims.specs.Refusals.{by_kind, Entry, write_key, write_parts, write_numbers, write_rsa, write_plain, write_encrypted, rewrite, rewrite_record, recorded_rewrite, write_listed, write_keys, write_named, change_comment, change_comment_of, remove_key, add_key, add_rsa, change_places, remove_places, open_places, curve_key, rsa_key, hand_text, write_report, write_keys_report, export, import, write_setting, store_put, store_move, Promise, EntryC, saltorchard_write_plain, saltorchard_write_rsa, saltorchard_write_encrypted, saltorchard_rewrite, saltorchard_write_keys, saltorchard_change_comment, saltorchard_change_comment_of, saltorchard_add_key, saltorchard_add_rsa, saltorchard_remove_key, saltorchard_export, saltorchard_import, saltorchard_write_setting, saltorchard_store_put, saltorchard_store_move, PromiseC}
 
 -- ---- the place by the reply's number
 
@@ -89,6 +89,7 @@ abbrev pub whole_place : List ℕ → ℕ → ℕ → ℕ
 whole_place old n number = edit_place old n (λ f m. 0) number
 
 abbrev pub place_of : Entry → List ℕ → ℕ → ℕ
+place_of (write_key a key x checkint comment) old number = 0
 place_of (write_parts e point scalar checkint comment) old number = 0
 place_of (write_numbers n e d iqmp p q checkint comment) old number = 0
 place_of (write_rsa n e d iqmp p q given comment) old number = 0
@@ -413,6 +414,8 @@ told_at place w r after out h p = told_by place w r h p.0
 -- whatever answer meets an entry's promise, its place is the entry's, by the number
 pub place_said :
     (entry : Entry) (old : List ℕ) → AllBytes old → (r : Written) (out : List ℕ) → Promise entry old r out → (told r).at ≡ place_of entry old (told r).number
+place_said (write_key a key x checkint comment) old all r out p =
+    told_at nowhere _ r _ out (plain_at a key x checkint comment (length old)) p
 place_said (write_parts e point scalar checkint comment) old all r out p =
     told_at nowhere _ r _ out (plain_at (OnCurve e) (of_point point) (of_scalar scalar) checkint comment (length old)) p
 place_said (write_numbers n e d iqmp p q checkint comment) old all r out promise =

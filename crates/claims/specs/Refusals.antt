@@ -51,6 +51,7 @@ use Rattle.claims.specs.Change.{refused_stays}
 
 -- the entries of the library
 pub data Entry : Type 0 where
+  write_key : Algorithm → PublicBytes → PrivateBytes → ℕ → List ℕ → Entry
   write_parts : Elliptic → List ℕ → List ℕ → ℕ → List ℕ → Entry
   write_numbers : List ℕ → List ℕ → List ℕ → List ℕ → List ℕ → List ℕ → ℕ → List ℕ → Entry
   write_rsa : List ℕ → List ℕ → List ℕ → List ℕ → List ℕ → List ℕ → Option ℕ → List ℕ → Entry
@@ -87,6 +88,7 @@ abbrev pub rsa_key : List ℕ → List ℕ → List ℕ → List ℕ → List �
 rsa_key m e d iqmp p q comment = key_of Rsa (of_modulus m e) (of_numbers d iqmp p q) comment
 
 abbrev pub Promise : Entry → List ℕ → Written → List ℕ → Type 0
+Promise (write_key a key x checkint comment) old r out = IsPlain a key x checkint comment old r out
 Promise (write_parts e point scalar checkint comment) old r out = IsPlain (OnCurve e) (of_point point) (of_scalar scalar) checkint comment old r out
 Promise (write_numbers n e d iqmp p q checkint comment) old r out = IsPlain Rsa (of_modulus n e) (of_numbers d iqmp p q) checkint comment old r out
 Promise (write_rsa n e d iqmp p q given comment) old r out = IsPlain Rsa (of_modulus n e) (of_numbers d iqmp p q) (checkint_of given d) comment old r out
@@ -320,6 +322,7 @@ kept w r after out old g keeps p e = p.1 ∙ keeps g (sym p.0 ∙ e)
 
 -- a refused call of any entry leaves every byte
 pub refused_keeps : (entry : Entry) (old : List ℕ) (r : Written) (out : List ℕ) (g : Fault) → Promise entry old r out → r ≡ Err g → out ≡ old
+refused_keeps (write_key a key x checkint comment) old r out g promise q = kept _ r _ out old g (plain_keeps a key x checkint comment old) promise q
 refused_keeps (write_parts e point scalar checkint comment) old r out g promise q =
     kept _ r _ out old g (plain_keeps (OnCurve e) (of_point point) (of_scalar scalar) checkint comment old) promise q
 refused_keeps (write_numbers n e d iqmp p q checkint comment) old r out g promise w =
