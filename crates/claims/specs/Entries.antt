@@ -302,7 +302,7 @@ add_rsa_listed κs a r s p = p
 pub change_places_listed :
     Listed 2 change_places_kinds.ps change_places_kinds.r change_places_reads.Post
     (λ κs a r s.
-    Promise (change_places a.1.0 a.1.1.0 a.1.1.1.0 a.1.1.1.1.0 a.1.1.1.1.1.0 a.1.1.1.1.1.1.0.now)
+    Promise (change_places a.1.0 a.1.1.0.section a.1.1.0.field a.1.1.0.past a.1.1.0.end a.1.1.1.0.now)
     a.0.now r s.0.now)
 change_places_listed κs a r s p = p
 
@@ -310,7 +310,7 @@ change_places_listed κs a r s p = p
 pub remove_places_listed :
     Listed 1 remove_places_kinds.ps remove_places_kinds.r remove_places_reads.Post
     (λ κs a r s.
-    Promise (remove_places a.1.0 a.1.1.0 a.1.1.1.0 a.1.1.1.1.0 a.1.1.1.1.1.0 a.1.1.1.1.1.1.0 a.1.1.1.1.1.1.1.0 a.1.1.1.1.1.1.1.1.0)
+    Promise (remove_places a.1.0 a.1.1.0 a.1.1.1.0.blob a.1.1.1.0.after a.1.1.1.0.section a.1.1.1.0.pair a.1.1.1.0.past a.1.1.1.0.end)
     a.0.now r s.0.now)
 remove_places_listed κs a r s p = p
 
@@ -318,7 +318,7 @@ remove_places_listed κs a r s p = p
 pub open_places_listed :
     Listed 1 open_places_kinds.ps open_places_kinds.r open_places_reads.Post
     (λ κs a r s.
-    Promise (open_places a.1.0 a.1.1.0 a.1.1.1.0 a.1.1.1.1.0 a.1.1.1.1.1.0 a.1.1.1.1.1.1.0)
+    Promise (open_places a.1.0 a.1.1.0 a.1.1.1.0.section a.1.1.1.0.end a.1.1.1.0.blob a.1.1.1.0.own)
     a.0.now r s.0.now)
 open_places_listed κs a r s p = p
 

@@ -1,4 +1,5 @@
 pub mod Edits
+pub mod Find
 pub mod Stand
 pub mod Afresh
 pub mod Numbered

@@ -1,16 +1,19 @@
 -- docs/RULES.md, 12: the laws of an edit of the first n bytes of a buffer: what it answers by its places, its size and the room, and what it
 -- leaves there.
-use Rattle.std.specs.Prelude.{ℕ, ◌+◌, ◌-◌, ◌≤◌, ◌<◌, ◌≡◌, refl, Bool, true, false, List, [], ◌∷◌, ◌++◌, leb, length, take, drop, Ok, Err}
+use Rattle.std.specs.Prelude.{ℕ, ◌+◌, ◌-◌, ◌^◌, ◌≤◌, ◌<◌, ◌≡◌, refl, Bool, true, false, List, [], ◌∷◌, ◌++◌, leb, min, length, take, drop, Ok, Err, ⊤}
 use Rattle.std.proofs.Common.{arith, sym, ap, ◌∙◌, append_assoc, append-nil, length-append, length-drop, take_at}
-use borrow.Author.Tests.{le-leb, lt-leb, leb-true}
+use borrow.Author.Tests.{le-leb, lt-leb, leb-true, leb-false}
 use Rattle.fields.specs.Bytes.{join}
+use Rattle.fields.specs.Place.{clash, by_bool}
+use Rattle.fields.specs.Fields.{fault}
+use Rattle.fields.specs.declared.Fault.{Fault}
 use Rattle.fields.specs.declared.Refusal.TheVariants.{Length, Size, Room}
 use Rattle.format.specs.Format.{padding_bytes}
 use Rattle.buffer.specs.Runs.{join-append}
 use Rattle.buffer.specs.Puts.{splice, placed, next, zeros, zeros-length, nothing_put, splice_nil, splice-splice}
 use Rattle.writer_reply.specs.Reply.{refused, unless, left, sized_by, sized, IsSized, Written}
-use Rattle.edit_shells.specs.Parts.{rises, Rises, lengths, lengths_more, true-rises, put_part}
-use Rattle.edit_shells.specs.Edits.{edit_reply, renewed, IsEdit, IsRenewed, IsOpened, IsRoomMade, IsEnding}
+use Rattle.edit_shells.specs.Parts.{rises, Rises, rises-true, lengths, lengths_more, true-rises, not_rises, put_part}
+use Rattle.edit_shells.specs.Edits.{places_checked, edit_reply, renewed, IsEdit, IsRenewed, IsOpened, IsRoomMade, IsEnding}
 
 -- a writer's reply by its image's length
 pub sized_by_lem : (image : List ℕ) (room : ℕ) → sized_by (length image) room ≡ sized image room
@@ -30,6 +33,53 @@ module _ (places : List ℕ) (size n room : ℕ) where
   unfolding edit_reply
   ordered h k = rw (le-leb _ _ h, true-rises 0 (places ++ n ∷ room ∷ []) k)
 
+  -- what the test of the places answers
+  not_placed : (f : Fault) → places_checked n (places ++ n ∷ room ∷ []) ≡ Err f → edit_reply places size n room ≡ Err f
+  not_placed f e =
+      by_bool (leb n 65535)
+      (λ w.
+      let e₁ = rw w at e in
+      by_bool (rises 0 (places ++ n ∷ room ∷ []))
+      (λ v. let e₂ = rw v at e₁ in clash cc)
+      (λ v. let e₂ = rw v at e₁ in let same : fault Length 0 ≡ f = cc in disordered (leb-true n 65535 w) v ∙ ap (λ (g : Fault). Err g) same))
+      (λ w. let e₁ = rw w at e in let same : fault Size 0 ≡ f = cc in many (leb-false n 65535 w) ∙ ap (λ (g : Fault). Err g) same)
+
+-- of places that passed, n is within the limit and they rise
+pub placed_rise : (n : ℕ) (xs : List ℕ) (x : ⊤) → places_checked n xs ≡ Ok x → (n ≤ 65535) × Rises 0 xs
+placed_rise n xs x e =
+    by_bool (leb n 65535)
+    (λ w.
+    let e₁ = rw w at e in
+    by_bool (rises 0 xs)
+    (λ v. (leb-true n 65535 w, rises-true 0 xs v))
+    (λ v. let e₂ = rw v at e₁ in clash cc))
+    (λ w. let e₁ = rw w at e in clash cc)
+
+-- a place among others is at or before n
+before_end : (a : ℕ) (xs : List ℕ) (x : ℕ) (ys : List ℕ) (n room : ℕ) → Rises a (xs ++ x ∷ ys ++ n ∷ room ∷ []) → x ≤ n
+before_end a [] x [] n room r = r.1.0
+before_end a [] x (y ∷ ys) n room r = omega (arith, r.1.0, before_end x [] y ys n room r.1)
+before_end a (w ∷ xs) x ys n room r = before_end w xs x ys n room r.1
+
+-- a sum that is counted no further than the largest number passes exactly where the true one does
+pub checked_saturated :
+    (n room section inside : ℕ) (xs ys : List ℕ) → inside ≡ min (section + 4) (2 ^ 64 - 1)
+    → places_checked n (xs ++ inside ∷ ys ++ n ∷ room ∷ []) ≡ places_checked n (xs ++ (section + 4) ∷ ys ++ n ∷ room ∷ [])
+checked_saturated n room section inside xs ys e =
+    by_bool (leb (section + 4) (2 ^ 64 - 1))
+    (λ w. let same : inside ≡ section + 4 = omega (arith, leb-true (section + 4) (2 ^ 64 - 1) w) in rw same)
+    (λ w.
+    let over = leb-false (section + 4) (2 ^ 64 - 1) w in
+    by_bool (leb n 65535)
+    (λ v.
+    let small = leb-true n 65535 v in
+    let one : rises 0 (xs ++ inside ∷ ys ++ n ∷ room ∷ []) ≡ false =
+    not_rises 0 (xs ++ inside ∷ ys ++ n ∷ room ∷ []) (λ r. omega (arith, before_end 0 xs inside ys n room r)) in
+    let two : rises 0 (xs ++ (section + 4) ∷ ys ++ n ∷ room ∷ []) ≡ false =
+    not_rises 0 (xs ++ (section + 4) ∷ ys ++ n ∷ room ∷ []) (λ r. omega (arith, before_end 0 xs (section + 4) ys n room r)) in
+    rw (v, one, two))
+    (λ v. rw v))
+
 -- a length is answered where the image fits
 pub fits_of : (size room k : ℕ) → Ok k ≡ sized_by size room → (k ≡ size) × (size ≤ 65535) × (size ≤ room)
 fits_of size room k e = small (leb size 65535) (leb size room) refl refl e
@@ -47,17 +97,15 @@ module _ (image : List ℕ) (n : ℕ) (old : List ℕ) where
   unfolding sized
   refused_size h = rw (lt-leb _ _ h) (refl, refl)
 
-  pub refused_room : length image ≤ 65535 → length old < length image → IsRenewed image n old (refused Room) old
+  -- by the test of the size
+  pub renewed_refused : (size : ℕ) (f : Fault) → length image ≡ size → sized_by size (length old) ≡ Err f → IsRenewed image n old (Err f) old
   unfolding sized
-  refused_room h k = rw (le-leb _ _ h, lt-leb _ _ k) (refl, refl)
+  renewed_refused size f l e = let e' : sized_by (length image) (length old) ≡ Err f = rw l e in rw e' (refl, refl)
 
   -- by the places
-  pub edit_many : (places : List ℕ) → 65535 < n → IsEdit places image n old (refused Size) old
-  edit_many places h = rw (many places (length image) n (length old) h) (refl, refl)
-
-  pub edit_disordered :
-      (places : List ℕ) → n ≤ 65535 → rises 0 (places ++ n ∷ length old ∷ []) ≡ false → IsEdit places image n old (refused Length) old
-  edit_disordered places h k = rw (disordered places (length image) n (length old) h k) (refl, refl)
+  pub edit_refused :
+      (places : List ℕ) (f : Fault) → places_checked n (places ++ n ∷ length old ∷ []) ≡ Err f → IsEdit places image n old (Err f) old
+  edit_refused places f e = rw (not_placed places (length image) n (length old) f e) (refl, refl)
 
   -- in order, an edit is a renewal, and the other way round
   reply_same :
@@ -80,19 +128,16 @@ module _ (size : ℕ) (image old : List ℕ) where
   pub room_size : 65535 < size → IsRoomMade size image old (refused Size) old
   room_size h = rw (lt-leb _ _ h) (refl, refl)
 
-  pub room_none : size ≤ 65535 → length old < size → IsRoomMade size image old (refused Room) old
-  room_none h k = rw (le-leb _ _ h, lt-leb _ _ k) (refl, refl)
+  pub room_refused : (f : Fault) → sized_by size (length old) ≡ Err f → IsRoomMade size image old (Err f) old
+  room_refused f e = rw e (refl, refl)
 
   pub room_made : (out : List ℕ) → size ≤ 65535 → size ≤ length old → out ≡ splice old 0 image → IsRoomMade size image old (Ok size) out
   room_made out h k e = rw (le-leb _ _ h, le-leb _ _ k) (refl, e)
 
 module _ (size : ℕ) (image : List ℕ) (n : ℕ) (old : List ℕ) where
-  pub opened_many : (places : List ℕ) → 65535 < n → IsOpened places size image n old (refused Size) old
-  opened_many places h = rw (many places size n (length old) h) (refl, refl)
-
-  pub opened_disordered :
-      (places : List ℕ) → n ≤ 65535 → rises 0 (places ++ n ∷ length old ∷ []) ≡ false → IsOpened places size image n old (refused Length) old
-  opened_disordered places h k = rw (disordered places size n (length old) h k) (refl, refl)
+  pub opened_refused :
+      (places : List ℕ) (f : Fault) → places_checked n (places ++ n ∷ length old ∷ []) ≡ Err f → IsOpened places size image n old (Err f) old
+  opened_refused places f e = rw (not_placed places size n (length old) f e) (refl, refl)
 
   pub room_opened :
       (places : List ℕ) (r : Written) (out : List ℕ) → n ≤ 65535 → Rises 0 (places ++ n ∷ length old ∷ []) → IsRoomMade size image old r out

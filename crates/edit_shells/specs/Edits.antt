@@ -1,6 +1,7 @@
 -- docs/RULES.md, 12: what an edit of the first n bytes of a buffer answers and leaves there, by the image that it makes. Order: n above 65,535:
 -- 11; places that aren't in order within the n bytes, or n above the buffer's length: 1; size 11; room 9.
-use Rattle.std.specs.Prelude.{ℕ, ◌+◌, ◌-◌, ◌≡◌, List, [], ◌∷◌, ◌++◌, leb, length, take, Ok, Err}
+use Rattle.std.specs.Prelude.{ℕ, ◌+◌, ◌-◌, ◌≡◌, cond, List, [], ◌∷◌, ◌++◌, leb, length, take, Ok, Err}
+use Rattle.fields.specs.Fields.{fault, Tested}
 use Rattle.fields.specs.declared.Refusal.TheVariants.{Length, Size}
 use Rattle.format.specs.Format.{padding_bytes}
 use Rattle.buffer.specs.Puts.{splice, placed, next, zeros}
@@ -18,6 +19,13 @@ removed_by_places blobStart blobEnd section entryStart entryEnd end =
 
 abbrev pub added_by_places : ℕ → ℕ → List ℕ
 added_by_places section end = blobs_place ∷ section ∷ (section + 4) ∷ end ∷ []
+
+-- n at most 65,535, and places in order, the image's end and the buffer's among them
+abbrev pub places_checked : ℕ → List ℕ → Tested
+places_checked n places =
+    cond (leb n 65535)
+    (cond (rises 0 places) (Ok tt) (Err (fault Length 0)))
+    (Err (fault Size 0))
 
 -- `room` is the buffer's length
 unfoldable pub edit_reply : List ℕ → ℕ → ℕ → ℕ → Written

@@ -10,6 +10,7 @@ ghost use Rattle.edit_file.specs.Edits.{IsAdd};
 ghost use Rattle.key_add.specs.More.{more_at, IsRoom};
 ghost use Rattle.key_add.specs.Add.{MayAdd};
 
+use edit_add::Gaps;
 use fields::{Fault, Refusal};
 use names::Elliptic;
 use reader_image::Fields;
@@ -48,9 +49,13 @@ fn make_room(
         return writer_reply::refused(Refusal::CharacterEncoding);
     }
     let Fields { header, section } = f;
-    let end = n - section.padding;
-    let own = added(pair, 4 + comment.len());
-    edit_add::open(lent, n, header.count + 1, header.section, end, blob, own)
+    let gaps = Gaps {
+        section: header.section,
+        blob,
+        end: n - section.padding,
+        own: added(pair, 4 + comment.len()),
+    };
+    edit_add::open(lent, n, header.count + 1, gaps)
 }
 
 // Adds a key that was checked.

@@ -1,37 +1,35 @@
--- `edit_remove::remove` meets its contract: each test is the definition's. Rests on the contract of `remove_within`.
+-- `edit_remove::remove` meets its contract: the test of the places is the definition's. Rests on the contract of `remove_within`.
 use Prim.Native.Nat.{◌≤◌}
-use native.Mathlib.Omega.{arith}
 use mathlib.Core.Path.{sym, ◌∙◌}
+use mathlib.Core.List.{[], ◌∷◌, ◌++◌}
+use lib.ListN.{length}
+use Rattle.std.proofs.lemmas.Result.{err_from_is_err_and}
+use Rattle.edit_shells.specs.Parts.{Rises}
 use Rattle.edit_shells.specs.Shells.{removed_at}
 use Rattle.edit_shells.specs.Edits.{removed_by_places}
-use Rattle.edit_shells.proofs.Edits.{edit_many, edit_disordered, renewed_edit}
-use Rattle.edit_remove.specs.Remove.{Ordered, ordered_rises, rises_ordered, section_past}
+use Rattle.edit_shells.proofs.Edits.{placed_rise, checked_saturated, edit_refused, renewed_edit}
 use Rattle.edit_remove.proofs.remove.Goals as goal
-use Rattle.edit_remove.proofs.remove.Goals.{Else-not-in_order}
+use Rattle.edit_remove.proofs.remove.Goals.{In_ok-check_places}
 
--- the places are in order
-in_order : (c : Else-not-in_order) → (let a = c.args in Ordered a.lent.now a.n a.blob a.after a.section a.pair a.past a.end)
-in_order c =
-    let a = c.args in
-    rises_ordered a.lent.now a.n a.blob a.after a.section a.pair a.past a.end (omega arith) (sym c.in_order.ensures ∙ c.if-not-in_order.false)
+-- the places passed
+placed :
+    (c : In_ok-check_places)
+    → (let a = c.args in
+    (a.n ≤ 65535) × Rises 0 (removed_by_places a.at.blob a.at.after a.at.section a.at.pair a.at.past a.at.end ++ a.n ∷ length a.lent.now ∷ []))
+placed c = let a = c.args in
+    placed_rise a.n (removed_by_places a.at.blob a.at.after a.at.section a.at.pair a.at.past a.at.end ++ a.n ∷ length a.lent.now ∷ []) _
+    (sym (checked_saturated a.n (length a.lent.now) a.at.section _ (39 ∷ a.at.blob ∷ a.at.after ∷ a.at.section ∷ []) (a.at.pair ∷ a.at.past ∷ a.at.end ∷ []) c.saturating_add-inside.ensures)
+    ∙ sym c.check_places.ensures ∙ c.in_ok-check_places.was)
 
-pub returns-then-n-gt65535 : goal.returns-then-n-gt65535
-returns-then-n-gt65535 c = let a = c.args in
-    rw c.refused.ensures (edit_many (removed_at a.lent.now a.count a.blob a.after a.section a.pair a.past a.end) a.n a.lent.now (removed_by_places a.blob a.after a.section a.pair a.past a.end) c.if-n-gt65535.true)
-
-pub returns-then-n-section : goal.returns-then-n-section
-returns-then-n-section c = let a = c.args in
-    let small : a.n ≤ 65535 = omega arith in
-    rw c.refused-then-n-section.ensures (edit_disordered (removed_at a.lent.now a.count a.blob a.after a.section a.pair a.past a.end) a.n a.lent.now (removed_by_places a.blob a.after a.section a.pair a.past a.end) small (section_past a.lent.now a.n a.blob a.after a.section a.pair a.past a.end small c.if-n-section.true))
-
-pub returns-then-not-in_order : goal.returns-then-not-in_order
-returns-then-not-in_order c = let a = c.args in
-    rw c.refused-then-not-in_order.ensures (edit_disordered (removed_at a.lent.now a.count a.blob a.after a.section a.pair a.past a.end) a.n a.lent.now (removed_by_places a.blob a.after a.section a.pair a.past a.end) (omega arith) (sym c.in_order.ensures ∙ c.if-not-in_order.true))
-
-pub remove_within-requires : goal.remove_within-requires
-remove_within-requires c = in_order (goal.at.remove_within-requires c).Else-not-in_order
+pub returns-in_err-check_places : goal.returns-in_err-check_places
+returns-in_err-check_places c = let a = c.args in
+    let p = err_from_is_err_and c.from_residual.result c.from_residual.ensures.1 in
+    rw (p.1, p.2)
+    (edit_refused (removed_at a.lent.now a.count a.at.blob a.at.after a.at.section a.at.pair a.at.past a.at.end) a.n a.lent.now (removed_by_places a.at.blob a.at.after a.at.section a.at.pair a.at.past a.at.end) _
+    (sym (checked_saturated a.n (length a.lent.now) a.at.section _ (39 ∷ a.at.blob ∷ a.at.after ∷ a.at.section ∷ []) (a.at.pair ∷ a.at.past ∷ a.at.end ∷ []) c.saturating_add-inside.ensures)
+    ∙ sym c.check_places.ensures ∙ c.in_err-check_places.was))
 
 pub returns : goal.returns
 returns c = let a = c.args in
-    let o = in_order (goal.at.returns c).Else-not-in_order in
-    renewed_edit (removed_at a.lent.now a.count a.blob a.after a.section a.pair a.past a.end) a.n a.lent.now (removed_by_places a.blob a.after a.section a.pair a.past a.end) _ _ o.small (ordered_rises a.lent.now a.n a.blob a.after a.section a.pair a.past a.end o.small o) c.remove_within.ensures
+    let p = placed (goal.at.returns c).In_ok-check_places in
+    renewed_edit (removed_at a.lent.now a.count a.at.blob a.at.after a.at.section a.at.pair a.at.past a.at.end) a.n a.lent.now (removed_by_places a.at.blob a.at.after a.at.section a.at.pair a.at.past a.at.end) _ _ p.0 p.1 c.remove_within.ensures
