@@ -19,7 +19,7 @@
 ghost use Rattle.std.specs.Prelude.{◌≡◌, IfOk};
 
 use key_material::Material;
-use replay_telling::{Entry, checkint_of, number_at, read_full, text_of};
+use replay_telling::{Entry, checkint_of, entry_of, number_at, read_full, text_of};
 use std::io;
 use std::io::{Read, Write};
 use std::rt::Files;
@@ -139,27 +139,27 @@ fn call_rsa(head: &[u8], texts: &[u8], lent: &mut [u8]) -> Written {
 
 // ---- the calls
 
-fn call(entry: Entry, head: &[u8], n: usize, texts: &[u8], lent: &mut [u8]) -> Written {
-    match entry {
-        Entry::Plain => call_plain(head, texts, lent),
-        Entry::Encrypted => call_encrypted(head, texts, lent),
-        Entry::Rewrite => writer_again::rewrite(text_of(head, texts, 0), lent),
-        Entry::Rsa => call_rsa(head, texts, lent),
+// The entry with the head's code.
+fn call(head: &[u8], n: usize, texts: &[u8], lent: &mut [u8]) -> Written {
+    match entry_of(given(head, 0)) {
+        Some(Entry::Plain) => call_plain(head, texts, lent),
+        Some(Entry::Encrypted) => call_encrypted(head, texts, lent),
+        Some(Entry::Rewrite) => writer_again::rewrite(text_of(head, texts, 0), lent),
+        Some(Entry::Rsa) => call_rsa(head, texts, lent),
         _ => comment_change::change_comment(lent, length_of(head, n), text_of(head, texts, 0)),
     }
 }
 
-// Reads the texts that the entry is to be given, and calls it.
+// Reads the texts that the head's entry is to be given, and calls it.
 fn stored_call(
     file: &mut impl Read,
-    entry: Entry,
     head: &[u8],
     n: usize,
     lent: &mut [u8],
 ) -> io::Result<Written> {
     let mut texts = [0u8; 70000];
     text(file, &mut texts)?;
-    Ok(call(entry, head, n, &texts, lent))
+    Ok(call(head, n, &texts, lent))
 }
 
 // ---- the rows
@@ -178,9 +178,8 @@ fn called(
 ) -> io::Result<usize> {
     let mut head = [0u8; 72];
     read_full(file, &mut head)?;
-    let entry = Entry::from(given(&head, 0));
-    replay_telling::say_entry(out, entry)?;
-    let written = stored_call(file, entry, &head, n, lent)?;
+    replay_telling::say_entry(out, given(&head, 0))?;
+    let written = stored_call(file, &head, n, lent)?;
     say_call(out, written, lent)?;
     Ok(written.unwrap_or(n))
 }

@@ -19,7 +19,7 @@
 ghost use Rattle.std.specs.Prelude.{◌≡◌, IfOk};
 
 use fields::Part;
-use replay_telling::{Entry, checkint_of, number_at, read_full, text_of};
+use replay_telling::{Entry, checkint_of, entry_of, number_at, read_full, text_of};
 use std::io;
 use std::io::{Read, Write};
 use std::rt::Files;
@@ -85,23 +85,25 @@ fn call_add_rsa(head: &[u8], n: usize, texts: &[u8], lent: &mut [u8]) -> Written
 
 // ---- the calls
 
-fn call(entry: Entry, head: &[u8], texts: &[u8], lent: &mut [u8]) -> Written {
+// The entry with the head's code.
+fn call(head: &[u8], texts: &[u8], lent: &mut [u8]) -> Written {
     let n = replay_telling::halves(given(head, 2), given(head, 3));
     let k = wide(text_of(head, texts, 0));
-    match entry {
-        Entry::Keys => call_keys(head, texts, lent),
-        Entry::ChangeOf => comment_change::change_comment_of(lent, n, k, text_of(head, texts, 1)),
-        Entry::Add => call_add(head, n, texts, lent),
-        Entry::AddRsa => call_add_rsa(head, n, texts, lent),
-        Entry::Remove => key_remove::remove_key(lent, n, k),
+    match entry_of(given(head, 0)) {
+        Some(Entry::Keys) => call_keys(head, texts, lent),
+        Some(Entry::ChangeOf) => {
+            comment_change::change_comment_of(lent, n, k, text_of(head, texts, 1))
+        }
+        Some(Entry::Add) => call_add(head, n, texts, lent),
+        Some(Entry::AddRsa) => call_add_rsa(head, n, texts, lent),
+        Some(Entry::Remove) => key_remove::remove_key(lent, n, k),
         _ => comment_change::change_comment(lent, n, text_of(head, texts, 0)),
     }
 }
 
 fn called(out: &mut impl Write, head: &[u8], texts: &[u8], lent: &mut [u8]) -> io::Result<()> {
-    let entry = Entry::from(given(head, 0));
-    replay_telling::say_entry(out, entry)?;
-    replay_telling::say_written(out, call(entry, head, texts, lent))?;
+    replay_telling::say_entry(out, given(head, 0))?;
+    replay_telling::say_written(out, call(head, texts, lent))?;
     replay_telling::say_buffer(out, lent)
 }
 

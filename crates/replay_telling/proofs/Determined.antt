@@ -28,6 +28,8 @@ use Rattle.replay_telling.proofs.cipher_of.Reads as cipher-of
 use Rattle.replay_telling.proofs.cipher_of.Kinds as cipher_of_kinds
 use Rattle.replay_telling.proofs.kdf_of.Reads as kdf-of
 use Rattle.replay_telling.proofs.kdf_of.Kinds as kdf_of_kinds
+use Rattle.replay_telling.proofs.entry_of.Reads as entry-of
+use Rattle.replay_telling.proofs.entry_of.Kinds as entry_of_kinds
 use Rattle.replay_telling.proofs.rest_of.Reads as rest_of
 use Rattle.replay_telling.proofs.rest_of.Kinds as rest_of_kinds
 use Rattle.replay_telling.proofs.word.Reads as word
@@ -74,6 +76,9 @@ cipher_of_determined κs a r₁ r₂ s₁ s₂ p q = cc
 
 pub kdf_of_determined : Determined 0 kdf_of_kinds.ps kdf_of_kinds.r kdf-of.Post
 kdf_of_determined κs a r₁ r₂ s₁ s₂ p q = cc
+
+pub entry_of_determined : Determined 0 entry_of_kinds.ps entry_of_kinds.r entry-of.Post
+entry_of_determined κs a r₁ r₂ s₁ s₂ p q = cc
 
 pub rest_of_determined : Determined 1 rest_of_kinds.ps rest_of_kinds.r rest_of.Post
 rest_of_determined κs a r₁ r₂ s₁ s₂ p q = cc

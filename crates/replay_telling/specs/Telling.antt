@@ -11,7 +11,9 @@ use Rattle.names.specs.declared.Cipher.{Cipher}
 use Rattle.names.specs.declared.Cipher.TheVariants as cipher
 use Rattle.names.specs.declared.Kdf.{Kdf}
 use Rattle.names.specs.declared.Kdf.TheVariants as kdf
-use Rattle.names_codes.specs.Codes.{algorithm_coded, cipher_coded, kdf_coded}
+use Rattle.names_codes.specs.Codes.{coded, algorithm_coded, cipher_coded, kdf_coded}
+use Rattle.replay_telling.specs.declared.Entry.{Entry}
+use Rattle.replay_telling.specs.declared.Entry.TheVariants.{Plain, Encrypted, Rewrite, Change, Rsa as RsaPlain, Keys, ChangeOf, Add, AddRsa, Remove}
 
 -- the big-endian number of four bytes at a place; 0 where they aren't all there
 unfoldable pub number_in : List ℕ → ℕ → ℕ
@@ -55,6 +57,24 @@ cipher_of n = known_cipher (cipher_coded (n % 256))
 
 unfoldable pub kdf_of : ℕ → Kdf
 kdf_of n = known_kdf (kdf_coded (n % 256))
+
+abbrev pub entry_code : Entry → ℕ
+entry_code Plain = 0
+entry_code Encrypted = 1
+entry_code Rewrite = 2
+entry_code Change = 3
+entry_code RsaPlain = 4
+entry_code Keys = 5
+entry_code ChangeOf = 6
+entry_code Add = 7
+entry_code AddRsa = 8
+entry_code Remove = 9
+
+-- the entry that a stored call's code names
+unfoldable pub entry_of : ℕ → Option Entry
+entry_of =
+    coded entry_code Some None
+    (Plain ∷ Encrypted ∷ Rewrite ∷ Change ∷ RsaPlain ∷ Keys ∷ ChangeOf ∷ Add ∷ AddRsa ∷ Remove ∷ [])
 
 -- one byte more of a big-endian number, modulo the prime
 abbrev pub next_rest : ℕ → ℕ → ℕ

@@ -5,7 +5,7 @@
 
 ghost use Rattle.std.specs.Prelude.{◌≡◌, ◌≤◌, ◌+◌, ◌*◌, ◌%◌, length, IfOk};
 ghost use Rattle.fields.specs.Fields.{IsView};
-ghost use Rattle.replay_telling.specs.Telling.{number_in, text_in, algorithm_of, elliptic_of, checkint_of, cipher_of, kdf_of, next_rest, rest_of};
+ghost use Rattle.replay_telling.specs.Telling.{number_in, text_in, algorithm_of, elliptic_of, checkint_of, cipher_of, kdf_of, entry_of, next_rest, rest_of};
 
 use fields::{Cursor, Fault, Part};
 use names::{Algorithm, Cipher, Elliptic, Kdf};
@@ -137,8 +137,8 @@ pub fn say_number(out: &mut impl Write, n: usize) -> io::Result<()>
     write!(out, " {n}")
 }
 
-// What is called by a stored call, named by its code there.
-#[derive(Clone, Copy, Debug, PartialEq, Eq)]
+// What a stored call calls.
+#[derive(Clone, Copy)]
 pub enum Entry {
     Plain,
     Encrypted,
@@ -152,21 +152,23 @@ pub enum Entry {
     Remove,
 }
 
-// By a code that was read, which is never another than these.
-impl From<u32> for Entry {
-    fn from(code: u32) -> Entry {
-        match code {
-            0 => Entry::Plain,
-            1 => Entry::Encrypted,
-            2 => Entry::Rewrite,
-            4 => Entry::Rsa,
-            5 => Entry::Keys,
-            6 => Entry::ChangeOf,
-            7 => Entry::Add,
-            8 => Entry::AddRsa,
-            9 => Entry::Remove,
-            _ => Entry::Change,
-        }
+// The entry with a code. A code that names none isn't stored.
+#[tactic(auto, unfolding(crate::specs::Telling::entry_of))]
+pub fn entry_of(code: u32) -> Option<Entry>
+    ensures { result ≡ entry_of code }
+{
+    match code {
+        0 => Some(Entry::Plain),
+        1 => Some(Entry::Encrypted),
+        2 => Some(Entry::Rewrite),
+        3 => Some(Entry::Change),
+        4 => Some(Entry::Rsa),
+        5 => Some(Entry::Keys),
+        6 => Some(Entry::ChangeOf),
+        7 => Some(Entry::Add),
+        8 => Some(Entry::AddRsa),
+        9 => Some(Entry::Remove),
+        _ => None,
     }
 }
 
@@ -187,11 +189,14 @@ impl Display for Entry {
     }
 }
 
-// The entry that a stored call is of.
-pub fn say_entry(out: &mut impl Write, entry: Entry) -> io::Result<()>
+// The entry that a stored call is of; nothing where its code names none.
+pub fn say_entry(out: &mut impl Write, code: u32) -> io::Result<()>
     ensures { IfOk result (λ done. done ≡ tt) }
 {
-    write!(out, "{entry}")
+    match entry_of(code) {
+        Some(entry) => write!(out, "{entry}"),
+        None => Ok(()),
+    }
 }
 
 // Where a part begins, and its length.
