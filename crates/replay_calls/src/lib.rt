@@ -19,7 +19,7 @@
 ghost use Rattle.std.specs.Prelude.{◌≡◌, IfOk};
 
 use key_material::Material;
-use replay_telling::{Entry, checkint_of, entry_of, number_at, read_full, text_of};
+use replay_telling::{Call, Entry, checkint_of, number_at, read_full};
 use std::io;
 use std::io::{Read, Write};
 use std::rt::Files;
@@ -34,16 +34,6 @@ fn number(file: &mut impl Read) -> io::Result<u32> {
     Ok(number_at(&head, 0))
 }
 
-// Each byte from `from` up to `end` becomes the one that stands `unit` before it.
-fn repeat(buf: &mut [u8], from: usize, end: usize, unit: usize) {
-    if buf.len() < end || from < unit {
-        return;
-    }
-    for i in from..end {
-        buf[i] = buf[i - unit];
-    }
-}
-
 // A unit repeated over so many bytes at a place; answers the place after them.
 fn repeated(
     file: &mut impl Read,
@@ -55,8 +45,11 @@ fn repeated(
     if buf.len() < at || buf.len() - at < length || length < unit {
         return Ok(at);
     }
-    read_full(file, &mut buf[at..at + unit])?;
-    repeat(buf, at + unit, at + length, unit);
+    let (first, others) = buf[at..at + length].split_at_mut(unit);
+    read_full(file, first)?;
+    for (byte, again) in others.iter_mut().zip(first.iter().cycle()) {
+        *byte = *again;
+    }
     Ok(at + length)
 }
 
@@ -77,76 +70,66 @@ fn text(file: &mut impl Read, buf: &mut [u8]) -> io::Result<usize> {
     Ok(at)
 }
 
-// ---- what a call's head says
-
-fn given(head: &[u8], i: u8) -> u32 {
-    number_at(head, (i as usize) * 4)
-}
-
-// The length that was carried on, or the one that the file gives.
-fn length_of(head: &[u8], n: usize) -> usize {
-    if given(head, 1) == 0 {
-        return n;
-    }
-    replay_telling::halves(given(head, 2), given(head, 3))
-}
-
 // ---- the writers
 
-fn material(head: &[u8], texts: &[u8]) -> Material {
-    Material::new(
-        replay_telling::elliptic_of(given(head, 1)),
-        text_of(head, texts, 0),
-        text_of(head, texts, 1),
-    )
+// The length that was carried on, or the one that the file gives.
+fn length_of(call: Call, n: usize) -> usize {
+    if call.number(1) == 0 {
+        return n;
+    }
+    replay_telling::halves(call.number(2), call.number(3))
 }
 
-fn call_plain(head: &[u8], texts: &[u8], lent: &mut [u8]) -> Written {
+fn call_plain(call: Call, lent: &mut [u8]) -> Written {
+    let material = Material::new(
+        replay_telling::elliptic_of(call.number(1)),
+        call.text(0),
+        call.text(1),
+    );
     writer_plain::write_plain(
-        material(head, texts),
-        checkint_of(given(head, 2), given(head, 3)),
-        text_of(head, texts, 2),
+        material,
+        checkint_of(call.number(2), call.number(3)),
+        call.text(2),
         lent,
     )
 }
 
-fn call_encrypted(head: &[u8], texts: &[u8], lent: &mut [u8]) -> Written {
+fn call_encrypted(call: Call, lent: &mut [u8]) -> Written {
     writer_encrypted::write_encrypted(
-        replay_telling::cipher_of(given(head, 1)),
-        replay_telling::kdf_of(given(head, 2)),
-        text_of(head, texts, 0),
-        given(head, 3),
-        text_of(head, texts, 1),
-        text_of(head, texts, 2),
-        text_of(head, texts, 3),
+        replay_telling::cipher_of(call.number(1)),
+        replay_telling::kdf_of(call.number(2)),
+        call.text(0),
+        call.number(3),
+        call.text(1),
+        call.text(2),
+        call.text(3),
         lent,
     )
 }
 
-fn call_rsa(head: &[u8], texts: &[u8], lent: &mut [u8]) -> Written {
+fn call_rsa(call: Call, lent: &mut [u8]) -> Written {
     writer_rsa::write_rsa(
-        text_of(head, texts, 0),
-        text_of(head, texts, 1),
-        text_of(head, texts, 2),
-        text_of(head, texts, 3),
-        text_of(head, texts, 4),
-        text_of(head, texts, 5),
-        checkint_of(given(head, 2), given(head, 3)),
-        text_of(head, texts, 6),
+        call.text(0),
+        call.text(1),
+        call.text(2),
+        call.text(3),
+        call.text(4),
+        call.text(5),
+        checkint_of(call.number(2), call.number(3)),
+        call.text(6),
         lent,
     )
 }
 
 // ---- the calls
 
-// The entry with the head's code.
-fn call(head: &[u8], n: usize, texts: &[u8], lent: &mut [u8]) -> Written {
-    match entry_of(given(head, 0)) {
-        Some(Entry::Plain) => call_plain(head, texts, lent),
-        Some(Entry::Encrypted) => call_encrypted(head, texts, lent),
-        Some(Entry::Rewrite) => writer_again::rewrite(text_of(head, texts, 0), lent),
-        Some(Entry::Rsa) => call_rsa(head, texts, lent),
-        _ => comment_change::change_comment(lent, length_of(head, n), text_of(head, texts, 0)),
+fn written(call: Call, n: usize, lent: &mut [u8]) -> Written {
+    match call.entry() {
+        Some(Entry::Plain) => call_plain(call, lent),
+        Some(Entry::Encrypted) => call_encrypted(call, lent),
+        Some(Entry::Rewrite) => writer_again::rewrite(call.text(0), lent),
+        Some(Entry::Rsa) => call_rsa(call, lent),
+        _ => comment_change::change_comment(lent, length_of(call, n), call.text(0)),
     }
 }
 
@@ -159,7 +142,11 @@ fn stored_call(
 ) -> io::Result<Written> {
     let mut texts = [0u8; 70000];
     text(file, &mut texts)?;
-    Ok(call(head, n, &texts, lent))
+    let call = Call {
+        head,
+        texts: &texts,
+    };
+    Ok(written(call, n, lent))
 }
 
 // ---- the rows
@@ -178,34 +165,23 @@ fn called(
 ) -> io::Result<usize> {
     let mut head = [0u8; 72];
     read_full(file, &mut head)?;
-    replay_telling::say_entry(out, given(&head, 0))?;
+    replay_telling::say_entry(out, number_at(&head, 0))?;
     let written = stored_call(file, &head, n, lent)?;
     say_call(out, written, lent)?;
     Ok(written.unwrap_or(n))
 }
 
-fn all_calls(
-    out: &mut impl Write,
-    file: &mut impl Read,
-    calls: u32,
-    length: usize,
-    lent: &mut [u8],
-) -> io::Result<()> {
-    let mut n = length;
+fn replay_row(out: &mut impl Write, file: &mut impl Read, calls: u32) -> io::Result<()> {
+    let mut buffer = [0u8; 66000];
+    let room = text(file, &mut buffer)?;
+    let mut n = number(file)? as usize;
+    let Some(lent) = buffer.get_mut(..room) else {
+        return Ok(());
+    };
     for _ in 0..calls {
         n = called(out, file, n, lent)?;
     }
     Ok(())
-}
-
-fn replay_row(out: &mut impl Write, file: &mut impl Read, calls: u32) -> io::Result<()> {
-    let mut buffer = [0u8; 66000];
-    let room = text(file, &mut buffer)?;
-    let n = number(file)? as usize;
-    if room > 66000 {
-        return Ok(());
-    }
-    all_calls(out, file, calls, n, &mut buffer[..room])
 }
 
 // One row; whether there was one.
@@ -218,21 +194,11 @@ fn row(out: &mut impl Write, file: &mut impl Read) -> io::Result<bool> {
     Ok(true)
 }
 
-// A proved loop has to end, so it counts its turns.
-fn all(out: &mut impl Write, file: &mut impl Read) -> io::Result<()> {
-    for _ in 0..u64::MAX {
-        if !row(out, file)? {
-            break;
-        }
-    }
-    Ok(())
-}
-
 pub fn replay_calls<R: Files + Print + Eprint>(rt: &R) -> io::Result<()>
     ensures { IfOk result (λ done. done ≡ tt) }
 {
     match replay_telling::open(rt, "calls")? {
-        Some(mut file) => all(&mut io::writer(rt), &mut file),
+        Some(mut file) => replay_telling::each(|| row(&mut io::writer(rt), &mut file)),
         None => Ok(()),
     }
 }

@@ -9,7 +9,7 @@
 // modulus, exponent, d, iqmp, p and q; and then the key count and the sixteen places.
 #![tactic(auto)]
 
-ghost use Rattle.std.specs.Prelude.{◌≡◌, IfOk};
+ghost use Rattle.std.specs.Prelude.{◌≡◌, ◌<◌, IfOk};
 
 use fields::Part;
 use key_pairs::Private;
@@ -35,10 +35,12 @@ fn number(head: &[u8], i: u8) -> usize {
 }
 
 // A start, and the length that follows it.
-fn place(head: &[u8], i: u8, j: u8) -> Part {
+fn place(head: &[u8], i: u8) -> Part
+    requires { i < 255 }
+{
     Part {
         start: number(head, i),
-        length: number(head, j),
+        length: number(head, i + 1),
     }
 }
 
@@ -53,20 +55,20 @@ fn kind_of(code: u32) -> Kind {
 
 fn public_of(head: &[u8]) -> Public {
     Public {
-        point: place(head, 10, 11),
-        modulus: place(head, 23, 24),
-        exponent: place(head, 25, 26),
+        point: place(head, 10),
+        modulus: place(head, 23),
+        exponent: place(head, 25),
         bits: number(head, 22),
     }
 }
 
 fn private_of(head: &[u8]) -> Private {
     Private {
-        scalar: place(head, 12, 13),
-        d: place(head, 27, 28),
-        iqmp: place(head, 29, 30),
-        p: place(head, 31, 32),
-        q: place(head, 33, 34),
+        scalar: place(head, 12),
+        d: place(head, 27),
+        iqmp: place(head, 29),
+        p: place(head, 31),
+        q: place(head, 33),
     }
 }
 
@@ -77,8 +79,8 @@ fn short(head: &[u8], i: u8) -> u16 {
 
 fn places_of(head: &[u8]) -> Places {
     let mut places = Places::none();
-    for i in 0..16u8 {
-        places.all[i as usize] = short(head, 36 + i);
+    for (place, i) in places.all.iter_mut().zip(36..52) {
+        *place = short(head, i);
     }
     places
 }
@@ -87,11 +89,11 @@ fn header_of(head: &[u8]) -> Header {
     Header {
         cipher: replay_telling::cipher_of(lower(head, 2)),
         kdf: replay_telling::kdf_of(lower(head, 3)),
-        salt: place(head, 16, 17),
+        salt: place(head, 16),
         rounds: lower(head, 4),
         count: number(head, 35),
         algorithm: replay_telling::algorithm_of(lower(head, 1)),
-        blob: place(head, 8, 9),
+        blob: place(head, 8),
         public: public_of(head),
         section: number(head, 7),
     }
@@ -103,10 +105,10 @@ fn section_of(head: &[u8]) -> Section {
         checkint: lower(head, 5),
         padding: number(head, 6),
         private: private_of(head),
-        comment: place(head, 14, 15),
+        comment: place(head, 14),
         places: places_of(head),
-        ciphertext: place(head, 18, 19),
-        tag: place(head, 20, 21),
+        ciphertext: place(head, 18),
+        tag: place(head, 20),
     }
 }
 
@@ -119,15 +121,12 @@ fn record_of(head: &[u8]) -> Fields {
 
 // ---- the call
 
-// The i-th byte of a buffer before it is lent: never 0, and no run of one byte.
-fn stale(i: usize) -> u8 {
-    let seven = b"\xa1\xb2\xc3\xd4\xe5\xf6\x97";
-    fields::byte(seven, i % 7)
-}
+// What stands in a buffer before it is lent: no byte is 0, and no run is of one byte.
+const STALE: [u8; 7] = *b"\xa1\xb2\xc3\xd4\xe5\xf6\x97";
 
 fn fill(lent: &mut [u8]) {
-    for (i, byte) in lent.iter_mut().enumerate() {
-        *byte = stale(i);
+    for (byte, stale) in lent.iter_mut().zip(STALE.iter().cycle()) {
+        *byte = *stale;
     }
 }
 
@@ -141,56 +140,37 @@ fn handed_in(out: &mut impl Write, image: &[u8], f: Fields, lent: &mut [u8]) -> 
 
 // ---- the vectors
 
-// The image; as many bytes as there are, if that is no more than the room for it.
-fn image_into(file: &mut impl Read, room: &mut [u8], length: usize) -> io::Result<usize> {
-    if room.len() < length {
-        return Ok(0);
-    }
-    read_full(file, &mut room[..length])
-}
-
 fn replay(out: &mut impl Write, image: &[u8], head: &[u8]) -> io::Result<()> {
     let mut buffer = [0u8; 66000];
-    let length = number_at(head, 4) as usize;
-    if length > 66000 {
-        return Ok(());
+    match buffer.get_mut(..number_at(head, 4) as usize) {
+        Some(lent) => handed_in(out, image, record_of(head), lent),
+        None => Ok(()),
     }
-    handed_in(out, image, record_of(head), &mut buffer[..length])
 }
 
 // A vector, of which all but the image has been read.
 fn vector(out: &mut impl Write, file: &mut impl Read, head: &[u8]) -> io::Result<()> {
     let mut room = [0u8; 66000];
-    let length = image_into(file, &mut room, number_at(head, 0) as usize)?;
-    replay(out, fields::view(&room, Part { start: 0, length }), head)
+    let length = number_at(head, 0) as usize;
+    let image = replay_telling::next_bytes(file, &mut room, length)?;
+    replay(out, image, head)
 }
 
 // One vector; whether there was one.
 fn one(out: &mut impl Write, file: &mut impl Read) -> io::Result<bool> {
     let mut head = [0u8; 424];
-    let got = read_full(file, &mut head)?;
-    if got < 424 {
+    if read_full(file, &mut head)? < 424 {
         return Ok(false);
     }
     vector(out, file, &head)?;
     Ok(true)
 }
 
-// A proved loop has to end, so it counts its turns.
-fn all(out: &mut impl Write, file: &mut impl Read) -> io::Result<()> {
-    for _ in 0..u64::MAX {
-        if !one(out, file)? {
-            break;
-        }
-    }
-    Ok(())
-}
-
 pub fn replay_records<R: Files + Print + Eprint>(rt: &R) -> io::Result<()>
     ensures { IfOk result (λ done. done ≡ tt) }
 {
     match replay_telling::open(rt, "records")? {
-        Some(mut file) => all(&mut io::writer(rt), &mut file),
+        Some(mut file) => replay_telling::each(|| one(&mut io::writer(rt), &mut file)),
         None => Ok(()),
     }
 }

@@ -3,7 +3,7 @@
 // stream's own, and leaves there what was said before it.
 #![tactic(auto)]
 
-ghost use Rattle.std.specs.Prelude.{◌≡◌, ◌≤◌, ◌+◌, ◌*◌, ◌%◌, length, IfOk};
+ghost use Rattle.std.specs.Prelude.{◌≡◌, ◌≤◌, ◌+◌, ◌*◌, ◌%◌, length, Err, IfErr, IfOk};
 ghost use Rattle.fields.specs.Fields.{IsView};
 ghost use Rattle.replay_telling.specs.Telling.{number_in, text_in, algorithm_of, elliptic_of, checkint_of, cipher_of, kdf_of, entry_of, next_rest, rest_of};
 
@@ -44,6 +44,31 @@ pub fn read_full(file: &mut impl Read, buf: &mut [u8]) -> io::Result<usize>
         done += n;
     }
     Ok(done)
+}
+
+// As many as there are of the next `n` bytes, at the start of `room`; none where there is no room for `n`.
+pub fn next_bytes<'a>(file: &mut impl Read, room: &'a mut [u8], n: usize) -> io::Result<&'a [u8]>
+    ensures { IfOk result (λ bytes. length bytes.now ≤ n) }
+{
+    let Some(wanted) = room.get_mut(..n) else {
+        return Ok(&[]);
+    };
+    let read = read_full(file, wanted)?;
+    Ok(&wanted[..read])
+}
+
+// Replays one after another, as long as there is one. A proved loop has to end, so it counts its turns.
+pub fn each<F: FnMut() -> io::Result<bool>>(mut replay_one: F) -> io::Result<()>
+    requires { F.IsAlwaysCallable replay_one }
+    ensures ok { IfOk result (λ done. done ≡ tt) }
+    ensures err { IfErr result (λ why. (f : F) × (g : F) × F.step f (Err why) g) }
+{
+    for _ in 0..u64::MAX {
+        if !replay_one()? {
+            break;
+        }
+    }
+    Ok(())
 }
 
 // ---- numbers that were read
@@ -196,6 +221,36 @@ pub fn say_entry(out: &mut impl Write, code: u32) -> io::Result<()>
     match entry_of(code) {
         Some(entry) => write!(out, "{entry}"),
         None => Ok(()),
+    }
+}
+
+// A stored call: the numbers of its head, and the texts whose places stand there.
+#[derive(Clone, Copy)]
+pub struct Call<'a> {
+    pub head: &'a [u8],
+    pub texts: &'a [u8],
+}
+
+impl<'a> Call<'a> {
+    // The i-th number of the head.
+    pub fn number(self, i: u8) -> u32
+        ensures { result ≡ number_in self.entry.head.now (i * 4) }
+    {
+        number_at(self.head, (i as usize) * 4)
+    }
+
+    // The i-th of its texts.
+    pub fn text(self, i: u8) -> &'a [u8]
+        ensures { IsView result self.entry.texts (text_in self.entry.head.now i) }
+    {
+        text_of(self.head, self.texts, i)
+    }
+
+    // What it calls; None where its code names nothing.
+    pub fn entry(self) -> Option<Entry>
+        ensures { result ≡ entry_of (number_in self.entry.head.now 0) }
+    {
+        entry_of(self.number(0))
     }
 }
 

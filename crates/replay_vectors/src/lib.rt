@@ -10,7 +10,7 @@ use key_pairs::Private;
 use key_public::Public;
 use reader_entries::KeyFields;
 use reader_image::Fields;
-use replay_telling::{say_number, say_place, word};
+use replay_telling::{number_at, read_full, say_number, say_place, word};
 use std::io;
 use std::io::{Read, Write};
 use std::rt::Files;
@@ -81,25 +81,15 @@ fn say_report(out: &mut impl Write, image: &[u8]) -> io::Result<()> {
 
 // ---- the images
 
-// Reads len bytes, or as many as there are, into the start of buf.
-fn fill(file: &mut impl Read, buf: &mut [u8], len: usize) -> io::Result<usize> {
-    if len <= buf.len() {
-        replay_telling::read_full(file, &mut buf[..len])
-    } else {
-        Ok(0)
-    }
-}
-
 // One image; whether there was one.
 fn one(out: &mut impl Write, file: &mut impl Read) -> io::Result<bool> {
     let mut head = [0u8; 4];
-    let got = replay_telling::read_full(file, &mut head)?;
-    if got < 4 {
+    if read_full(file, &mut head)? < 4 {
         return Ok(false);
     }
     let mut buf = [0u8; 66000];
-    let length = fill(file, &mut buf, replay_telling::number_at(&head, 0) as usize)?;
-    let image = fields::view(&buf, Part { start: 0, length });
+    let length = number_at(&head, 0) as usize;
+    let image = replay_telling::next_bytes(file, &mut buf, length)?;
     replay_reads::say_read(out, image)?;
     replay_reads::say_header_read(out, image)?;
     say_report(out, image)?;
@@ -107,21 +97,11 @@ fn one(out: &mut impl Write, file: &mut impl Read) -> io::Result<bool> {
     Ok(true)
 }
 
-// A proved loop has to end, so it counts its turns.
-fn all(out: &mut impl Write, file: &mut impl Read) -> io::Result<()> {
-    for _ in 0..u64::MAX {
-        if !one(out, file)? {
-            break;
-        }
-    }
-    Ok(())
-}
-
 pub fn replay_images<R: Files + Print + Eprint>(rt: &R) -> io::Result<()>
     ensures { IfOk result (λ done. done ≡ tt) }
 {
     match replay_telling::open(rt, "vectors")? {
-        Some(mut file) => all(&mut io::writer(rt), &mut file),
+        Some(mut file) => replay_telling::each(|| one(&mut io::writer(rt), &mut file)),
         None => Ok(()),
     }
 }
