@@ -1,4 +1,5 @@
 // Replays the stored images of one key.
+// Two programs, this and replay_several, since one is run over the files of its own folder only.
 #![tactic(auto)]
 
 use std::io;

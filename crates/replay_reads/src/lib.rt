@@ -29,16 +29,19 @@ fn say_names(out: &mut impl Write, f: Fields) -> io::Result<()> {
 }
 
 fn say_header_names(out: &mut impl Write, header: Header) -> io::Result<()> {
-    say_number(out, header.algorithm.code() as usize)?;
-    say_number(out, names_codes::cipher_code(header.cipher) as usize)?;
-    say_number(out, names_codes::kdf_code(header.kdf) as usize)?;
-    say_number(out, header.rounds as usize)
+    let algorithm = header.algorithm.code();
+    let cipher = names_codes::cipher_code(header.cipher);
+    let kdf = names_codes::kdf_code(header.kdf);
+    write!(out, " {algorithm} {cipher} {kdf} {}", header.rounds)
 }
 
 fn say_numbers(out: &mut impl Write, f: Fields) -> io::Result<()> {
-    say_number(out, f.section.checkint as usize)?;
-    say_number(out, f.section.padding)?;
-    say_number(out, f.header.section)
+    let checkint = f.section.checkint;
+    write!(
+        out,
+        " {checkint} {} {}",
+        f.section.padding, f.header.section
+    )
 }
 
 // The places of its fields, the key count, and where the keypairs begin.
@@ -65,6 +68,7 @@ fn say_sum(out: &mut impl Write, view: &[u8]) -> io::Result<()> {
     say_number(out, total(view))
 }
 
+// One loop for these sums and for what replay_saying says of parts would take the saying as a closure, and be no shorter.
 fn say_sums(out: &mut impl Write, image: &[u8], f: Fields, parts: &[Which]) -> io::Result<()> {
     for which in parts {
         say_sum(out, reader_parts::part(image, f, *which))?;

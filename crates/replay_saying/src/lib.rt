@@ -78,8 +78,7 @@ fn say_rsa(out: &mut impl Write, private: Private) -> io::Result<()> {
 fn say_section(out: &mut impl Write, section: Section) -> io::Result<()> {
     word(out, b" 0 0 0")?;
     say_number(out, handed_record::kind_code(section.kind) as usize)?;
-    say_number(out, section.checkint as usize)?;
-    say_number(out, section.padding)?;
+    write!(out, " {} {}", section.checkint, section.padding)?;
     say_place(out, section.private.scalar)?;
     say_place(out, section.comment)?;
     say_place(out, section.ciphertext)?;

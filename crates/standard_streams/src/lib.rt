@@ -17,7 +17,8 @@ pub fn read_full<R: Read>(from: &mut R, buf: &mut [u8]) -> usize
     ensures { result ≤ length buf.new }
 {
     let mut done = 0;
-    // A loop by hand: std's read_exact answers no count where the input ends before it.
+    // A loop by hand: std's read_exact answers no count where the input ends before it. And not replay_telling's, which
+    // hands out the error of a failed read: here that ends the input.
     while done < buf.len() {
         match from.read(&mut buf[done..]) {
             Ok(n) if n > 0 => done += n,
