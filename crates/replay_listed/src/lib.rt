@@ -18,144 +18,107 @@
 
 ghost use Rattle.std.specs.Prelude.{◌≡◌, IfOk};
 
-use fields::Part;
-use replay_telling::{Entry, checkint_of, entry_of, number_at, read_full, text_of};
+use replay_telling::{Call, Entry, checkint_of, halves, number_at, read_full};
 use std::io;
 use std::io::{Read, Write};
 use std::rt::Files;
 use writer_reply::Written;
 
-// ---- what a call's head says
-
-fn given(head: &[u8], i: u8) -> u32 {
-    number_at(head, (i as usize) * 4)
-}
-
 // The number of the first eight bytes.
 fn wide(bytes: &[u8]) -> usize {
-    replay_telling::halves(number_at(bytes, 0), number_at(bytes, 4))
+    halves(number_at(bytes, 0), number_at(bytes, 4))
 }
 
 // ---- the writers
 
-fn call_keys(head: &[u8], texts: &[u8], lent: &mut [u8]) -> Written {
+fn call_keys(call: Call, lent: &mut [u8]) -> Written {
     let mut table = [0usize; 640];
-    let numbers = text_of(head, texts, 0);
+    let numbers = call.text(0);
     for (number, eight) in table.iter_mut().zip(numbers.chunks(8)) {
         *number = wide(eight);
     }
-    let count = numbers.len() / 8;
-    if count > 640 {
+    let Some(table) = table.get(..numbers.len() / 8) else {
         return Ok(0);
-    }
+    };
     writer_keys::write_keys(
-        text_of(head, texts, 1),
-        &table[..count],
-        checkint_of(given(head, 2), given(head, 3)),
+        call.text(1),
+        table,
+        checkint_of(call.number(2), call.number(3)),
         lent,
     )
 }
 
 // ---- the edits
 
-fn call_add(head: &[u8], n: usize, texts: &[u8], lent: &mut [u8]) -> Written {
+fn call_add(call: Call, n: usize, lent: &mut [u8]) -> Written {
     key_add::add_key(
         lent,
         n,
-        replay_telling::elliptic_of(number_at(text_of(head, texts, 0), 0)),
-        text_of(head, texts, 1),
-        text_of(head, texts, 2),
-        text_of(head, texts, 3),
+        replay_telling::elliptic_of(number_at(call.text(0), 0)),
+        call.text(1),
+        call.text(2),
+        call.text(3),
     )
 }
 
-fn call_add_rsa(head: &[u8], n: usize, texts: &[u8], lent: &mut [u8]) -> Written {
+fn call_add_rsa(call: Call, n: usize, lent: &mut [u8]) -> Written {
     key_add::add_rsa(
         lent,
         n,
-        text_of(head, texts, 0),
-        text_of(head, texts, 1),
-        text_of(head, texts, 2),
-        text_of(head, texts, 3),
-        text_of(head, texts, 4),
-        text_of(head, texts, 5),
-        text_of(head, texts, 6),
+        call.text(0),
+        call.text(1),
+        call.text(2),
+        call.text(3),
+        call.text(4),
+        call.text(5),
+        call.text(6),
     )
 }
 
 // ---- the calls
 
-// The entry with the head's code.
-fn call(head: &[u8], texts: &[u8], lent: &mut [u8]) -> Written {
-    let n = replay_telling::halves(given(head, 2), given(head, 3));
-    let k = wide(text_of(head, texts, 0));
-    match entry_of(given(head, 0)) {
-        Some(Entry::Keys) => call_keys(head, texts, lent),
-        Some(Entry::ChangeOf) => {
-            comment_change::change_comment_of(lent, n, k, text_of(head, texts, 1))
-        }
-        Some(Entry::Add) => call_add(head, n, texts, lent),
-        Some(Entry::AddRsa) => call_add_rsa(head, n, texts, lent),
+fn written(call: Call, lent: &mut [u8]) -> Written {
+    let n = halves(call.number(2), call.number(3));
+    let k = wide(call.text(0));
+    match call.entry() {
+        Some(Entry::Keys) => call_keys(call, lent),
+        Some(Entry::ChangeOf) => comment_change::change_comment_of(lent, n, k, call.text(1)),
+        Some(Entry::Add) => call_add(call, n, lent),
+        Some(Entry::AddRsa) => call_add_rsa(call, n, lent),
         Some(Entry::Remove) => key_remove::remove_key(lent, n, k),
-        _ => comment_change::change_comment(lent, n, text_of(head, texts, 0)),
+        _ => comment_change::change_comment(lent, n, call.text(0)),
     }
 }
 
-fn called(out: &mut impl Write, head: &[u8], texts: &[u8], lent: &mut [u8]) -> io::Result<()> {
-    replay_telling::say_entry(out, given(head, 0))?;
-    replay_telling::say_written(out, call(head, texts, lent))?;
+fn called(out: &mut impl Write, call: Call, lent: &mut [u8]) -> io::Result<()> {
+    replay_telling::say_entry(out, call.number(0))?;
+    replay_telling::say_written(out, written(call, lent))?;
     replay_telling::say_buffer(out, lent)
 }
 
 // ---- the vectors
 
-// What is new in a buffer.
-fn renew(vector: &[u8], place: u8, new: u8, buf: &mut [u8]) {
-    buffer::put(
-        buf,
-        given(vector, place) as usize,
-        text_of(vector, vector, new),
-    );
-}
-
+// A vector's head is its call's, and the texts of its own are what is new in the two buffers.
 fn replay(
     out: &mut impl Write,
     vector: &[u8],
     texts: &mut [u8],
     lent: &mut [u8],
 ) -> io::Result<()> {
-    renew(vector, 22, 7, texts);
-    renew(vector, 23, 8, lent);
-    let room = given(vector, 24) as usize;
-    if room > lent.len() {
+    let new = Call {
+        head: vector,
+        texts: vector,
+    };
+    buffer::put(texts, new.number(22) as usize, new.text(7));
+    buffer::put(lent, new.number(23) as usize, new.text(8));
+    let Some(lent) = lent.get_mut(..new.number(24) as usize) else {
         return Ok(());
-    }
-    called(out, vector, texts, &mut lent[..room])
-}
-
-// The bytes of a vector; as many as there are, if that is no more than the room for them.
-fn vector_into(file: &mut impl Read, room: &mut [u8], length: usize) -> io::Result<usize> {
-    if room.len() < length {
-        return Ok(0);
-    }
-    read_full(file, &mut room[..length])
-}
-
-fn stored(
-    out: &mut impl Write,
-    file: &mut impl Read,
-    length: usize,
-    texts: &mut [u8],
-    lent: &mut [u8],
-) -> io::Result<()> {
-    let mut room = [0u8; 140000];
-    let length = vector_into(file, &mut room, length)?;
-    replay(
-        out,
-        fields::view(&room, Part { start: 0, length }),
+    };
+    let call = Call {
+        head: vector,
         texts,
-        lent,
-    )
+    };
+    called(out, call, lent)
 }
 
 // One vector; whether there was one.
@@ -166,24 +129,20 @@ fn one(
     lent: &mut [u8],
 ) -> io::Result<bool> {
     let mut head = [0u8; 4];
-    let got = read_full(file, &mut head)?;
-    if got < 4 {
+    if read_full(file, &mut head)? < 4 {
         return Ok(false);
     }
-    stored(out, file, number_at(&head, 0) as usize, texts, lent)?;
+    let mut room = [0u8; 140000];
+    let length = number_at(&head, 0) as usize;
+    let vector = replay_telling::next_bytes(file, &mut room, length)?;
+    replay(out, vector, texts, lent)?;
     Ok(true)
 }
 
-// A proved loop has to end, so it counts its turns.
 fn all(out: &mut impl Write, file: &mut impl Read) -> io::Result<()> {
     let mut texts = [0u8; 70000];
     let mut lent = [0u8; 66000];
-    for _ in 0..u64::MAX {
-        if !one(out, file, &mut texts, &mut lent)? {
-            break;
-        }
-    }
-    Ok(())
+    replay_telling::each(|| one(out, file, &mut texts, &mut lent))
 }
 
 pub fn replay_lists<R: Files + Print + Eprint>(rt: &R) -> io::Result<()>
