@@ -1,7 +1,7 @@
 -- Any two replies that meet a public function's own contract are equal. Of a view, that it is the same part of the caller's memory.
 -- Rests on the contracts being equations. Of a function that says something, any two that report no failed write: it answers nothing
 -- else, and what it puts to the output is in no contract.
-use Rattle.std.specs.Prelude.{◌≡◌, IsOk, Ok, Err}
+use Rattle.std.specs.Prelude.{◌≡◌, IsOk, Ok, Err, Result}
 use Rattle.std.specs.declared.io.traits.Write.{Ghosts}
 use denote.Param.Laws.{Laws}
 use denote.RattleType.{RattleType}
@@ -51,6 +51,12 @@ use Rattle.replay_telling.proofs.say_places.Kinds as say_places_kinds
 use Rattle.replay_telling.proofs.say_buffer.Reads as say_buffer
 use Rattle.replay_telling.proofs.say_buffer.Kinds as say_buffer_kinds
 
+-- a reply that is no error says nothing but that
+said : {E : Type 0} (x y : Result Unit E) → IsOk x → IsOk y → x ≡ y
+said (Ok x) (Ok y) u v = refl
+said (Ok x) (Err f) u v = cc
+said (Err e) y u v = cc
+
 pub number_at_determined : Determined 1 number_at_kinds.ps number_at_kinds.r number_at.Post
 number_at_determined κs a r₁ r₂ s₁ s₂ p q = cc
 
@@ -86,62 +92,44 @@ rest_of_determined κs a r₁ r₂ s₁ s₂ p q = cc
 pub word_determined :
     (W : RattleType) (L : Laws W) (G : Ghosts W.Denot) (d : Dict) →
     DeterminedIf 3 (word_kinds.ps W L) (word_kinds.r W L) (λ κs x. IsOk x) (word.Post W L G d)
-word_determined W L G d κs a (Ok x) (Ok y) s₁ s₂ p q u v = refl
-word_determined W L G d κs a (Ok x) (Err f) s₁ s₂ p q u v = cc
-word_determined W L G d κs a (Err e) y s₁ s₂ p q u v = cc
+word_determined W L G d κs a x y s₁ s₂ p q = said x y
 
 pub say_number_determined :
     (W : RattleType) (L : Laws W) (G : Ghosts W.Denot) (d : Dict) →
     DeterminedIf 2 (say_number_kinds.ps W L) (say_number_kinds.r W L) (λ κs x. IsOk x) (say_number.Post W L G d)
-say_number_determined W L G d κs a (Ok x) (Ok y) s₁ s₂ p q u v = refl
-say_number_determined W L G d κs a (Ok x) (Err f) s₁ s₂ p q u v = cc
-say_number_determined W L G d κs a (Err e) y s₁ s₂ p q u v = cc
+say_number_determined W L G d κs a x y s₁ s₂ p q = said x y
 
 pub say_entry_determined :
     (W : RattleType) (L : Laws W) (G : Ghosts W.Denot) (d : Dict) →
     DeterminedIf 2 (say_entry_kinds.ps W L) (say_entry_kinds.r W L) (λ κs x. IsOk x) (say_entry.Post W L G d)
-say_entry_determined W L G d κs a (Ok x) (Ok y) s₁ s₂ p q u v = refl
-say_entry_determined W L G d κs a (Ok x) (Err f) s₁ s₂ p q u v = cc
-say_entry_determined W L G d κs a (Err e) y s₁ s₂ p q u v = cc
+say_entry_determined W L G d κs a x y s₁ s₂ p q = said x y
 
 pub say_place_determined :
     (W : RattleType) (L : Laws W) (G : Ghosts W.Denot) (d : Dict) →
     DeterminedIf 2 (say_place_kinds.ps W L) (say_place_kinds.r W L) (λ κs x. IsOk x) (say_place.Post W L G d)
-say_place_determined W L G d κs a (Ok x) (Ok y) s₁ s₂ p q u v = refl
-say_place_determined W L G d κs a (Ok x) (Err f) s₁ s₂ p q u v = cc
-say_place_determined W L G d κs a (Err e) y s₁ s₂ p q u v = cc
+say_place_determined W L G d κs a x y s₁ s₂ p q = said x y
 
 pub say_reply_determined :
     (W : RattleType) (L : Laws W) (G : Ghosts W.Denot) (d : Dict) →
     DeterminedIf 2 (say_reply_kinds.ps W L) (say_reply_kinds.r W L) (λ κs x. IsOk x) (say_reply.Post W L G d)
-say_reply_determined W L G d κs a (Ok x) (Ok y) s₁ s₂ p q u v = refl
-say_reply_determined W L G d κs a (Ok x) (Err f) s₁ s₂ p q u v = cc
-say_reply_determined W L G d κs a (Err e) y s₁ s₂ p q u v = cc
+say_reply_determined W L G d κs a x y s₁ s₂ p q = said x y
 
 pub say_refused_determined :
     (W : RattleType) (L : Laws W) (G : Ghosts W.Denot) (d : Dict) →
     DeterminedIf 2 (say_refused_kinds.ps W L) (say_refused_kinds.r W L) (λ κs x. IsOk x) (say_refused.Post W L G d)
-say_refused_determined W L G d κs a (Ok x) (Ok y) s₁ s₂ p q u v = refl
-say_refused_determined W L G d κs a (Ok x) (Err f) s₁ s₂ p q u v = cc
-say_refused_determined W L G d κs a (Err e) y s₁ s₂ p q u v = cc
+say_refused_determined W L G d κs a x y s₁ s₂ p q = said x y
 
 pub say_written_determined :
     (W : RattleType) (L : Laws W) (G : Ghosts W.Denot) (d : Dict) →
     DeterminedIf 2 (say_written_kinds.ps W L) (say_written_kinds.r W L) (λ κs x. IsOk x) (say_written.Post W L G d)
-say_written_determined W L G d κs a (Ok x) (Ok y) s₁ s₂ p q u v = refl
-say_written_determined W L G d κs a (Ok x) (Err f) s₁ s₂ p q u v = cc
-say_written_determined W L G d κs a (Err e) y s₁ s₂ p q u v = cc
+say_written_determined W L G d κs a x y s₁ s₂ p q = said x y
 
 pub say_places_determined :
     (W : RattleType) (L : Laws W) (G : Ghosts W.Denot) (d : Dict) →
     DeterminedIf 2 (say_places_kinds.ps W L) (say_places_kinds.r W L) (λ κs x. IsOk x) (say_places.Post W L G d)
-say_places_determined W L G d κs a (Ok x) (Ok y) s₁ s₂ p q u v = refl
-say_places_determined W L G d κs a (Ok x) (Err f) s₁ s₂ p q u v = cc
-say_places_determined W L G d κs a (Err e) y s₁ s₂ p q u v = cc
+say_places_determined W L G d κs a x y s₁ s₂ p q = said x y
 
 pub say_buffer_determined :
     (W : RattleType) (L : Laws W) (G : Ghosts W.Denot) (d : Dict) →
     DeterminedIf 3 (say_buffer_kinds.ps W L) (say_buffer_kinds.r W L) (λ κs x. IsOk x) (say_buffer.Post W L G d)
-say_buffer_determined W L G d κs a (Ok x) (Ok y) s₁ s₂ p q u v = refl
-say_buffer_determined W L G d κs a (Ok x) (Err f) s₁ s₂ p q u v = cc
-say_buffer_determined W L G d κs a (Err e) y s₁ s₂ p q u v = cc
+say_buffer_determined W L G d κs a x y s₁ s₂ p q = said x y
