@@ -30,6 +30,12 @@ use Rattle.replay_telling.proofs.kdf_of.Reads as kdf-of
 use Rattle.replay_telling.proofs.kdf_of.Kinds as kdf_of_kinds
 use Rattle.replay_telling.proofs.entry_of.Reads as entry-of
 use Rattle.replay_telling.proofs.entry_of.Kinds as entry_of_kinds
+use Rattle.replay_telling.proofs.Call.number.Reads as number
+use Rattle.replay_telling.proofs.Call.number.Kinds as number_kinds
+use Rattle.replay_telling.proofs.Call.text.Reads as text
+use Rattle.replay_telling.proofs.Call.text.Kinds as text_kinds
+use Rattle.replay_telling.proofs.Call.entry.Reads as entry
+use Rattle.replay_telling.proofs.Call.entry.Kinds as entry_kinds
 use Rattle.replay_telling.proofs.rest_of.Reads as rest_of
 use Rattle.replay_telling.proofs.rest_of.Kinds as rest_of_kinds
 use Rattle.replay_telling.proofs.word.Reads as word
@@ -85,6 +91,17 @@ kdf_of_determined κs a r₁ r₂ s₁ s₂ p q = cc
 
 pub entry_of_determined : Determined 0 entry_of_kinds.ps entry_of_kinds.r entry-of.Post
 entry_of_determined κs a r₁ r₂ s₁ s₂ p q = cc
+
+pub number_determined : Determined 1 number_kinds.ps number_kinds.r number.Post
+number_determined κs a r₁ r₂ s₁ s₂ p q = cc
+
+pub entry_determined : Determined 1 entry_kinds.ps entry_kinds.r entry.Post
+entry_determined κs a r₁ r₂ s₁ s₂ p q = cc
+
+pub text_determined :
+    (κs : Lfts 1) (a : Dens κs text_kinds.ps) (r₁ r₂ : (res_t text_kinds.r κs).Denot) (s₁ s₂ : AtExit (ended_of 1 text_kinds.ps text_kinds.r) κs)
+    → text.Post κs a r₁ s₁ → text.Post κs a r₂ s₂ → (r₁.now ≡ r₂.now) × (r₁.ref_ptr.0 ≡ r₂.ref_ptr.0) × (r₁.ref_ptr.1 ≡ r₂.ref_ptr.1)
+text_determined κs a r₁ r₂ s₁ s₂ p q = (cc, cc, cc)
 
 pub rest_of_determined : Determined 1 rest_of_kinds.ps rest_of_kinds.r rest_of.Post
 rest_of_determined κs a r₁ r₂ s₁ s₂ p q = cc
