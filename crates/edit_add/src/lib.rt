@@ -52,6 +52,7 @@ fn open_within(lent: &mut [u8], count: usize, gaps: Gaps) -> Written
 pub fn open(lent: &mut [u8], n: usize, count: usize, gaps: Gaps) -> Written
     ensures { IsOpened (added_by_places gaps.section gaps.end) (opened_size gaps.section gaps.end gaps.blob gaps.own) (opened_at lent.old count gaps.section gaps.end gaps.blob gaps.own) n lent.old result lent.new }
 {
+    // A sum that stops at the largest number is past n, as the true one is.
     let inside = gaps.section.saturating_add(4);
     check_places(n, &[39, gaps.section, inside, gaps.end, n, lent.len()])?;
     open_within(lent, count, gaps)

@@ -41,6 +41,7 @@ fn change_within(lent: &mut [u8], n: usize, at: EditPlaces, comment: &[u8]) -> W
 pub fn change(lent: &mut [u8], n: usize, at: EditPlaces, comment: &[u8]) -> Written
     ensures { IsEdit (changed_by_places at.section at.field at.past at.end) (changed_at lent.old at.section at.field at.past at.end comment.now) n lent.old result lent.new }
 {
+    // A sum that stops at the largest number is past n, as the true one is.
     let inside = at.section.saturating_add(4);
     check_places(n, &[inside, at.field, at.past, at.end, n, lent.len()])?;
     change_within(lent, n, at, comment)

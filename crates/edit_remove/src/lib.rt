@@ -41,6 +41,7 @@ fn remove_within(lent: &mut [u8], n: usize, count: usize, at: EditPlaces) -> Wri
 pub fn remove(lent: &mut [u8], n: usize, count: usize, at: EditPlaces) -> Written
     ensures { IsEdit (removed_by_places at.blob at.after at.section at.pair at.past at.end) (removed_at lent.old count at.blob at.after at.section at.pair at.past at.end) n lent.old result lent.new }
 {
+    // A sum that stops at the largest number is past n, as the true one is.
     let inside = at.section.saturating_add(4);
     let places = [
         39,
