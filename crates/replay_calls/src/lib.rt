@@ -34,7 +34,7 @@ fn number(file: &mut impl Read) -> io::Result<u32> {
     Ok(number_at(&head, 0))
 }
 
-// A unit repeated over so many bytes at a place; answers the place after them.
+// A unit repeated over so many bytes at a place; answers the place after them. No crate here takes from the heap, so no Vec.
 fn repeated(
     file: &mut impl Read,
     buf: &mut [u8],
@@ -60,7 +60,7 @@ fn piece(file: &mut impl Read, buf: &mut [u8], at: usize) -> io::Result<usize> {
     repeated(file, buf, at, unit, length)
 }
 
-// A text; answers its length.
+// A text; answers its length, and no slice, since a row lends its buffer to the writers.
 fn text(file: &mut impl Read, buf: &mut [u8]) -> io::Result<usize> {
     let pieces = number(file)?;
     let mut at: usize = 0;

@@ -46,6 +46,7 @@ fn place(head: &[u8], i: u8) -> Part
 
 // ---- the record
 
+// A stored file has numbers only.
 fn kind_of(code: u32) -> Kind {
     match code {
         1 => Kind::Plain,

@@ -90,6 +90,7 @@ pub fn halves(upper: u32, lower: u32) -> usize
 }
 
 // The i-th text of a call, whose place and length stand in its head after four numbers.
+// Two slices and no Call: text_of_determined is stated of them.
 #[tactic(auto, unfolding(crate::specs::Telling::text_in))]
 pub fn text_of<'a>(head: &[u8], texts: &'a [u8], i: u8) -> &'a [u8]
     ensures { IsView result texts.entry (text_in head.now i) }
@@ -125,7 +126,7 @@ pub fn elliptic_of(n: u32) -> Elliptic
     }
 }
 
-// 1 is for the derived checkint, which is None.
+// 1 is for the derived checkint, which is None: a stored file has numbers only.
 #[tactic(auto, unfolding(crate::specs::Telling::checkint_of))]
 pub fn checkint_of(derive: u32, value: u32) -> Option<u32>
     ensures { result ≡ checkint_of derive value }
@@ -155,7 +156,7 @@ pub fn word(out: &mut impl Write, w: &[u8]) -> io::Result<()>
     out.write_all(w)
 }
 
-// A number after a space.
+// A number after a space. Not of any type that can be displayed: say_number_determined is stated of usize.
 pub fn say_number(out: &mut impl Write, n: usize) -> io::Result<()>
     ensures { IfOk result (λ done. done ≡ tt) }
 {
@@ -262,7 +263,8 @@ pub fn say_place(out: &mut impl Write, part: Part) -> io::Result<()>
     say_number(out, part.length)
 }
 
-// A reply: the refusal's number, count and place, or the length that was written.
+// A reply: the refusal's number, count and place, or the length that was written. Four numbers and no struct:
+// say_reply_determined is stated of them, and of a setting they are others.
 pub fn say_reply(
     out: &mut impl Write,
     number: u8,

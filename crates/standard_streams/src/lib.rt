@@ -29,7 +29,7 @@ pub fn read_full<R: Read>(from: &mut R, buf: &mut [u8]) -> usize
 }
 
 // How many bytes of an input were put at the start of `buf`: all of it, or as much as there is room for. None where
-// a read failed, which is told.
+// a read failed, which is told. A count and no slice of `buf`: the clause is on the count.
 pub fn take_input<R: Read, E: Write>(
     from: &mut R,
     err: &mut E,
@@ -107,6 +107,7 @@ pub fn tell_refused<E: Write>(err: &mut E, f: Fault) -> io::Result<()>
 }
 
 // What was written at the start of a buffer goes to standard output; a refusal is told, and so is a write that failed.
+// The length and the buffer are two, as the writers answer them: hand_out_determined is stated so.
 pub fn hand_out<O: Write, E: Write>(
     out: &mut O,
     err: &mut E,
