@@ -1,4 +1,5 @@
-// The table of the signs' values, which an import builds once.
+// The table of the signs' values, which an import builds once. Its type is apart from armour_export's `Alphabet`: each knows
+// another fact of a table of another length.
 
 ghost use Rattle.std.specs.Prelude.{◌≡◌};
 ghost use Rattle.armour_signs.specs.Alphabet.{value_of, values};

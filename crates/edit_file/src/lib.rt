@@ -1,5 +1,5 @@
 // The image that an edit is given: the first n bytes of a lent buffer, which have to be an accepted plain image in the
-// writer's form; and where its keys stand.
+// writer's form; and where its keys stand. Buffer and n are two parameters, as C hands them in: what is past n is written to.
 #![tactic(auto)]
 
 ghost use Rattle.std.specs.Prelude.{◌≡◌};

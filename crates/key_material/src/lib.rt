@@ -20,7 +20,8 @@ pub struct Material {
     pub private_length: usize,
 }
 
-// The xor of the private bytes' big-endian groups of four; a shorter rest is ignored.
+// The xor of the private bytes' big-endian groups of four; a shorter rest is ignored. Each turn goes on from the place that
+// reading a group answers.
 pub fn derived_checkint(private: &[u8]) -> u32
     ensures { result ≡ derived_checkint private.now }
 {

@@ -13,7 +13,8 @@ pub fn added(sum: usize, n: usize) -> usize
     sum.saturating_add(n).min(9223372036854775808)
 }
 
-// Is there room for so many bytes at a place of a buffer of that length?
+// Is there room for so many bytes at a place of a buffer of that length? Of a length, and not of a buffer as in `buffer`: its
+// promise is a definition that others cite.
 #[tactic(auto, using(crate::specs::Sizes::leb_left))]
 pub fn has_room(length: usize, at: usize, need: usize) -> bool
     ensures { result ≡ leb (at + need) length }
