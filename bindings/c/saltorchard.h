@@ -2,7 +2,7 @@
  * comments, adds keys and removes them in place, and takes images from and to the text form that key files have. Beside that it keeps
  * the settings by which machines reconnect.
  *
- * For x86-64 Linux. Link with libsaltorchard.a, which needs memcpy, memmove and memset of the C library and nothing else, or with the shared
+ * For x86-64 Linux. Link with libsaltorchard.a, which needs memcpy and memset of the C library and nothing else, or with the shared
  * library that bindings/install.sh makes of it, libsaltorchard.so.N. Header and archive go together: take both from the same
  * version. SALTORCHARD_INTERFACE is the number of what is declared here; it rises with each change of a struct or a function's
  * parameters (interface.txt has a line for each). The archive has a function with the number in its name, and whoever includes this

@@ -15,16 +15,17 @@ fn has_room(out: &[u8], at: usize, n: usize) -> bool
     at <= out.len() && n <= out.len() - at
 }
 
-#[tactic(auto, unfolding(crate::specs::Puts::next, crate::specs::Puts::placed, crate::specs::Puts::fits, crate::specs::Puts::splice))]
+// By a loop: the library's copy is a memmove, which nothing else here needs.
 pub fn put(out: &mut [u8], at: usize, bytes: &[u8]) -> usize
     ensures { IsPut out.old at bytes.now result out.new }
 {
     if !has_room(out, at, bytes.len()) {
         return at;
     }
-    let past = at + bytes.len();
-    out[at..past].copy_from_slice(bytes);
-    past
+    for i in 0..bytes.len() {
+        out[at + i] = bytes[i];
+    }
+    at + bytes.len()
 }
 
 // A number as a uint32: its four lowest bytes, the highest first.

@@ -29,16 +29,16 @@ fn kept(image: &[u8], part: Part) -> Part
 
 // Puts numbers into the table, as `buffer::put` does bytes. One put for both would be generic, and `IsPut`, by which
 // the contracts and theorems of puts are stated, is of lists of numbers, not of a type parameter.
-#[tactic(auto, unfolding(buffer::specs::Puts::next, buffer::specs::Puts::placed, buffer::specs::Puts::fits, buffer::specs::Puts::splice))]
 fn put_numbers(table: &mut [usize], at: usize, numbers: &[usize]) -> usize
     ensures { IsPut table.old at numbers.now result table.new }
 {
     if !writer_parts::has_room(table.len(), at, numbers.len()) {
         return at;
     }
-    let past = at + numbers.len();
-    table[at..past].copy_from_slice(numbers);
-    past
+    for i in 0..numbers.len() {
+        table[at + i] = numbers[i];
+    }
+    at + numbers.len()
 }
 
 // Puts the 19 numbers of a key.
