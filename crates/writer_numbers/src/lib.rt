@@ -6,7 +6,7 @@ ghost use Rattle.fields.specs.Bytes.{string};
 ghost use Rattle.names.specs.declared.Algorithm.TheVariants.{Rsa};
 ghost use Rattle.names.specs.Algorithms.{algorithm_name};
 ghost use Rattle.mpint.specs.Mpint.{at_most, modulus_size};
-ghost use Rattle.format.specs.Format.{blob, written_pair};
+ghost use Rattle.format.specs.Format.{of_modulus, blob, written_pair};
 ghost use Rattle.buffer.specs.Puts.{IsPut};
 ghost use Rattle.buffer.specs.Runs.{IsRun};
 ghost use Rattle.writer_parts.specs.Checks.{all_mpints, sizes_fit, key_checked, passed};
@@ -44,6 +44,34 @@ fn put_algorithm(out: &mut [u8], at: usize) -> usize
     ensures { IsPut out.old at (string (algorithm_name Rsa)) result out.new }
 {
     buffer::put(out, at, b"\0\0\0\x07ssh-rsa")
+}
+
+// A public key: the name, e and n.
+fn put_key(out: &mut [u8], at: usize, n: &[u8], e: &[u8]) -> usize
+    ensures { IsRun out.old at (blob Rsa (of_modulus n.now e.now)) result out.new }
+{
+    let a = put_algorithm(out, at);
+    let b = buffer::put_string(out, a, e);
+    buffer::put_string(out, b, n)
+}
+
+// The length of a public blob. It and `put_blob` are of n and e: who has a public key alone has no other numbers.
+pub fn blob_length(n: &[u8], e: &[u8]) -> usize
+    ensures { result ≡ capped (length (blob Rsa (of_modulus n.now e.now))) }
+{
+    added(added(19, e.len()), n.len())
+}
+
+// A public blob, as a string. `writer_curve::put_blob` says why it is another.
+pub fn put_blob(out: &mut [u8], at: usize, n: &[u8], e: &[u8]) -> usize
+    ensures { IsPut out.old at (string (blob Rsa (of_modulus n.now e.now))) result out.new }
+{
+    let size = blob_length(n, e);
+    if !has_room(out.len(), at, added(4, size)) {
+        return at;
+    }
+    let a = buffer::put_uint32(out, at, size);
+    put_key(out, a, n, e)
 }
 
 impl<'a> Numbers<'a> {
@@ -87,34 +115,6 @@ impl<'a> Numbers<'a> {
             return writer_reply::refused(Refusal::Length);
         }
         Ok(0)
-    }
-
-    // The length of a public blob.
-    pub fn blob_length(&self) -> usize
-        ensures { result ≡ capped (length (blob Rsa (public_numbers self.now))) }
-    {
-        added(added(19, self.e.len()), self.n.len())
-    }
-
-    // A public key: the name, e and n.
-    fn put_key(&self, out: &mut [u8], at: usize) -> usize
-        ensures { IsRun out.old at (blob Rsa (public_numbers self.now)) result out.new }
-    {
-        let a = put_algorithm(out, at);
-        let b = buffer::put_string(out, a, self.e);
-        buffer::put_string(out, b, self.n)
-    }
-
-    // A public blob, as a string. `writer_curve::put_blob` says why it is another.
-    pub fn put_blob(&self, out: &mut [u8], at: usize) -> usize
-        ensures { IsPut out.old at (string (blob Rsa (public_numbers self.now))) result out.new }
-    {
-        let size = self.blob_length();
-        if !has_room(out.len(), at, added(4, size)) {
-            return at;
-        }
-        let a = buffer::put_uint32(out, at, size);
-        self.put_key(out, a)
     }
 
     // The length of a keypair.

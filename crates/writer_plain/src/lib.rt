@@ -34,9 +34,11 @@ pub enum KeyParts<'a> {
     Rsa(Numbers<'a>),
 }
 
+// All inlined: who knows the kind of key then calls its functions, and looks up no part that they don't use.
 impl<'a> KeyParts<'a> {
     // What a writer refuses of a key, or the length 0. A record's scalar is filled with zeros in front. `filling` is a
     // bool, as in `scalar_taken`.
+    #[inline(always)]
     pub fn check(&self, filling: bool) -> Written
         ensures { result ≡ key_checked (lent_algorithm self.now) (lent_public self.now) (lent_taken filling self.now) passed }
     {
@@ -51,6 +53,7 @@ impl<'a> KeyParts<'a> {
     }
 
     // The length of its public blob.
+    #[inline(always)]
     pub fn blob_length(&self) -> usize
         ensures { result ≡ capped (length (blob (lent_algorithm self.now) (lent_public self.now))) }
     {
@@ -60,11 +63,12 @@ impl<'a> KeyParts<'a> {
                 point,
                 ..
             } => writer_curve::blob_length(*algorithm, point),
-            KeyParts::Rsa(numbers) => numbers.blob_length(),
+            KeyParts::Rsa(numbers) => writer_numbers::blob_length(numbers.n, numbers.e),
         }
     }
 
     // Its public blob, as a string.
+    #[inline(always)]
     pub fn put_blob(&self, out: &mut [u8], at: usize) -> usize
         ensures { IsPut out.old at (string (blob (lent_algorithm self.now) (lent_public self.now))) result out.new }
     {
@@ -74,11 +78,12 @@ impl<'a> KeyParts<'a> {
                 point,
                 ..
             } => writer_curve::put_blob(out, at, *algorithm, point),
-            KeyParts::Rsa(numbers) => numbers.put_blob(out, at),
+            KeyParts::Rsa(numbers) => writer_numbers::put_blob(out, at, numbers.n, numbers.e),
         }
     }
 
     // The length of its keypair.
+    #[inline(always)]
     pub fn pair_length(&self) -> usize
         ensures { result ≡ capped (length (written_pair (lent_algorithm self.now) (lent_public self.now) (lent_private self.now))) }
     {
@@ -93,6 +98,7 @@ impl<'a> KeyParts<'a> {
     }
 
     // Its keypair.
+    #[inline(always)]
     pub fn put_pair(&self, out: &mut [u8], at: usize) -> usize
         ensures { IsPut out.old at (written_pair (lent_algorithm self.now) (lent_public self.now) (lent_private self.now)) result out.new }
     {

@@ -20,7 +20,8 @@ use writer_plain::KeyParts;
 use writer_reply::Written;
 use writer_table::{algorithm_at, part_at};
 
-// The parts of the key whose numbers begin at j.
+// The parts of the key whose numbers begin at j. Inlined, so that each of those who ask looks up only the parts that it uses.
+#[inline(always)]
 fn parts_at<'a>(text: &'a [u8], table: &[usize], j: usize) -> KeyParts<'a>
     ensures algorithm { lent_algorithm result ≡ (key_at text.now table.now j).algorithm }
     ensures public { lent_public result ≡ (key_at text.now table.now j).public }
