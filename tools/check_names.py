@@ -1,7 +1,7 @@
 """Holds what the documents name to the tree: each path, script, switch, function, theorem, definition and type that stands in
 backquotes is there, and so is the heading that a link points at. A name is there if it is a word of a source, and of antt outside its
 comments, where names that are gone may be spoken of. Names of one small word, as `value`, say too little to be looked for. The change
-pages, docs/DESIGN-PASS.md, docs/PORT.md and CHANGELOG.md speak of names as they were: there only headings are looked for.
+pages, docs/DESIGN-PASS.md, docs/LOOK-BACK.md, docs/PORT.md and CHANGELOG.md speak of names as they were: there only headings are looked for.
 check_texts.py runs it."""
 import fnmatch
 import os
@@ -12,7 +12,7 @@ import tree as project
 CODE = (".rt", ".rs", ".py", ".c", ".h", ".sh", ".awk")
 SUFFIXES = (*CODE, ".md", ".txt", ".antt", ".edit", ".toml")
 SCRIPTS = ("inspect", "keys", "armour", "dearmour", ".ci/run")
-FORMER = ("docs/changes/", "docs/DESIGN-PASS.md", "docs/PORT.md", "CHANGELOG.md")
+FORMER = ("docs/changes/", "docs/DESIGN-PASS.md", "docs/LOOK-BACK.md", "docs/PORT.md", "CHANGELOG.md")
 RT = "all check ci doc expand fmt help lemma lib must-fail names new plant run seed selftest test tidy try verdict version".split()
 # Which of them take names of crates.
 OF_CRATES = "ci must-fail".split()

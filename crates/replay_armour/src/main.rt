@@ -79,12 +79,21 @@ fn one(
     Ok(true)
 }
 
+// A proved loop has to end, so it counts its turns.
+fn all(out: &mut impl Write, file: &mut impl Read) -> io::Result<()> {
+    let mut given = [0u8; 90000];
+    let mut lent = [0u8; 90000];
+    for _ in 0..u64::MAX {
+        if !one(out, file, &mut given, &mut lent)? {
+            break;
+        }
+    }
+    Ok(())
+}
+
 fn main(rt: HostRuntime) -> io::Result<()> {
     let Some(mut file) = replay_telling::open(&rt, "calls")? else {
         return Ok(());
     };
-    let mut out = rt.stdout();
-    let mut given = [0u8; 90000];
-    let mut lent = [0u8; 90000];
-    replay_telling::each(|| one(&mut out, &mut file, &mut given, &mut lent))
+    all(&mut rt.stdout(), &mut file)
 }

@@ -194,11 +194,21 @@ fn row(out: &mut impl Write, file: &mut impl Read) -> io::Result<bool> {
     Ok(true)
 }
 
+// A proved loop has to end, so it counts its turns.
+fn all(out: &mut impl Write, file: &mut impl Read) -> io::Result<()> {
+    for _ in 0..u64::MAX {
+        if !row(out, file)? {
+            break;
+        }
+    }
+    Ok(())
+}
+
 pub fn replay_calls<R: Files + Print + Eprint>(rt: &R) -> io::Result<()>
     ensures { IfOk result (λ done. done ≡ tt) }
 {
     match replay_telling::open(rt, "calls")? {
-        Some(mut file) => replay_telling::each(|| row(&mut io::writer(rt), &mut file)),
+        Some(mut file) => all(&mut io::writer(rt), &mut file),
         None => Ok(()),
     }
 }

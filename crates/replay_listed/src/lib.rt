@@ -139,10 +139,16 @@ fn one(
     Ok(true)
 }
 
+// A proved loop has to end, so it counts its turns.
 fn all(out: &mut impl Write, file: &mut impl Read) -> io::Result<()> {
     let mut texts = [0u8; 70000];
     let mut lent = [0u8; 66000];
-    replay_telling::each(|| one(out, file, &mut texts, &mut lent))
+    for _ in 0..u64::MAX {
+        if !one(out, file, &mut texts, &mut lent)? {
+            break;
+        }
+    }
+    Ok(())
 }
 
 pub fn replay_lists<R: Files + Print + Eprint>(rt: &R) -> io::Result<()>

@@ -3,7 +3,7 @@
 // stream's own, and leaves there what was said before it.
 #![tactic(auto)]
 
-ghost use Rattle.std.specs.Prelude.{◌≡◌, ◌≤◌, ◌+◌, ◌*◌, ◌%◌, length, Err, IfErr, IfOk};
+ghost use Rattle.std.specs.Prelude.{◌≡◌, ◌≤◌, ◌+◌, ◌*◌, ◌%◌, length, IfOk};
 ghost use Rattle.fields.specs.Fields.{IsView};
 ghost use Rattle.replay_telling.specs.Telling.{number_in, text_in, algorithm_of, elliptic_of, checkint_of, cipher_of, kdf_of, entry_of, next_rest, rest_of};
 
@@ -55,20 +55,6 @@ pub fn next_bytes<'a>(file: &mut impl Read, room: &'a mut [u8], n: usize) -> io:
     };
     let read = read_full(file, wanted)?;
     Ok(&wanted[..read])
-}
-
-// Replays one after another, as long as there is one. A proved loop has to end, so it counts its turns.
-pub fn each<F: FnMut() -> io::Result<bool>>(mut replay_one: F) -> io::Result<()>
-    requires { F.IsAlwaysCallable replay_one }
-    ensures ok { IfOk result (λ done. done ≡ tt) }
-    ensures err { IfErr result (λ why. (f : F) × (g : F) × F.step f (Err why) g) }
-{
-    for _ in 0..u64::MAX {
-        if !replay_one()? {
-            break;
-        }
-    }
-    Ok(())
 }
 
 // ---- numbers that were read
